@@ -1,0 +1,1 @@
+// The contraction as a public call: definitions in specs/.

@@ -1,0 +1,1 @@
+// Graphs, cuts and contractions: definitions in specs/, laws in proofs/. No code.

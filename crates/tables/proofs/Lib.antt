@@ -1,0 +1,2 @@
+pub mod OpenSetLaws
+pub mod RefusalLaws

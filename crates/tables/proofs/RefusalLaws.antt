@@ -1,0 +1,95 @@
+-- Laws of refusals: where a list of faults refuses nothing no test holds, and the other way round; and what the first number that passes a test says of those before it.
+-- Assumes nothing.
+use Prim.Native.Nat.{_+_, _<_, _≤_, suc, zero, ℕ}
+use mathlib.Core.Bool.{Bool, cond, false, true}
+use mathlib.Core.List.{List, [], _++_, _∷_}
+use mathlib.Core.Path.{_∙_, _≡_, ap, refl}
+use lib.Dec.{eqb, ltb}
+use native.Mathlib.Omega.{arith}
+use borrow.Author.Tests.{eqb-false, eqb-true, ltb-false}
+use Rattle.graph.proofs.Booleans.{onBool}
+use Rattle.tables.specs.Refusal.{Row, firstFault, seek}
+
+-- ---- faults
+-- no test holds
+abbrev pub Silent : List Row → Type 0
+Silent [] = Unit {0}
+Silent (r ∷ rs) = (r .test ≡ false) × Silent rs
+
+-- a row that holds has a number that is not 0
+abbrev pub Numbered : List Row → Type 0
+Numbered [] = Unit {0}
+Numbered (r ∷ rs) = (r .test ≡ true → 0 < r .code) × Numbered rs
+
+pub fault-silent : (rs : List Row) → Numbered rs → firstFault rs .0 ≡ 0 → Silent rs
+fault-silent [] n h = tt
+fault-silent (r ∷ rs) n h = go (r .test) refl h (fault-silent rs (n .1))
+  where
+    go : (b : Bool) → r .test ≡ b → (cond b (r .code, r .place) (firstFault rs)) .0 ≡ 0 → (firstFault rs .0 ≡ 0 → Silent rs) → (r .test ≡ false) × Silent rs
+    go true e h f = absurd (omega (arith, n .0 e))
+    go false e h f = (e, f h)
+
+pub silent-fault : (rs : List Row) → Silent rs → firstFault rs ≡ (0, 0)
+silent-fault [] s = refl
+silent-fault (r ∷ rs) s = ap (λ (b : Bool). cond b (r .code, r .place) (firstFault rs)) (s .0) ∙ silent-fault rs (s .1)
+
+pub silent-left : (rs bs : List Row) → Silent (rs ++ bs) → Silent rs
+silent-left [] bs s = tt
+silent-left (r ∷ rs) bs s = (s .0, silent-left rs bs (s .1))
+
+pub silent-right : (rs bs : List Row) → Silent (rs ++ bs) → Silent bs
+silent-right [] bs s = s
+silent-right (r ∷ rs) bs s = silent-right rs bs (s .1)
+
+pub silent-append : (rs bs : List Row) → Silent rs → Silent bs → Silent (rs ++ bs)
+silent-append [] bs s t = t
+silent-append (r ∷ rs) bs s t = (s .0, silent-append rs bs (s .1) t)
+
+pub numbered-append : (rs bs : List Row) → Numbered rs → Numbered bs → Numbered (rs ++ bs)
+numbered-append [] bs s t = t
+numbered-append (r ∷ rs) bs s t = (s .0, numbered-append rs bs (s .1) t)
+
+-- ---- the first that passes
+pub seek-most : (f : ℕ → Bool) (i k : ℕ) → seek f i k ≤ i + k
+seek-most f i zero = omega arith
+seek-most f i (suc k) = go (f i) (seek-most f (i + 1) k)
+  where
+    go : (b : Bool) → seek f (i + 1) k ≤ i + 1 + k → cond b i (seek f (i + 1) k) ≤ i + suc k
+    go true h = omega arith
+    go false h = omega arith
+
+-- what is found passes
+pub seek-found : (f : ℕ → Bool) (i k : ℕ) → seek f i k < i + k → f (seek f i k) ≡ true
+seek-found f i zero l = absurd (omega arith)
+seek-found f i (suc k) l = go (f i) refl l (λ h. seek-found f (i + 1) k h)
+  where
+    go : (b : Bool) → f i ≡ b → cond b i (seek f (i + 1) k) < i + suc k → (seek f (i + 1) k < i + 1 + k → f (seek f (i + 1) k) ≡ true) → f (cond b i (seek f (i + 1) k)) ≡ true
+    go true e l h = e
+    go false e l h = h (omega arith)
+
+-- none before it does
+pub seek-before : (f : ℕ → Bool) (i k j : ℕ) → i ≤ j → j < seek f i k → f j ≡ false
+seek-before f i zero j a b = absurd (omega arith)
+seek-before f i (suc k) j a b = go (f i) refl b (seek-before f (i + 1) k j)
+  where
+    go : (t : Bool) → f i ≡ t → j < cond t i (seek f (i + 1) k) → (i + 1 ≤ j → j < seek f (i + 1) k → f j ≡ false) → f j ≡ false
+    go true e l h = absurd (omega arith)
+    go false e l h = onBool (eqb j i) (λ q. ap f (eqb-true j i q) ∙ e) λ q. let n : ¬ (j ≡ i) = eqb-false j i q in h (omega arith) l
+
+-- where none is found none passes
+pub seek-none : (f : ℕ → Bool) (k j : ℕ) → ltb (seek f 0 k) k ≡ false → j < k → f j ≡ false
+seek-none f k j h l = seek-before f 0 k j (omega arith) (omega (arith, ltb-false (seek f 0 k) k h))
+
+-- the number that a code finds: i where i passes and none before it does
+pub seek-at : (f : ℕ → Bool) (i k j : ℕ) → i ≤ j → j < i + k → f j ≡ true → ((u : ℕ) → i ≤ u → u < j → f u ≡ false) → seek f i k ≡ j
+seek-at f i zero j a b t n = absurd (omega arith)
+seek-at f i (suc k) j a b t n = onBool (eqb i j)
+    (λ q. let e = eqb-true i j q in ap (λ (c : Bool). cond c i (seek f (i + 1) k)) (ap f e ∙ t) ∙ e)
+    (λ q.
+    let ne : ¬ (i ≡ j) = eqb-false i j q in
+    ap (λ (c : Bool). cond c i (seek f (i + 1) k)) (n i (omega arith) (omega arith)) ∙ seek-at f (i + 1) k j (omega arith) (omega arith) t (λ u p l. n u (omega arith) l))
+
+-- and the end where none passes
+pub seek-end : (f : ℕ → Bool) (i k : ℕ) → ((u : ℕ) → i ≤ u → u < i + k → f u ≡ false) → seek f i k ≡ i + k
+seek-end f i zero n = omega arith
+seek-end f i (suc k) n = ap (λ (c : Bool). cond c i (seek f (i + 1) k)) (n i (omega arith) (omega arith)) ∙ seek-end f (i + 1) k (λ u p l. n u (omega arith) (omega arith)) ∙ omega arith

@@ -1,0 +1,13 @@
+use Rattle.tables.proofs.OpenSetLaws.{one-bit, off-digit}
+use borrow.Author.Needs.{needs}
+use Rattle.tables.proofs.openset.without_bit.Statement.{statement}
+use Rattle.tables.proofs.openset.without_bit.Tie as tie
+
+shl-bit : tie.Need-shl-bit
+shl-bit c = search needs
+
+returns : tie.Need-returns
+returns c = rw (one-bit (c .args .b) (c .pre)) (off-digit (c .args .b) (c .args .w) (c .pre))
+
+pub without-bit-spec : {M : Type 1} → statement M
+without-bit-spec = tie.close (tie.spec shl-bit returns)

@@ -1,0 +1,4 @@
+pub mod Refusal
+pub mod Sizes
+pub mod OpenSet
+pub mod Reader

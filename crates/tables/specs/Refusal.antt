@@ -1,0 +1,27 @@
+-- Refusals: a call is refused by the first fault that holds of a list of faults, in the order of document 01's table, each with its number and its place.
+-- Each call lists its own faults. Assumes nothing: these are definitions.
+use Prim.Native.Nat.{_+_, suc, zero, ℕ}
+use mathlib.Core.Bool.{Bool, cond}
+use mathlib.Core.List.{List, [], _∷_}
+
+-- a test, and the number and the place that are returned where it holds
+pub record Row : Type 0 where
+  pub test : Bool
+  pub code : ℕ
+  pub place : ℕ
+
+abbrev pub row : Bool → ℕ → ℕ → Row
+row t c p = record { test = t; code = c; place = p }
+
+-- the number and the place of a refusal; (0, 0) where nothing is refused
+abbrev pub Refusal : Type 0
+Refusal = ℕ × ℕ
+
+abbrev pub firstFault : List Row → Refusal
+firstFault [] = (0, 0)
+firstFault (r ∷ rs) = cond (r .test) (r .code, r .place) (firstFault rs)
+
+-- the first number from i on, of k, that passes; i + k where none does
+abbrev pub seek : (ℕ → Bool) → ℕ → ℕ → ℕ
+seek f i zero = i
+seek f i (suc k) = cond (f i) i (seek f (i + 1) k)

@@ -1,0 +1,6 @@
+pub mod Events
+pub mod Windows
+pub mod Replay
+pub mod Steps
+pub mod DemandTwo
+pub mod DemandThree
