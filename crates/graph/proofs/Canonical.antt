@@ -1,6 +1,6 @@
 -- The one small graph: where the classes without an active node are numbered by their smallest node, ascending, two small graphs have the same edges.
 -- Assumes nothing.
-use Prim.Native.Nat.{_<_, _≤_, suc, zero, ℕ}
+use Prim.Native.Nat.{_<_, suc, zero, ℕ}
 use mathlib.Core.List.{List, List·Memᴰ, List·Memᴰ·head, List·Memᴰ·tail, [], _∷_, map}
 use mathlib.Core.Path.{_∙_, _≡_, ap, subst, sym}
 use lib.Dec.{eqb, ltb}
@@ -15,15 +15,7 @@ use Rattle.graph.specs.Cut.{TwoEdgeConnected}
 use Rattle.graph.specs.Graph.{Edge}
 use Rattle.graph.specs.Lists.{any}
 use Rattle.graph.specs.Route.{back}
-
--- no active node has the number i
-abbrev pub Idle : List ℕ → (ℕ → ℕ) → ℕ → Type 0
-Idle S σ i = (a : ℕ) → List·Memᴰ a S → ¬ (σ a ≡ i)
-
--- the idle ones are named by their smallest nodes, in ascending order
-pub record Canonical (E : List Edge) (S : List ℕ) (h : ℕ) (ρ σ : ℕ → ℕ) : Type 0 where
-  pub least : (i z : ℕ) → i < h → Idle S σ i → TwoEdgeConnected E z (ρ i) → ρ i ≤ z
-  pub rises : (i j : ℕ) → i < j → j < h → Idle S σ i → Idle S σ j → ρ i < ρ j
+use Rattle.graph.specs.SmallGraph.{Canonical, Idle}
 
 module _ (E : List Edge) (S : List ℕ) (h : ℕ) (H : List Edge) (ρ σ : ℕ → ℕ) (g : SmallGraph E S h H ρ σ) (c : Canonical E S h ρ σ) (H′ : List Edge) (ρ′ σ′ : ℕ → ℕ) (g′ : SmallGraph E S h H′ ρ′ σ′) (c′ : Canonical E S h ρ′ σ′) where
   -- an idle number has the same node under some idle number of the other

@@ -8,7 +8,6 @@ use mathlib.Core.Path.{_∙_, _≡_, ap, refl, subst, sym}
 use lib.Dec.{ltb}
 use lib.ListN.{length}
 use native.Mathlib.Omega.{arith}
-use Rattle.graph.proofs.Canonical.{Canonical, Idle}
 use Rattle.graph.proofs.ContractionIsSmall.{contract-small, kept-low, nth}
 use Rattle.graph.proofs.Definitions.{kept-from, twoEdge-to}
 use Rattle.graph.proofs.Kept.{Kept, kept-class}
@@ -20,7 +19,7 @@ use Rattle.graph.specs.Contraction.{kept, keptClasses, linked, links}
 use Rattle.graph.specs.Cut.{TwoEdgeConnected}
 use Rattle.graph.specs.Graph.{Edge, twoEdge}
 use Rattle.graph.specs.Lists.{filter, position, range}
-use Rattle.graph.specs.SmallGraph.{endsIn}
+use Rattle.graph.specs.SmallGraph.{Canonical, Idle, endsIn}
 
 -- x is of S, or less than y
 abbrev Fore : List ℕ → ℕ → ℕ → Type 0

@@ -12,7 +12,7 @@ use lib.ListN.{length}
 use native.Mathlib.Omega.{arith}
 use borrow.Author.Tests.{eq-eqb, eqb-false, eqb-true}
 use Rattle.graph.proofs.Booleans.{and-elim, contradict, onBool, or-elim}
-use Rattle.graph.specs.Lists.{all, any, filter, firsts, member, position, range}
+use Rattle.graph.specs.Lists.{all, any, filter, firsts, member, position, range, table}
 
 pub any-find : (f : ℕ → Bool) (xs : List ℕ) → any f xs ≡ true → (a : ℕ) × List·Memᴰ a xs × (f a ≡ true)
 any-find f [] h = contradict h refl
@@ -246,10 +246,6 @@ position-nth f i c (x ∷ xs) m p = go (f x) refl m (λ n. position-nth f (suc i
         (s, there (subst (λ (v : ℕ). Nth s (suc i) xs v) z n), h)
 
 -- ---- the nodes as a list
-abbrev pub table : (ℕ → ℕ) → ℕ → ℕ → List ℕ
-table ρ i zero = []
-table ρ i (suc n) = ρ i ∷ table ρ (suc i) n
-
 pub table-length : (ρ : ℕ → ℕ) (i n : ℕ) → length (table ρ i n) ≡ n
 table-length ρ i zero = refl
 table-length ρ i (suc n) = ap suc (table-length ρ (suc i) n)

@@ -13,12 +13,12 @@ use Rattle.graph.proofs.Booleans.{and-elim, contradict, onBool, or-elim
 use Rattle.graph.proofs.Bound.{Apart, apart-filter, kept-bound, limit, limit-is}
 use Rattle.graph.proofs.CutOffs.{cutOff, cutOff-complete, cutOff-sound, onTwoEdge}
 use Rattle.graph.proofs.Kept.{Kept}
-use Rattle.graph.proofs.Lists.{All, filter-all, filter-in, filter-length, firsts-cover, table, table-all, table-in, table-length, table-mem, there}
+use Rattle.graph.proofs.Lists.{All, filter-all, filter-in, filter-length, firsts-cover, table-all, table-in, table-length, table-mem, there}
 use Rattle.graph.proofs.Separation.{insep-sym, insep-trans, same-side, twoEdge-connected}
 use Rattle.graph.proofs.SmallGraphs.{SmallGraph, lessAll-in}
 use Rattle.graph.specs.Cut.{Between, Separated, TwoEdgeConnected}
 use Rattle.graph.specs.Graph.{Edge}
-use Rattle.graph.specs.Lists.{filter, firsts}
+use Rattle.graph.specs.Lists.{filter, firsts, table}
 use Rattle.graph.specs.SmallGraph.{Ascends, EdgeLess, different, inOrder, mostNodes}
 
 kept-sub : (E : List Edge) (S T : List ℕ) (z : ℕ) → ((a : ℕ) → List·Memᴰ a S → List·Memᴰ a T) → Kept E S z → Kept E T z

@@ -1,4 +1,4 @@
--- Words on lists that the definitions use: filter, any, all, member, range, position, firsts, sum, pairs, over. Their laws stand in proofs/Lists.
+-- Words on lists that the definitions use: filter, any, all, member, range, table, position, firsts, sum, pairs, over. Their laws stand in proofs/Lists.
 -- Assumes nothing: these are definitions.
 use Prim.Native.Nat.{_+_, suc, zero, ℕ}
 use mathlib.Core.Bool.{Bool, _&&_, _||_, cond, false, not, true}
@@ -30,6 +30,11 @@ member (x ∷ xs) a = eqb a x || member xs a
 abbrev pub range : ℕ → ℕ → List ℕ
 range i zero = []
 range i (suc n) = i ∷ range (suc i) n
+
+-- the values f i, f (i + 1) and so on, n of them
+abbrev pub table : {A : Type 0} → (ℕ → A) → ℕ → ℕ → List A
+table f i zero = []
+table f i (suc n) = f i ∷ table f (suc i) n
 
 -- the index of the first entry that passes
 abbrev pub position : (ℕ → Bool) → List ℕ → ℕ

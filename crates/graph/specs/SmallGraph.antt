@@ -66,6 +66,15 @@ pub record IsSmallGraph (E : List Edge) (S : List ℕ) (h : ℕ) (H : List Edge)
   pub edge : (i j : ℕ) → List·Memᴰ (i, j) H → (i < j) × (j < h) × (linked E S (ρ i) (ρ j) ≡ true)
   pub edge-all : (i j : ℕ) → i < j → j < h → linked E S (ρ i) (ρ j) ≡ true → List·Memᴰ (i, j) H
 
+-- no active node has the number i
+abbrev pub Idle : List ℕ → (ℕ → ℕ) → ℕ → Type 0
+Idle S σ i = (a : ℕ) → List·Memᴰ a S → ¬ (σ a ≡ i)
+
+-- Document 01's numbering of the other classes: each by its smallest node, ascending. With IsSmallGraph it determines the graph.
+pub record Canonical (E : List Edge) (S : List ℕ) (h : ℕ) (ρ σ : ℕ → ℕ) : Type 0 where
+  pub least : (i z : ℕ) → i < h → Idle S σ i → TwoEdgeConnected E z (ρ i) → ρ i ≤ z
+  pub rises : (i j : ℕ) → i < j → j < h → Idle S σ i → Idle S σ j → ρ i < ρ j
+
 -- the answer of the two entries of an active list, read off a small graph with h nodes and the edges H: one node 2, two joined 1, two not joined 0
 abbrev pub noEdge : List Edge → Bool
 noEdge [] = true

@@ -1,7 +1,7 @@
-use borrow.Author.Needs.{needs}
-use borrow.Author.Tests.{le-leb, lt-leb}
 use mathlib.Core.Path.{sym}
 use lib.Seq.{length-take-le}
+use borrow.Author.Needs.{needs}
+use borrow.Author.Tests.{le-leb, lt-leb}
 use Rattle.tables.proofs.answers.Statement.{statement}
 use Rattle.tables.proofs.answers.Tie as tie
 

@@ -1,26 +1,19 @@
 use borrow.Author.Tests.{le-ltb, lt-ltb}
 use Rattle.tables.proofs.Sizes.check.Statement.{statement}
 use Rattle.tables.proofs.Sizes.check.Tie as tie
-use Rattle.tables.proofs.Sizes.check.Reads as reads
-use Rattle.tables.proofs.Sizes.check.Lts as lts
 
--- src/lib.rt:40:13
 returns : tie.Need-returns
 returns c = simp (lt-ltb _ _ (c .if1 .taken))
 
--- src/lib.rt:43:13
 returns-2 : tie.Need-returns-2
 returns-2 c = simp (le-ltb _ _ (c .before .if1 .left), lt-ltb _ _ (c .if2 .taken))
 
--- src/lib.rt:46:13
 returns-3 : tie.Need-returns-3
 returns-3 c = simp (le-ltb _ _ (c .before .before .if1 .left), le-ltb _ _ (c .before .if2 .left), lt-ltb _ _ (c .if3 .taken))
 
--- src/lib.rt:49:13
 returns-4 : tie.Need-returns-4
 returns-4 c = simp (le-ltb _ _ (c .before .before .before .if1 .left), le-ltb _ _ (c .before .before .if2 .left), le-ltb _ _ (c .before .if3 .left), lt-ltb _ _ (c .if4 .taken))
 
--- src/lib.rt:36:5
 returns-5 : tie.Need-returns-5
 returns-5 c = simp (le-ltb _ _ (c .before .before .before .if1 .left), le-ltb _ _ (c .before .before .if2 .left), le-ltb _ _ (c .before .if3 .left), le-ltb _ _ (c .if4 .left))
 

@@ -1,36 +1,26 @@
-use Rattle.tables.proofs.OpenSetLaws.{set-at-segment, set-past}
 use borrow.Author.Needs.{needs}
+use Rattle.tables.proofs.OpenSetLaws.{set-at-segment, set-past}
 use Rattle.tables.proofs.openset.closed.Statement.{statement}
 use Rattle.tables.proofs.openset.closed.Tie as tie
-use Rattle.tables.proofs.openset.closed.Reads as reads
-use Rattle.tables.proofs.openset.closed.Lts as lts
-use Rattle.tables.proofs.openset.without_bit.Reads as without-bit-reads
 
--- src/openset.rt:43:9
 returns : tie.Need-returns
 returns c = set-past _ _ 0 (c .before .good .0 .1 .0 .1) (c .if1 .taken)
 
--- src/openset.rt:47:27
 mul-without-bit : tie.Need-mul-without-bit
 mul-without-bit c = search needs
 
--- src/openset.rt:47:27
 array-read-without-bit : tie.Need-array-read-without-bit
 array-read-without-bit c = search needs
 
--- src/openset.rt:47:15
 without-bit-requires : tie.Need-without-bit-requires
 without-bit-requires c κs = search needs
 
--- src/openset.rt:47:5
 mul-next : tie.Need-mul-next
 mul-next c = search needs
 
--- src/openset.rt:47:5
 array-write-next : tie.Need-array-write-next
 array-write-next c = search needs
 
--- src/openset.rt:39:1
 returns-2 : tie.Need-returns-2
 returns-2 c = set-at-segment _ _ _ 0 (c .before .before .good .0 .1 .0 .1) (c .before .if1 .left) (c .without-bit .ensures)
 

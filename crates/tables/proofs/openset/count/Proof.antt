@@ -1,15 +1,15 @@
-use mathlib.Core.Path.{_≡_, refl, sym, ap, _∙_}
-use mathlib.Core.List.{[], _∷_}
-use Prim.Native.Nat.{ℕ, suc, _+_, _*_, _-_, _≤_, _<_}
+use Prim.Native.Nat.{_*_, _+_, _-_, _<_, _≤_, suc}
+use mathlib.Core.Path.{_≡_}
+use lib.Count.{ones, ones-le}
+use lib.ListN.{drop, getD, length}
+use lib.Seq.{drop-cons}
 use native.Mathlib.Numerals.{add-one}
 use native.Mathlib.Omega.{arith}
-use lib.ListN.{length, getD, drop}
-use lib.Seq.{drop-cons, drop-length}
-use lib.Count.{ones, ones-le}
-use Rattle.tables.specs.OpenSet.{bits}
 use Rattle.graph.specs.Lists.{sum}
-use Rattle.tables.proofs.OpenSetLaws.{sum-bits, none-left, word-fits}
+use Rattle.graph.specs.Route.{step}
+use Rattle.tables.proofs.OpenSetLaws.{none-left, sum-bits, word-fits}
 use Rattle.tables.proofs.openset.count.Statement.{statement}
+use Rattle.tables.specs.OpenSet.{bits}
 use Rattle.tables.proofs.openset.count.Tie as tie
 
 abbrev Inv-loop : tie.InvT-loop

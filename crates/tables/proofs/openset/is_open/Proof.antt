@@ -1,27 +1,20 @@
-use Rattle.tables.proofs.OpenSetLaws.{bit-open, bit-past}
 use borrow.Author.Needs.{needs}
+use Rattle.tables.proofs.OpenSetLaws.{bit-open, bit-past}
 use Rattle.tables.proofs.openset.is_open.Statement.{statement}
 use Rattle.tables.proofs.openset.is_open.Tie as tie
-use Rattle.tables.proofs.openset.is_open.Reads as reads
-use Rattle.tables.proofs.openset.is_open.Lts as lts
 
--- src/openset.rt:56:9
 returns : tie.Need-returns
 returns c = bit-past (c .before .args .t1) (c .before .args .s) (c .before .good .0 .1 .0 .1) (c .if1 .taken)
 
--- src/openset.rt:60:6
 mul-result : tie.Need-mul-result
 mul-result c = search needs
 
--- src/openset.rt:60:6
 array-read-result : tie.Need-array-read-result
 array-read-result c = search needs
 
--- src/openset.rt:60:6
 shr-result : tie.Need-shr-result
 shr-result c = search needs
 
--- src/openset.rt:52:1
 returns-2 : tie.Need-returns-2
 returns-2 c = bit-open (c .before .args .t1) (c .before .args .s) (c .before .good .0 .1 .0 .1) (c .if1 .left)
 

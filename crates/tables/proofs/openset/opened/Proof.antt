@@ -1,36 +1,26 @@
-use Rattle.tables.proofs.OpenSetLaws.{set-at-segment, set-past}
 use borrow.Author.Needs.{needs}
+use Rattle.tables.proofs.OpenSetLaws.{set-at-segment, set-past}
 use Rattle.tables.proofs.openset.opened.Statement.{statement}
 use Rattle.tables.proofs.openset.opened.Tie as tie
-use Rattle.tables.proofs.openset.opened.Reads as reads
-use Rattle.tables.proofs.openset.opened.Lts as lts
-use Rattle.tables.proofs.openset.with_bit.Reads as with-bit-reads
 
--- src/openset.rt:30:9
 returns : tie.Need-returns
 returns c = set-past _ _ 1 (c .before .good .0 .1 .0 .1) (c .if1 .taken)
 
--- src/openset.rt:34:24
 mul-with-bit : tie.Need-mul-with-bit
 mul-with-bit c = search needs
 
--- src/openset.rt:34:24
 array-read-with-bit : tie.Need-array-read-with-bit
 array-read-with-bit c = search needs
 
--- src/openset.rt:34:15
 with-bit-requires : tie.Need-with-bit-requires
 with-bit-requires c κs = search needs
 
--- src/openset.rt:34:5
 mul-next : tie.Need-mul-next
 mul-next c = search needs
 
--- src/openset.rt:34:5
 array-write-next : tie.Need-array-write-next
 array-write-next c = search needs
 
--- src/openset.rt:26:1
 returns-2 : tie.Need-returns-2
 returns-2 c = set-at-segment _ _ _ 1 (c .before .before .good .0 .1 .0 .1) (c .before .if1 .left) (c .with-bit .ensures)
 

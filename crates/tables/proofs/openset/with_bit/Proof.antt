@@ -1,6 +1,5 @@
-use mathlib.Core.Path.{ap}
-use Rattle.tables.proofs.OpenSetLaws.{one-bit, or-digit}
 use borrow.Author.Needs.{needs}
+use Rattle.tables.proofs.OpenSetLaws.{one-bit, or-digit}
 use Rattle.tables.proofs.openset.with_bit.Statement.{statement}
 use Rattle.tables.proofs.openset.with_bit.Tie as tie
 

@@ -1,5 +1,5 @@
-use Rattle.tables.proofs.OpenSetLaws.{one-bit, off-digit}
 use borrow.Author.Needs.{needs}
+use Rattle.tables.proofs.OpenSetLaws.{off-digit, one-bit}
 use Rattle.tables.proofs.openset.without_bit.Statement.{statement}
 use Rattle.tables.proofs.openset.without_bit.Tie as tie
 
