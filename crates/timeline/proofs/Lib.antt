@@ -5,3 +5,5 @@ pub mod Acceptance
 pub mod DemandThree
 pub mod Steps
 pub mod Leaves
+pub mod Cases
+pub mod Example
