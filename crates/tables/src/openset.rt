@@ -30,8 +30,8 @@ pub fn opened(held: [u64; 128], s: usize) -> [u64; 128]
         return held;
     }
     let mut next = held;
-    let i = s / 64;
-    next[i] = with_bit(next[i], s % 64);
+    let word = s / 64;
+    next[word] = with_bit(next[word], s % 64);
     next
 }
 
@@ -43,8 +43,8 @@ pub fn closed(held: [u64; 128], s: usize) -> [u64; 128]
         return held;
     }
     let mut next = held;
-    let i = s / 64;
-    next[i] = without_bit(next[i], s % 64);
+    let place = s / 64;
+    next[place] = without_bit(next[place], s % 64);
     next
 }
 

@@ -1,14 +1,14 @@
 -- One theorem over the table of the cases that document 01 marks P: every row holds, by computing both sides.
 -- Assumes nothing.
 use mathlib.Core.Path.{refl}
-use Rattle.graph.specs.Graph.{answer, joined, removals, rep, twoEdge}
 use Rattle.graph.specs.Contraction.{contract, kept, keptClasses, linked, number, parts, third, without}
+use Rattle.graph.specs.Graph.{answer, joined, removals, rep, twoEdge}
+use Rattle.timeline.specs.Cases.{AllHold, table}
 use Rattle.timeline.specs.Events.{activeOf, networkOf}
 use Rattle.timeline.specs.Windows as W
 use Rattle.timeline.specs.Replay as R
 use Rattle.timeline.specs.Program as P
 use Rattle.contraction.specs.Call as C
-use Rattle.timeline.specs.Cases.{AllHold, table}
 
 pub cases : AllHold table
 unfolding rep joined removals twoEdge answer without parts kept third linked keptClasses number contract activeOf networkOf W.openBefore W.windowsFrom W.windows W.during W.network W.active W.small W.stands W.kept R.byte R.bytes R.queries R.openAtEnd R.given R.eventFault R.faultAt R.listFaults R.faults R.fault R.done R.refused R.replay P.inputFaults P.inputFault P.inputLent P.spell P.decimal P.queryLine P.queryLines P.totalsLine P.refusedLine P.printed P.output C.edges C.entries C.faults C.fault C.done C.refused C.contraction

@@ -1,19 +1,19 @@
 -- Demand 3 on document 01's example, the triangle of three segments, with the shares 8 and 12: its hypotheses are met there, and its parts say what they should.
 -- Assumes nothing.
+use mathlib.Core.List.{List·Memᴰ, List·Memᴰ·head, List·Memᴰ·tail, [], _++_, _∷_}
 use mathlib.Core.Path.{_≡_, refl, subst, sym}
-use mathlib.Core.List.{List, List·Memᴰ, List·Memᴰ·head, List·Memᴰ·tail, [], _++_, _∷_}
 use lib.ListN.{replicate}
 use native.Mathlib.Omega.{arith}
-use Rattle.graph.specs.Graph.{Edge, answer, joined, removals, rep, twoEdge}
 use Rattle.graph.specs.Contraction.{contract, kept, keptClasses, linked, number, parts, third, without}
+use Rattle.graph.specs.Graph.{Edge, answer, joined, removals, rep, twoEdge}
 use Rattle.graph.specs.SmallGraph.{image}
-use Rattle.timeline.specs.Events.{activeOf, networkOf}
-use Rattle.timeline.specs.Windows as W
-use Rattle.timeline.specs.Windows.{active, network, small, stands, windows}
-use Rattle.timeline.specs.Replay as R
-use Rattle.timeline.specs.Replay.{Lent, given, replay}
-use Rattle.timeline.specs.DemandThree.{Among, Demand3}
 use Rattle.timeline.proofs.DemandThree.{demand-3}
+use Rattle.timeline.specs.DemandThree.{Among, Demand3}
+use Rattle.timeline.specs.Events.{activeOf, networkOf}
+use Rattle.timeline.specs.Replay.{Lent, given, replay}
+use Rattle.timeline.specs.Windows.{active, network, small, stands, windows}
+use Rattle.timeline.specs.Windows as W
+use Rattle.timeline.specs.Replay as R
 
 abbrev pub triangle : Lent
 triangle = record {

@@ -1,13 +1,13 @@
 -- The cases that document 01 marks P, as one table: what the definitions of the calls give, and what document 01 says. proofs/Cases proves every row.
 -- A replay is seen by its whole outcome but for the work table, a contraction by its outcome but for the work table, the program by the bytes that it writes.
 -- Assumes nothing: these are definitions.
-use Prim.Native.Nat.{ℕ, _+_, _*_, _/_, _%_}
-use mathlib.Core.Path.{_≡_}
+use Prim.Native.Nat.{_%_, _*_, _/_, ℕ}
 use mathlib.Core.List.{List, [], _∷_}
+use mathlib.Core.Path.{_≡_}
 use lib.ListN.{length, replicate, take}
+use Rattle.timeline.specs.Program.{output}
 use Rattle.contraction.specs.Call as C
 use Rattle.timeline.specs.Replay as R
-use Rattle.timeline.specs.Program.{output}
 
 -- ---- what is seen
 -- code, place, queries, open, kept, the answer table

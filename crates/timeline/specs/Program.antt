@@ -1,14 +1,14 @@
 -- Document 01, "The program": the bytes that `replay` writes for the bytes that it reads.
 -- Assumes nothing: these are definitions.
-use Prim.Native.Nat.{ℕ, zero, suc, _+_, _*_, _/_, _%_}
-use mathlib.Core.Bool.{Bool, true, false, not}
-use mathlib.Core.List.{List, [], _∷_, _++_}
+use Prim.Native.Nat.{_%_, _*_, _+_, _/_, suc, zero, ℕ}
+use mathlib.Core.Bool.{false, not, true}
+use mathlib.Core.List.{List, [], _++_, _∷_}
 use lib.Dec.{eqb, ltb}
-use lib.ListN.{length, getD, take, drop, replicate}
-use Rattle.tables.specs.Refusal.{Row, row, Refusal, firstFault}
+use lib.ListN.{drop, getD, length, replicate, take}
+use Rattle.tables.specs.Refusal.{Refusal, Row, firstFault, row}
 use Rattle.timeline.specs.Events.{Event, asks}
+use Rattle.timeline.specs.Replay.{Lent, Outcome, given, replay}
 use Rattle.timeline.specs.Windows.{event}
-use Rattle.timeline.specs.Replay.{Lent, given, Outcome, replay}
 
 -- ---- the input
 -- bytes as 16-bit little-endian numbers
