@@ -1,5 +1,4 @@
--- Taking a class away (THEORY.md 3, K1): nodes of the piece stay joined just where a small cut has the class and neither of them;
--- a class of another piece changes nothing.
+-- Taking a class away (THEORY.md 3, K1): nodes of the piece stay joined just where a small cut has the class and neither of them.
 -- Assumes nothing.
 use Prim.Native.Nat.{_<_, _≤_, ℕ}
 use mathlib.Core.Bool.{_&&_, false, not, true}
@@ -10,7 +9,7 @@ use Rattle.graph.proofs.Adjacency.{adj-closed, adj-induced, adj-out, cr
 use Rattle.graph.proofs.Booleans.{contradict, onBool}
 use Rattle.graph.proofs.CutOffs.{cutOff, cutOff-complete, cutOff-sound}
 use Rattle.graph.proofs.Cuts.{cut-complement}
-use Rattle.graph.proofs.Reach.{connected-reach, reach, reach-closed, reach-connected, reach-least, reach-self}
+use Rattle.graph.proofs.Reach.{reach, reach-closed, reach-connected, reach-least, reach-self}
 use Rattle.graph.proofs.Separation.{insep-cut, insep-sym}
 use Rattle.graph.specs.Cut.{Connected, CutOff, _∖_, _∩_, crosses, cut, ∁}
 use Rattle.graph.specs.Graph.{Edge, NodeSet, induced}
@@ -57,14 +56,3 @@ part-cutOff E x y z xz nx j =
     let Wx : W x ≡ false = onBool (W x) (λ t. contradict (reach-least K W hK x r t Rr) Wr) (λ f. f) in
     let Wy : W y ≡ false = onBool (W y) (λ t. absurd (insep-sym K j (W, t, Wx, hK))) (λ f. f) in
     (W, Wz, Wx, Wy, h)
-
--- a class of another piece leaves this one as it is
-pub part-other : (E : List Edge) (x y z : ℕ) → Connected E x y → ¬ Connected E x z → Connected (outsideClass E z) x y
-unfolding outsideClass
-part-other E x y z xy n (U, Ux, Uy, c) =
-    let R = reach E x in
-    let Rz : R z ≡ false = onBool (R z) (λ t. absurd (n (reach-connected E x z t))) (λ f. f) in
-    let P : NodeSet = λ v. cutOff E z v v in
-    let in-P : (v : ℕ) → R v ≡ true → P v ≡ true = λ v t. cutOff-complete E z v v (∁ R, ap not Rz, ap not t, ap not t, omega (arith, cut-complement R E, reach-closed E x)) in
-    let q : 0 < cut (R ∩ U) E = insep-cut E xy (R ∩ U) (ap₂ _&&_ (reach-self E x) Ux) (ap₂ _&&_ (connected-reach E x y xy) Uy) in
-    omega (arith, induced-split R U E, induced-mono P R U E in-P, reach-closed E x)

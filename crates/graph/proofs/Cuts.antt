@@ -144,9 +144,6 @@ crossing-one U e f {H = g ∷ H} h (List·Memᴰ·head p) (List·Memᴰ·tail n)
 crossing-one U e f {H = g ∷ H} h (List·Memᴰ·tail m) (List·Memᴰ·head q) a b = let b′ : 0 < crossing U g = subst (λ (g : Edge). 0 < crossing U g) q b in absurd (omega (arith, in-crossing U e m a))
 crossing-one U e f {H = g ∷ H} h (List·Memᴰ·tail m) (List·Memᴰ·tail n) a b = crossing-one U e f (omega arith) m n a b
 
-crosses-both : {a b : Bool} → a ≡ true → b ≡ true → crosses a b ≡ 0
-crosses-both e f = ap₂ crosses e f
-
 pub closed-all : (F : List Edge) → cut (λ v. true) F ≤ 0
 closed-all [] = omega arith
 closed-all (e ∷ F) = omega (arith, closed-all F)

@@ -75,9 +75,6 @@ none-at (suc k) U v l t =
     (λ e. contradict t (ap U (eqb-true v k e) ∙ a))
     (λ e. let i : ¬ (v ≡ k) = eqb-false v k e in ap₂ (λ s r. not s && r) a (none-at k U v (omega arith) t))
 
-abbrev Least : NodeSet → Type 0
-Least U = (m : ℕ) × (U m ≡ true) × (none m U ≡ true)
-
 lower : (k : ℕ) (U : NodeSet) → none k U ≡ false → (m : ℕ) × (m < k) × (U m ≡ true) × (none m U ≡ true)
 lower zero U h = contradict refl h
 lower (suc k) U h =

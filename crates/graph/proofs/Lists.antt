@@ -11,8 +11,8 @@ use lib.Dec.{eqb}
 use lib.ListN.{length}
 use native.Mathlib.Omega.{arith}
 use borrow.Author.Tests.{eq-eqb, eqb-false, eqb-true}
-use Rattle.graph.proofs.Booleans.{and-elim, contradict, onBool, or-elim}
-use Rattle.graph.specs.Lists.{all, any, filter, firsts, member, position, range, table}
+use Rattle.graph.proofs.Booleans.{contradict, onBool, or-elim}
+use Rattle.graph.specs.Lists.{any, filter, firsts, member, position, range, table}
 
 pub any-find : (f : ℕ → Bool) (xs : List ℕ) → any f xs ≡ true → (a : ℕ) × List·Memᴰ a xs × (f a ≡ true)
 any-find f [] h = contradict h refl
@@ -221,15 +221,6 @@ pub filter-true : (l : List ℕ) → filter (λ x. true) l ≡ l
 filter-true [] = refl
 filter-true (x ∷ l) = ap (λ m. x ∷ m) (filter-true l)
 
--- ---- the contraction is a small graph
-all-in : (f : ℕ → Bool) (z : ℕ) (xs : List ℕ) → all f xs ≡ true → List·Memᴰ z xs → f z ≡ true
-all-in f z (x ∷ xs) h (List·Memᴰ·head p) = and-elim (f x) (all f xs) h λ a b. ap f p ∙ a
-all-in f z (x ∷ xs) h (List·Memᴰ·tail m) = and-elim (f x) (all f xs) h λ a b. all-in f z xs b m
-
-all-from : (f : ℕ → Bool) (xs : List ℕ) → ((z : ℕ) → List·Memᴰ z xs → f z ≡ true) → all f xs ≡ true
-all-from f [] k = refl
-all-from f (x ∷ xs) k = ap₂ _&&_ (k x (List·Memᴰ·head refl)) (all-from f xs (λ z m. k z (List·Memᴰ·tail m)))
-
 pub range-mem : (z i n : ℕ) → i ≤ z → z < i + n → List·Memᴰ z (range i n)
 range-mem z i zero a b = absurd (omega arith)
 range-mem z i (suc n) a b = onBool (eqb z i) (λ t. List·Memᴰ·head (eqb-true z i t)) λ t. let e : ¬ (z ≡ i) = eqb-false z i t in List·Memᴰ·tail (range-mem z (suc i) n (omega arith) (omega arith))
@@ -318,11 +309,6 @@ range-ordered i (suc n) = (all-give (λ y. i < y) (range (suc i) n) (λ a m. ran
 pub ordered-map : (P Q : ℕ → ℕ → Type 0) (xs : List ℕ) → ((x y : ℕ) → P x y → Q x y) → Ordered P xs → Ordered Q xs
 ordered-map P Q [] f o = tt
 ordered-map P Q (x ∷ xs) f o = (all-give (Q x) xs (λ a m. f x a (all-at (P x) a xs (o .0) m)), ordered-map P Q xs f (o .1))
-
-range-high : (z i n : ℕ) → List·Memᴰ z (range i n) → z < i + n
-range-high z i zero m = absurd (elim m [ ])
-range-high z i (suc n) (List·Memᴰ·head p) = omega arith
-range-high z i (suc n) (List·Memᴰ·tail m) = omega (arith, range-high z (suc i) n m)
 
 pub map-same : (σ σ′ : ℕ → ℕ) (S : List ℕ) → map σ S ≡ map σ′ S → (a : ℕ) → List·Memᴰ a S → σ a ≡ σ′ a
 map-same σ σ′ (x ∷ S) e a (List·Memᴰ·head p) = ap σ p ∙ hd ∙ ap σ′ (sym p)

@@ -167,3 +167,19 @@ module _ (p t : ℕ) (a : Allowed p) where
     where
       none : List·Memᴰ w (windowsFrom p 0 0 0) → Win p t (w .0) (w .1)
       none m = absurd (elim m [ ])
+
+  -- ---- as document 01 says it
+  pub windows-whole : 0 < t → List·Memᴰ (0, t) (windows p t)
+  windows-whole h = win-windows (whole h)
+
+  pub windows-parts : (w : Window) → List·Memᴰ w (windows p t) → 2 ≤ w .1
+      → List·Memᴰ (w .0, firstPart p (w .1)) (windows p t) × List·Memᴰ (w .0 + firstPart p (w .1), w .1 - firstPart p (w .1)) (windows p t)
+  windows-parts w m h = let v = windows-win w m in (win-windows (left v h), win-windows (right v h))
+
+-- the parts of a window tile it, and neither is empty
+pub parts-tile : (p n : ℕ) → Allowed p → 2 ≤ n → (1 ≤ firstPart p n) × (1 ≤ n - firstPart p n) × (firstPart p n + (n - firstPart p n) ≡ n)
+parts-tile p n a h = let f = first-part p n a h in (f .0, omega arith, omega arith)
+
+pub windows-none : (p : ℕ) → windows p 0 ≡ []
+unfolding windows windowsFrom
+windows-none p = refl
