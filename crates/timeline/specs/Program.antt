@@ -48,9 +48,9 @@ inputFaults bytes =
 unfoldable pub inputFault : List ℕ → Refusal
 inputFault bytes = firstFault (inputFaults bytes)
 
--- what the program lends to the replay: the tables of its input, an answer table, and 16,384 words
-unfoldable pub inputLent : List ℕ → Lent
-inputLent bytes =
+-- what the program lends to the replay: the tables of its input, an answer table, and its work table
+unfoldable pub inputLent : List ℕ → List ℕ → Lent
+inputLent work bytes =
     let ws : List ℕ = words16 bytes in
     let m : ℕ = segmentsOf ws in
     let t : ℕ = eventsOf ws in
@@ -63,7 +63,7 @@ inputLent bytes =
       x = take t (drop (4 + 2 * m) ws);
       y = take t (drop (4 + 2 * m + t) ws);
       answers = replicate 32 0;
-      work = replicate 16384 0;
+      work = work;
     }
 
 -- ---- the output
@@ -77,7 +77,7 @@ decimal n = spell 20 n []
 
 -- "i answer"
 unfoldable pub queryLine : ℕ → ℕ → List ℕ
-queryLine i answer = decimal i ++ 32 ∷ decimal answer ++ 10 ∷ []
+queryLine i answer = decimal i ++ (32 ∷ (decimal answer ++ (10 ∷ [])))
 
 -- one line for each query of the first n events from i on: the event's place and its answer
 unfoldable pub queryLines : (ℕ → Event) → (ℕ → ℕ) → ℕ → ℕ → List ℕ
@@ -89,13 +89,13 @@ queryLines event answers i (suc n) =
 -- "asks q open o kept k"
 unfoldable pub totalsLine : ℕ → ℕ → ℕ → List ℕ
 totalsLine q o k =
-    97 ∷ 115 ∷ 107 ∷ 115 ∷ 32 ∷ decimal q
-    ++ 32 ∷ 111 ∷ 112 ∷ 101 ∷ 110 ∷ 32 ∷ decimal o
-    ++ 32 ∷ 107 ∷ 101 ∷ 112 ∷ 116 ∷ 32 ∷ decimal k ++ 10 ∷ []
+    97 ∷ 115 ∷ 107 ∷ 115 ∷ 32 ∷ (decimal q
+    ++ (32 ∷ 111 ∷ 112 ∷ 101 ∷ 110 ∷ 32 ∷ (decimal o
+    ++ (32 ∷ 107 ∷ 101 ∷ 112 ∷ 116 ∷ 32 ∷ (decimal k ++ (10 ∷ []))))))
 
 -- "refused c at i"
 unfoldable pub refusedLine : ℕ → ℕ → List ℕ
-refusedLine c i = 114 ∷ 101 ∷ 102 ∷ 117 ∷ 115 ∷ 101 ∷ 100 ∷ 32 ∷ decimal c ++ 32 ∷ 97 ∷ 116 ∷ 32 ∷ decimal i ++ 10 ∷ []
+refusedLine c i = 114 ∷ 101 ∷ 102 ∷ 117 ∷ 115 ∷ 101 ∷ 100 ∷ 32 ∷ (decimal c ++ (32 ∷ 97 ∷ 116 ∷ 32 ∷ (decimal i ++ (10 ∷ []))))
 
 -- what is printed of a replay
 unfoldable pub printed : Lent → Outcome → List ℕ
@@ -105,10 +105,14 @@ printed l r =
       | false ↦ refusedLine (r .code) (r .place)
     ]
 
--- the bytes written for the bytes read
-unfoldable pub output : List ℕ → List ℕ
-output bytes =
+-- the bytes written for the bytes read, with a given work table
+unfoldable pub outputWith : List ℕ → List ℕ → List ℕ
+outputWith work bytes =
     elim (eqb (inputFault bytes .0) 0) [
-      | true ↦ printed (inputLent bytes) (replay (inputLent bytes) (shareOf (words16 bytes)))
+      | true ↦ printed (inputLent work bytes) (replay (inputLent work bytes) (shareOf (words16 bytes)))
       | false ↦ refusedLine (inputFault bytes .0) (inputFault bytes .1)
     ]
+
+-- "It lends a work table of 16,384 numbers"
+unfoldable pub output : List ℕ → List ℕ
+output = outputWith (replicate 16384 0)
