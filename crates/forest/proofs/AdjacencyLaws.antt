@@ -1,12 +1,13 @@
 -- TODO head
 -- Assumes nothing.
-use Prim.Native.Nat.{_*_, _+_, _-_, _<_, ℕ}
+use Prim.Native.Nat.{_*_, _+_, _-_, _/_, _<_, _≤_, ℕ}
 use mathlib.Core.List.{List}
 use mathlib.Core.Path.{_∙_, _≡_, ap, refl, sym}
 use lib.Dec.{eqb}
+use lib.ListN.{getD}
 use native.Mathlib.Omega.{arith}
 use borrow.Author.Tests.{eqb-false, eqb-true}
-use Rattle.forest.proofs.HalfEdges.{twin-back, twin-even, twin-odd}
+use Rattle.forest.proofs.HalfEdges.{half-cases, twin-back, twin-even, twin-odd}
 use Rattle.forest.specs.AdjacencyLists.{AdjacencyLists, CanLink, LastFrom, Linking, origin, twin}
 use Rattle.graph.proofs.Booleans.{onBool}
 use Rattle.words.proofs.FieldLaws.{update-at, update-other}
@@ -102,3 +103,14 @@ edge-linked e k l o = let q : 2 * (e + 1) ≡ 2 * e + 1 + 1 = omega arith in rw 
 
 pub all-linked : {n m : ℕ} {a w : List ℕ} → Linking n m a w (2 * m) → AdjacencyLists n m w
 all-linked k = record { few = k .few; much = k .much; room = k .room; ends = k .ends; heads = k .links .heads; nexts = k .links .nexts }
+
+-- the words behind the half-edges stay
+pub linking-past : {n m i : ℕ} {a w : List ℕ} → Linking n m a w i → (j : ℕ) → 16 * n + 4 * m ≤ j → getD w j 0 ≡ getD a j 0
+unfolding half
+linking-past {n} {m} {a = a} {w} k j l = half-cases (j - 16 * n)
+    (λ e.
+    let q : j ≡ 16 * n + 2 * ((j - 16 * n) / 2) + 0 = omega arith in
+    ap (λ p. getD w p 0) q ∙ ap (λ f. f ((j - 16 * n) / 2)) (k .tos) ∙ ap (λ p. getD a p 0) (sym q))
+    (λ e.
+    let q : j ≡ 16 * n + 2 * ((j - 16 * n) / 2) + 1 = omega arith in
+    ap (λ p. getD w p 0) q ∙ k .past ((j - 16 * n) / 2) (omega arith) ∙ ap (λ p. getD a p 0) (sym q))

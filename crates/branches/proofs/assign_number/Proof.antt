@@ -4,8 +4,6 @@ use borrow.Author.Needs.{needs}
 use Rattle.branches.proofs.NumberLaws.{assigned}
 use Rattle.branches.proofs.assign_number.Statement.{statement}
 use Rattle.branches.proofs.assign_number.Tie as tie
-use Rattle.branches.proofs.assign_number.Reads as reads
-use Rattle.branches.proofs.assign_number.Lts as lts
 
 put-requires : tie.Need-put-requires
 put-requires c κs = search needs

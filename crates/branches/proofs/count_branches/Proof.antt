@@ -8,8 +8,6 @@ use Rattle.branches.proofs.BranchCountLaws.{counting-can, counting-down
 use Rattle.branches.specs.BranchCounts.{Counting}
 use Rattle.branches.proofs.count_branches.Statement.{statement}
 use Rattle.branches.proofs.count_branches.Tie as tie
-use Rattle.branches.proofs.count_branches.Reads as reads
-use Rattle.branches.proofs.count_branches.Lts as lts
 
 abbrev Inv-loop : tie.InvT-loop
 Inv-loop work₀ n seen i₀ work i = (i ≤ seen) × Counting n seen work₀ i work

@@ -7,8 +7,6 @@ use borrow.Author.Needs.{needs}
 use Rattle.branches.proofs.NearestLaws.{nearest-number, nearest-parent, q-fits}
 use Rattle.branches.proofs.nearest_at.Statement.{statement}
 use Rattle.branches.proofs.nearest_at.Tie as tie
-use Rattle.branches.proofs.nearest_at.Reads as reads
-use Rattle.branches.proofs.nearest_at.Lts as lts
 
 get-requires : tie.Need-get-requires
 get-requires c κs = search needs

@@ -7,8 +7,6 @@ use Rattle.branches.proofs.NearestLaws.{nearest-can, nearest-more, near
 use Rattle.branches.specs.Numbers.{NearestLoop}
 use Rattle.branches.proofs.nearest_kept.Statement.{statement}
 use Rattle.branches.proofs.nearest_kept.Tie as tie
-use Rattle.branches.proofs.nearest_kept.Reads as reads
-use Rattle.branches.proofs.nearest_kept.Lts as lts
 
 abbrev Inv-loop : tie.InvT-loop
 Inv-loop work₀ n seen i₀ work i = (i ≤ seen) × NearestLoop n work₀ i work

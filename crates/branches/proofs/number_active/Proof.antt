@@ -7,8 +7,6 @@ use borrow.Author.Needs.{needs}
 use Rattle.branches.proofs.NumberLaws.{active-assigned, can-assign, has-number, room-more}
 use Rattle.branches.proofs.number_active.Statement.{statement}
 use Rattle.branches.proofs.number_active.Tie as tie
-use Rattle.branches.proofs.number_active.Reads as reads
-use Rattle.branches.proofs.number_active.Lts as lts
 
 get-requires : tie.Need-get-requires
 get-requires c κs = search needs

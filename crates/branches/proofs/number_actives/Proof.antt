@@ -7,8 +7,6 @@ use Rattle.branches.proofs.NumberLaws.{actives-can, actives-more, activ
 use Rattle.branches.specs.Numbers.{NumberingActives}
 use Rattle.branches.proofs.number_actives.Statement.{statement}
 use Rattle.branches.proofs.number_actives.Tie as tie
-use Rattle.branches.proofs.number_actives.Reads as reads
-use Rattle.branches.proofs.number_actives.Lts as lts
 
 abbrev Inv-loop : tie.InvT-loop
 Inv-loop work₀ n k h₀ i₀ work h i = (i ≤ k) × NumberingActives n k work₀ i h work

@@ -4,8 +4,6 @@ use borrow.Author.Needs.{needs}
 use Rattle.branches.proofs.ClassLaws.{can-count, can-nearest, can-number-actives, can-number-others, can-parents, class-numbers}
 use Rattle.branches.proofs.number_classes.Statement.{statement}
 use Rattle.branches.proofs.number_classes.Tie as tie
-use Rattle.branches.proofs.number_classes.Reads as reads
-use Rattle.branches.proofs.number_classes.Lts as lts
 
 number-actives-requires : tie.Need-number-actives-requires
 number-actives-requires c κs = can-number-actives (c .before .before .pre)

@@ -8,8 +8,6 @@ use Rattle.branches.proofs.NumberLaws.{can-assign, has-number, other-as
 use Rattle.words.specs.Fields.{node}
 use Rattle.branches.proofs.number_other.Statement.{statement}
 use Rattle.branches.proofs.number_other.Tie as tie
-use Rattle.branches.proofs.number_other.Reads as reads
-use Rattle.branches.proofs.number_other.Lts as lts
 
 get-requires : tie.Need-get-requires
 get-requires c κs = search needs

@@ -7,8 +7,6 @@ use Rattle.branches.proofs.NumberLaws.{others-can, others-more, others-
 use Rattle.branches.specs.Numbers.{NumberingOthers}
 use Rattle.branches.proofs.number_others.Statement.{statement}
 use Rattle.branches.proofs.number_others.Tie as tie
-use Rattle.branches.proofs.number_others.Reads as reads
-use Rattle.branches.proofs.number_others.Lts as lts
 
 abbrev Inv-loop : tie.InvT-loop
 Inv-loop work₀ n h r₀ v₀ work r v = (v ≤ n) × NumberingOthers n h work₀ v r work

@@ -6,8 +6,6 @@ use borrow.Author.Needs.{needs}
 use Rattle.branches.proofs.NearestLaws.{over-fits, p-fits, parent-none, parent-some, t-fits}
 use Rattle.branches.proofs.parent_number.Statement.{statement}
 use Rattle.branches.proofs.parent_number.Tie as tie
-use Rattle.branches.proofs.parent_number.Reads as reads
-use Rattle.branches.proofs.parent_number.Lts as lts
 
 get-requires : tie.Need-get-requires
 get-requires c κs = search needs

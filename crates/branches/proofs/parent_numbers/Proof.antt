@@ -7,8 +7,6 @@ use Rattle.branches.proofs.NearestLaws.{parents-can, parents-more, pare
 use Rattle.branches.specs.Numbers.{ParentLoop}
 use Rattle.branches.proofs.parent_numbers.Statement.{statement}
 use Rattle.branches.proofs.parent_numbers.Tie as tie
-use Rattle.branches.proofs.parent_numbers.Reads as reads
-use Rattle.branches.proofs.parent_numbers.Lts as lts
 
 abbrev Inv-loop : tie.InvT-loop
 Inv-loop work₀ n h x₀ work x = (x ≤ h) × ParentLoop n work₀ x work

@@ -7,8 +7,6 @@ use borrow.Author.Needs.{needs}
 use Rattle.branches.proofs.BranchCountLaws.{q-fits, reported}
 use Rattle.branches.proofs.report_branch.Statement.{statement}
 use Rattle.branches.proofs.report_branch.Tie as tie
-use Rattle.branches.proofs.report_branch.Reads as reads
-use Rattle.branches.proofs.report_branch.Lts as lts
 
 get-requires : tie.Need-get-requires
 get-requires c κs = search needs

@@ -5,8 +5,6 @@ use borrow.Author.Needs.{needs}
 use Rattle.components.proofs.CompressionLaws.{compress-fits, compressed}
 use Rattle.components.proofs.compress.Statement.{statement}
 use Rattle.components.proofs.compress.Tie as tie
-use Rattle.components.proofs.compress.Reads as reads
-use Rattle.components.proofs.compress.Lts as lts
 
 get-requires : tie.Need-get-requires
 get-requires c κs = search needs

@@ -7,8 +7,6 @@ use Rattle.components.proofs.CompressionLaws.{compressed-can, compresse
 use Rattle.components.specs.Tops.{Compressed}
 use Rattle.components.proofs.compress_all.Statement.{statement}
 use Rattle.components.proofs.compress_all.Tie as tie
-use Rattle.components.proofs.compress_all.Reads as reads
-use Rattle.components.proofs.compress_all.Lts as lts
 
 abbrev Inv-loop : tie.InvT-loop
 Inv-loop work₀ n seen i₀ work i = (i ≤ seen) × Compressed n i work₀ work

@@ -7,8 +7,6 @@ use Rattle.components.proofs.FindLaws.{Finding, finding-more, finding-n
 use Rattle.words.specs.Fields.{node}
 use Rattle.components.proofs.find.Statement.{statement}
 use Rattle.components.proofs.find.Tie as tie
-use Rattle.components.proofs.find.Reads as reads
-use Rattle.components.proofs.find.Lts as lts
 
 abbrev Inv-loop : tie.InvT-loop
 Inv-loop work₀ n v v₀ u₀ work v' u = Finding n v work₀ v' u work

@@ -4,8 +4,6 @@ use borrow.Author.Needs.{needs}
 use Rattle.components.proofs.JoinLaws.{can-compress, can-merge, components}
 use Rattle.components.proofs.find_components.Statement.{statement}
 use Rattle.components.proofs.find_components.Tie as tie
-use Rattle.components.proofs.find_components.Reads as reads
-use Rattle.components.proofs.find_components.Lts as lts
 
 spanning-forest-requires : tie.Need-spanning-forest-requires
 spanning-forest-requires c κs = search needs

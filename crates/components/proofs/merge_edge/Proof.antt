@@ -5,8 +5,6 @@ use borrow.Author.Needs.{needs}
 use Rattle.components.proofs.MergeLaws.{merged-one, skip-first, skip-second, skip-unseen, to-path, x-fits, y-fits}
 use Rattle.components.proofs.merge_edge.Statement.{statement}
 use Rattle.components.proofs.merge_edge.Tie as tie
-use Rattle.components.proofs.merge_edge.Reads as reads
-use Rattle.components.proofs.merge_edge.Lts as lts
 
 mul-get-half : tie.Need-mul-get-half
 mul-get-half c = search needs

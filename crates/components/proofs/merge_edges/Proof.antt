@@ -7,8 +7,6 @@ use Rattle.components.proofs.MergeLaws.{merged-can, merged-more, merged
 use Rattle.components.specs.Merging.{EdgesMerged}
 use Rattle.components.proofs.merge_edges.Statement.{statement}
 use Rattle.components.proofs.merge_edges.Tie as tie
-use Rattle.components.proofs.merge_edges.Reads as reads
-use Rattle.components.proofs.merge_edges.Lts as lts
 
 abbrev Inv-loop : tie.InvT-loop
 Inv-loop work₀ n m e₀ work e = (e ≤ m) × EdgesMerged n m work₀ e work

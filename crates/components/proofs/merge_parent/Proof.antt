@@ -4,8 +4,6 @@ use borrow.Author.Needs.{needs}
 use Rattle.components.proofs.PathLaws.{merged-up-at}
 use Rattle.components.proofs.merge_parent.Statement.{statement}
 use Rattle.components.proofs.merge_parent.Tie as tie
-use Rattle.components.proofs.merge_parent.Reads as reads
-use Rattle.components.proofs.merge_parent.Lts as lts
 
 get-requires : tie.Need-get-requires
 get-requires c κs = search needs

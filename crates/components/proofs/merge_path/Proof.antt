@@ -4,8 +4,6 @@ use borrow.Author.Needs.{needs}
 use Rattle.components.proofs.PathLaws.{merged-path, second, to-tops}
 use Rattle.components.proofs.merge_path.Statement.{statement}
 use Rattle.components.proofs.merge_path.Tie as tie
-use Rattle.components.proofs.merge_path.Reads as reads
-use Rattle.components.proofs.merge_path.Lts as lts
 
 find-requires : tie.Need-find-requires
 find-requires c κs = search needs

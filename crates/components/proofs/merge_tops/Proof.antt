@@ -7,8 +7,6 @@ use Rattle.components.proofs.PathLaws.{PathLoop, loop-can, loop-can′,
 use Rattle.words.specs.Fields.{node}
 use Rattle.components.proofs.merge_tops.Statement.{statement}
 use Rattle.components.proofs.merge_tops.Tie as tie
-use Rattle.components.proofs.merge_tops.Reads as reads
-use Rattle.components.proofs.merge_tops.Lts as lts
 
 abbrev Inv-loop : tie.InvT-loop
 Inv-loop work₀ n a b a₀ b₀ work a' b' = PathLoop n a b work₀ a' b' work

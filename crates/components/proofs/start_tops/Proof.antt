@@ -7,8 +7,6 @@ use Rattle.components.proofs.CompressionLaws.{own-more, own-none}
 use Rattle.components.specs.Tops.{OwnTops}
 use Rattle.components.proofs.start_tops.Statement.{statement}
 use Rattle.components.proofs.start_tops.Tie as tie
-use Rattle.components.proofs.start_tops.Reads as reads
-use Rattle.components.proofs.start_tops.Lts as lts
 
 abbrev Inv-loop : tie.InvT-loop
 Inv-loop work₀ n v₀ work v = (v ≤ n) × OwnTops n v work₀ work

@@ -4,8 +4,6 @@ use borrow.Author.Needs.{needs}
 use Rattle.forest.proofs.SearchLaws.{appended}
 use Rattle.forest.proofs.append_node.Statement.{statement}
 use Rattle.forest.proofs.append_node.Tie as tie
-use Rattle.forest.proofs.append_node.Reads as reads
-use Rattle.forest.proofs.append_node.Lts as lts
 
 put-requires : tie.Need-put-requires
 put-requires c κs = search needs

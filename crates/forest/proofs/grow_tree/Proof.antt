@@ -7,8 +7,6 @@ use Rattle.forest.proofs.SearchLaws.{growing-still, grown-less, grown-n
 use Rattle.forest.specs.Search.{Grown}
 use Rattle.forest.proofs.grow_tree.Statement.{statement}
 use Rattle.forest.proofs.grow_tree.Tie as tie
-use Rattle.forest.proofs.grow_tree.Reads as reads
-use Rattle.forest.proofs.grow_tree.Lts as lts
 
 abbrev Inv-loop : tie.InvT-loop
 Inv-loop work₀ n m done seen r done₀ seen₀ work done' seen' = Grown n m work₀ work done' seen' r

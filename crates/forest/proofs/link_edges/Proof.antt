@@ -8,8 +8,6 @@ use Rattle.forest.proofs.AdjacencyLaws.{all-linked, edge-linked, even-l
 use Rattle.forest.specs.AdjacencyLists.{Linking}
 use Rattle.forest.proofs.link_edges.Statement.{statement}
 use Rattle.forest.proofs.link_edges.Tie as tie
-use Rattle.forest.proofs.link_edges.Reads as reads
-use Rattle.forest.proofs.link_edges.Lts as lts
 
 abbrev Inv-loop : tie.InvT-loop
 Inv-loop work₀ n m e₀ work e = (e ≤ m) × Linking n m work₀ work (2 * e)

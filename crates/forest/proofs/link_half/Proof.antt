@@ -5,8 +5,6 @@ use borrow.Author.Needs.{needs}
 use Rattle.forest.proofs.AdjacencyLaws.{half-linked, v-fits}
 use Rattle.forest.proofs.link_half.Statement.{statement}
 use Rattle.forest.proofs.link_half.Tie as tie
-use Rattle.forest.proofs.link_half.Reads as reads
-use Rattle.forest.proofs.link_half.Lts as lts
 
 get-requires : tie.Need-get-requires
 get-requires c κs = omega (arith, v-fits (c .before .before .pre .0) (c .before .before .pre .1) (c .before .before .pre .2))

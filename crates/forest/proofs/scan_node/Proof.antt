@@ -6,8 +6,6 @@ use borrow.Author.Needs.{needs}
 use Rattle.forest.proofs.SearchLaws.{ScanLoop, scan-can, scan-done, scan-more, scan-none, seen-less}
 use Rattle.forest.proofs.scan_node.Statement.{statement}
 use Rattle.forest.proofs.scan_node.Tie as tie
-use Rattle.forest.proofs.scan_node.Reads as reads
-use Rattle.forest.proofs.scan_node.Lts as lts
 
 abbrev Inv-loop : tie.InvT-loop
 Inv-loop work₀ n m done seen r v seen₀ cur₀ work seen' cur = ScanLoop n m done r v work₀ seen' cur work

@@ -7,8 +7,6 @@ use Rattle.forest.proofs.SearchLaws.{forest-of, keeps-none, keeps-then}
 use Rattle.forest.specs.Search.{BetweenTrees, SearchKeeps}
 use Rattle.forest.proofs.spanning_forest.Statement.{statement}
 use Rattle.forest.proofs.spanning_forest.Tie as tie
-use Rattle.forest.proofs.spanning_forest.Reads as reads
-use Rattle.forest.proofs.spanning_forest.Lts as lts
 
 abbrev Inv-loop : tie.InvT-loop
 Inv-loop work₀ n m k seen₀ j₀ work seen j = (j ≤ k) × SearchKeeps n work₀ work × BetweenTrees n m k work seen j

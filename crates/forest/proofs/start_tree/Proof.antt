@@ -6,8 +6,6 @@ use borrow.Author.Needs.{needs}
 use Rattle.forest.proofs.SearchLaws.{r-fits, start-done, start-grows, start-new, start-seen}
 use Rattle.forest.proofs.start_tree.Statement.{statement}
 use Rattle.forest.proofs.start_tree.Tie as tie
-use Rattle.forest.proofs.start_tree.Reads as reads
-use Rattle.forest.proofs.start_tree.Lts as lts
 
 get-requires : tie.Need-get-requires
 get-requires c κs = search needs

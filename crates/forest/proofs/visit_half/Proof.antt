@@ -6,8 +6,6 @@ use borrow.Author.Needs.{needs}
 use Rattle.forest.proofs.SearchLaws.{visit-added, visit-new, visit-seen, x-fits}
 use Rattle.forest.proofs.visit_half.Statement.{statement}
 use Rattle.forest.proofs.visit_half.Tie as tie
-use Rattle.forest.proofs.visit_half.Reads as reads
-use Rattle.forest.proofs.visit_half.Lts as lts
 
 get-half-requires : tie.Need-get-half-requires
 get-half-requires c κs = search needs
