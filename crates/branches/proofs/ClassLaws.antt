@@ -21,10 +21,10 @@ use Rattle.words.specs.Fields.{node}
 
 module _ {n m k seen : ℕ} {w₀ : List ℕ} (s : CanNumberClasses n m k seen w₀) where
   pub few : n ≤ 65536
-  few = s .search .ground .few
+  few = s .search .lists .few
 
   pub room : 16 * n ≤ length w₀
-  room = omega (arith, s .search .ground .room)
+  room = omega (arith, s .search .lists .room)
 
   par-fit : (u : ℕ) → u < n → 0 < node 4 w₀ u → node 5 w₀ u < n
   par-fit u l p = ⊎-elim (λ r. rw (r .self) l) (λ h. h .fit) (s .forest .kind u l p)
@@ -33,7 +33,7 @@ module _ {n m k seen : ℕ} {w₀ : List ℕ} (s : CanNumberClasses n m k seen w
   tree-order = record {
     less = seen-less (s .search .search);
     place = s .search .search .place;
-    spot = s .search .search .spot;
+    place-of = s .search .search .place-of;
     par-fit = par-fit;
     top-fit = s .final .tops .fit;
     up = λ u l p ne. ⊎-elim (λ r. absurd (ne (r .none))) (λ h. over (node 5 w₀ u) u (h .fit) (h .up)) (s .forest .kind u l p);
@@ -84,7 +84,7 @@ module _ {n m k seen : ℕ} {w₀ : List ℕ} (s : CanNumberClasses n m k seen w
       can-number-others = record {
         few = few;
         room = rw (rest₂ .same) room;
-        names = rw (e6, e10, e11) (a .acts .names);
+        numbers = rw (e6, e10, e11) (a .actives .numbers);
         top-fit = rw e6 (s .final .tops .fit);
       }
 
@@ -93,7 +93,7 @@ module _ {n m k seen : ℕ} {w₀ : List ℕ} (s : CanNumberClasses n m k seen w
         rest₃ = only-then rest₂ (only-more (10 ∷ 11 ∷ []) refl (r .rest))
 
         others : OtherNumbers n g n h (node 4 w₀) (node 6 w₀) (node 9 w₂) (node 10 w₁) (node 10 w₃) (node 11 w₁) (node 11 w₃)
-        others = rw (rest₂ .nodes 4 (omega arith) refl, e6, e10, e11) at (r .rests)
+        others = rw (rest₂ .nodes 4 (omega arith) refl, e6, e10, e11) at (r .others)
 
         pub can-nearest : CanNearestAll n seen w₃
         can-nearest = record { few = few; room = rw (rest₃ .same) room; tree = tree-order-at w₃ rest₃ }
@@ -102,12 +102,12 @@ module _ {n m k seen : ℕ} {w₀ : List ℕ} (s : CanNumberClasses n m k seen w
         rep-seen x l = onBool (ltb x g)
             (λ q.
             let p = ltb-true x g q in
-            let (j, i, e) = a .acts .reps x p in
+            let (j, i, e) = a .actives .reps x p in
             subst (λ (v : ℕ). 0 < node 4 w₀ v) (sym (others .old x p ∙ e)) (s .search .have j i))
             (λ q. let ne = others .late x (omega (arith, ltb-false x g q)) l .1 in omega arith)
 
         fits : h ≤ n
-        fits = omega (arith, count-le (node 10 w₃) n, others .names .count)
+        fits = omega (arith, count-le (node 10 w₃) n, others .numbers .count)
 
         module _ {w₄ : List ℕ} (l : NearestLoop n w₃ seen w₄) where
           rest₄ : OnlyFields classFields n w₀ w₄
@@ -131,7 +131,7 @@ module _ {n m k seen : ℕ} {w₀ : List ℕ} (s : CanNumberClasses n m k seen w
             room = room₄;
             less = fits;
             each = λ x i.
-                let p = others .names .place x i .0 in
+                let p = others .numbers .place x i .0 in
                 let q = s .final .tops .fit (node 11 w₃ x) p in
                 let z = par-fit (node 6 w₀ (node 11 w₃ x)) q (s .final .seen (node 11 w₃ x) p (rep-seen x i)) in
                 record {
@@ -156,22 +156,22 @@ module _ {n m k seen : ℕ} {w₀ : List ℕ} (s : CanNumberClasses n m k seen w
             h11 = u .rest .nodes 11 (omega arith) refl ∙ g11
 
             branches : Branches n (node 4 w₀) (node 5 w₀) (node 13 w₀) (node 6 w₀) (node 7 w₁) (node 7 w₂) (node 8 w₂) (node 9 w₂) 0
-            branches = rw (rest₁ .nodes 4 (omega arith) refl, rest₁ .nodes 5 (omega arith) refl, rest₁ .nodes 13 (omega arith) refl, rest₁ .nodes 6 (omega arith) refl) at (b .weigh)
+            branches = rw (rest₁ .nodes 4 (omega arith) refl, rest₁ .nodes 5 (omega arith) refl, rest₁ .nodes 13 (omega arith) refl, rest₁ .nodes 6 (omega arith) refl) at (b .branches)
 
             nearest : NearestNumbers n seen (node 4 w₀) (node 5 w₀) (node 13 w₀) (node 6 w₀) (node 10 w₃) (node 7 w₄)
-            nearest = rw (rest₃ .nodes 4 (omega arith) refl, rest₃ .nodes 5 (omega arith) refl, rest₃ .nodes 13 (omega arith) refl, rest₃ .nodes 6 (omega arith) refl) at (l .lifts)
+            nearest = rw (rest₃ .nodes 4 (omega arith) refl, rest₃ .nodes 5 (omega arith) refl, rest₃ .nodes 13 (omega arith) refl, rest₃ .nodes 6 (omega arith) refl) at (l .nearest)
 
             parents : ParentNumbers h (node 5 w₀) (node 13 w₀) (node 6 w₀) (node 7 w₄) (node 11 w₃) (node 9 w₅)
-            parents = rw (g5, rest₄ .nodes 13 (omega arith) refl, g6, g11) at (u .raises)
+            parents = rw (g5, rest₄ .nodes 13 (omega arith) refl, g6, g11) at (u .parents)
 
             pub class-numbers : ClassNumbers n m k w₀ h w₅
             class-numbers = record {
-              forest = rw (h11, h10, h6) (small-forest (s .forest) (s .final) (s .marks) (s .search .search .marked) (s .search .active) (s .search .have) (λ v i p. s .search .search .spot v i p .0) (a .acts) branches others nearest parents);
-              canonical = rw (h11, h10, h6) (small-canonical (s .forest) (s .final) (s .marks) (s .search .search .marked) (s .search .active) (s .search .have) (λ v i p. s .search .search .spot v i p .0) (a .acts) branches others nearest parents);
+              forest = rw (h11, h10, h6) (small-forest (s .forest) (s .final) (s .marks) (s .search .search .marked) (s .search .active) (s .search .have) (λ v i p. s .search .search .place-of v i p .0) (a .actives) branches others nearest parents);
+              canonical = rw (h11, h10, h6) (small-canonical (s .forest) (s .final) (s .marks) (s .search .search .marked) (s .search .active) (s .search .have) (λ v i p. s .search .search .place-of v i p .0) (a .actives) branches others nearest parents);
               less = fits;
               placed = λ j i.
                   let p = s .search .active j i .0 in
-                  let ne = a .acts .done j i in
+                  let ne = a .actives .done j i in
                   record {
                     room = rw (u .rest .same) room₄;
                     fit = p;

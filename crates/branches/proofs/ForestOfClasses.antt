@@ -178,11 +178,11 @@ module _ {n m : ℕ} {to pos par te root t : ℕ → ℕ} (f : Forest n m to pos
 
     pub child-class : (x c : ℕ) → Child n pos par te t x c → ChildClass (edgesBelow to m) S classForest x c
     unfolding classForest
-    child-class x c k = record { on = seen-is n pos c (k .fit) (k .seen); is-top = k .own; no-root = root-no n pos te c (k .hung); hangs = k .under }
+    child-class x c k = record { on = seen-is n pos c (k .fit) (k .seen); is-top = k .is-top; no-root = root-no n pos te c (k .has-edge); under = k .under }
 
     pub class-child : (x c : ℕ) → ChildClass (edgesBelow to m) S classForest x c → Child n pos par te t x c
     unfolding classForest
-    class-child x c k = let (p, q) = seen-in n pos c (k .on) in record { fit = p; seen = q; own = k .is-top; hung = root-not n pos te c (k .on) (k .no-root); under = k .hangs }
+    class-child x c k = let (p, q) = seen-in n pos c (k .on) in record { fit = p; seen = q; is-top = k .is-top; has-edge = root-not n pos te c (k .on) (k .no-root); under = k .under }
 
     -- a child is below
     child-below : (x c : ℕ) → Child n pos par te t x c → atOrBelow x c ≡ true
@@ -200,10 +200,10 @@ module _ {n m : ℕ} {to pos par te root t : ℕ → ℕ} (f : Forest n m to pos
         over : (v : ℕ) → v < n → pos (t v) ≤ pos v
         over v l = onBool (eqb (t v) v) (λ e. omega (arith, ap pos (eqb-true (t v) v e))) (λ e. omega (arith, g .tops .up v l (eqb-false (t v) v e)))
 
-    module _ {live₀ live kid other : ℕ → ℕ} (act : NodeSet) (act-in : (a : ℕ) → act a ≡ true → List·Memᴰ a S) (in-act : (a : ℕ) → List·Memᴰ a S → act a ≡ true)
+    module _ {live₀ live child other : ℕ → ℕ} (act : NodeSet) (act-in : (a : ℕ) → act a ≡ true → List·Memᴰ a S) (in-act : (a : ℕ) → List·Memᴰ a S → act a ≡ true)
         (begins : (c : ℕ) → c < n → ¬ (live₀ c ≡ 0) → List·Memᴰ (live₀ c - 1) S × (t (live₀ c - 1) ≡ c))
-        (named : (a : ℕ) → List·Memᴰ a S → ¬ (live₀ (t a) ≡ 0))
-        (w : Branches n pos par te t live₀ live kid other 0) where
+        (actives-live : (a : ℕ) → List·Memᴰ a S → ¬ (live₀ (t a) ≡ 0))
+        (w : Branches n pos par te t live₀ live child other 0) where
       -- x is one more than an active node at or below c
       unfoldable Holds : ℕ → ℕ → Bool
       Holds c x = not (eqb x 0) && (act (x - 1) && atOrBelow c (x - 1))
@@ -237,12 +237,12 @@ module _ {n m : ℕ} {to pos par te root t : ℕ → ℕ} (f : Forest n m to pos
           let tc : t c ≡ c = ap t (sym e) ∙ T .top-top (live₀ c - 1) s ∙ e in
           holds-is c (live₀ c) z (in-act (live₀ c - 1) i) (below-class (edgesBelow to m) S T c (live₀ c - 1) sc tc s ∙ ap (atOrBelow c) e ∙ atOrBelow-self c)
 
-      pub witnesses : Witnesses (edgesBelow to m) S classForest live kid other
+      pub witnesses : Witnesses (edgesBelow to m) S classForest live child other
       unfolding classForest
       witnesses = record {
-        still = λ a i. w .still (t a) (named a i);
+        still = λ a i. w .still (t a) (actives-live a i);
         wit = λ c s z. let (p, q) = holds-in c (live c) (w .witness Holds holds-up holds-first c (seen-in n pos c s .0) z) in (live c - 1, act-in (live c - 1) p, q);
-        one = λ c s z. let (k, _, a) = w .one c (seen-in n pos c s .0) z in (child-class c (kid c - 1) k, a);
+        one = λ c s z. let (k, _, a) = w .one c (seen-in n pos c s .0) z in (child-class c (child c - 1) k, a);
         two = λ c s z. let (k, _, a, ne, nz) = w .two c (seen-in n pos c s .0) z in (child-class c (other c - 1) k, a, ne, nz);
         all = λ c x s k a. let h = class-child c x k in let (p, _, r) = w .all c x (seen-in n pos c s .0) h (h .seen) a in (p, r);
       }

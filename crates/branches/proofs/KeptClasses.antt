@@ -23,12 +23,12 @@ module _ (E : List Edge) (S : List ℕ) (T : ClassForest E S) where
   open ClassForest T using (seen, root, par, top, pos, below)
 
   -- live t is not 0 where an active node is at or below the class t; kid t and other t are one more than two of its live children, where there are two
-  pub record Witnesses (live kid other : ℕ → ℕ) : Type 0 where
+  pub record Witnesses (live child other : ℕ → ℕ) : Type 0 where
     pub still : (a : ℕ) → List·Memᴰ a S → ¬ (live (top a) ≡ 0)
     pub wit : (t : ℕ) → seen t ≡ true → ¬ (live t ≡ 0) → (a : ℕ) × List·Memᴰ a S × (below t a ≡ true)
-    pub one : (t : ℕ) → seen t ≡ true → ¬ (kid t ≡ 0) → ChildClass E S T t (kid t - 1) × ¬ (live (kid t - 1) ≡ 0)
-    pub two : (t : ℕ) → seen t ≡ true → ¬ (other t ≡ 0) → ChildClass E S T t (other t - 1) × ¬ (live (other t - 1) ≡ 0) × ¬ (other t ≡ kid t) × ¬ (kid t ≡ 0)
-    pub all : (t c : ℕ) → seen t ≡ true → ChildClass E S T t c → ¬ (live c ≡ 0) → ¬ (live t ≡ 0) × ((c + 1 ≡ kid t) ⊎ ¬ (other t ≡ 0))
+    pub one : (t : ℕ) → seen t ≡ true → ¬ (child t ≡ 0) → ChildClass E S T t (child t - 1) × ¬ (live (child t - 1) ≡ 0)
+    pub two : (t : ℕ) → seen t ≡ true → ¬ (other t ≡ 0) → ChildClass E S T t (other t - 1) × ¬ (live (other t - 1) ≡ 0) × ¬ (other t ≡ child t) × ¬ (child t ≡ 0)
+    pub all : (t c : ℕ) → seen t ≡ true → ChildClass E S T t c → ¬ (live c ≡ 0) → ¬ (live t ≡ 0) × ((c + 1 ≡ child t) ⊎ ¬ (other t ≡ 0))
 
   -- the class above comes before
   above-position : (x : ℕ) → seen x ≡ true → root x ≡ false → pos (top (par x)) < pos x
@@ -40,7 +40,7 @@ module _ (E : List Edge) (S : List ℕ) (T : ClassForest E S) where
   below-up : (z c : ℕ) → seen z ≡ true → top z ≡ z → seen c ≡ true → root c ≡ false → ¬ (c ≡ z) → below z c ≡ below z (top (par c))
   below-up z c sz tz s r ne = T .below-parent z c s r ne ∙ below-class E S T z (par c) sz tz (T .par-seen c s r)
 
-  module _ {live kid other : ℕ → ℕ} (W : Witnesses live kid other) where
+  module _ {live child other : ℕ → ℕ} (W : Witnesses live child other) where
     live-up : (n c x : ℕ) → pos x < n → seen x ≡ true → top x ≡ x → ¬ (live x ≡ 0) → seen c ≡ true → top c ≡ c → below c x ≡ true → ¬ (live c ≡ 0)
     live-up zero c x l s t a sc tc h = absurd (omega arith)
     live-up (suc n) c x l s t a sc tc h =
@@ -49,7 +49,7 @@ module _ (E : List Edge) (S : List ℕ) (T : ClassForest E S) where
         let sp = T .par-seen x s r in
         let y = top (par x) in
         let sy = T .top-seen (par x) sp in
-        let k : ChildClass E S T y x = record { on = s; is-top = t; no-root = r; hangs = refl } in
+        let k : ChildClass E S T y x = record { on = s; is-top = t; no-root = r; under = refl } in
         live-up n c y (omega (arith, above-position x s r)) sy (T .top-top (par x) sp) (W .all y x sy k a .0) sc tc (sym (below-up c x sc tc s r ne) ∙ h)
 
     pub live-active : (c a : ℕ) → seen c ≡ true → top c ≡ c → List·Memᴰ a S → below c a ≡ true → ¬ (live c ≡ 0)
@@ -63,8 +63,8 @@ module _ (E : List Edge) (S : List ℕ) (T : ClassForest E S) where
         let (k, a, ne, nz) = W .two c sc o in
         let (l, b) = W .one c sc nz in
         let (x, mx, hx) = W .wit (other c - 1) (k .on) a in
-        let (y, my, hy) = W .wit (kid c - 1) (l .on) b in
-        branches-kept E S T c sc tc (other c - 1) (kid c - 1) x y k l (λ e. ne (omega arith)) mx my hx hy
+        let (y, my, hy) = W .wit (child c - 1) (l .on) b in
+        branches-kept E S T c sc tc (other c - 1) (child c - 1) x y k l (λ e. ne (omega arith)) mx my hx hy
 
     pub kept-other : (c : ℕ) → seen c ≡ true → top c ≡ c → ((a : ℕ) → List·Memᴰ a S → ¬ (top a ≡ c)) → Kept E S c → ¬ (other c ≡ 0)
     kept-other c sc tc no-act k z =

@@ -18,20 +18,20 @@ module _ {n seen i v : ℕ} {ord pos par te top nr near : ℕ → ℕ} (g : Tree
   -- a node up to place i + 1 is v, or up to i
   early : (c : ℕ) → c < n → 0 < pos c → pos c ≤ i + 1 → ¬ (c ≡ v) → pos c ≤ i
   early c l p b ne =
-      let far : ¬ (pos c ≡ i + 1) = λ e. ne (sym (g .spot c l p .1) ∙ ap (λ k. ord (k - 1)) (e ∙ sym at) ∙ g .spot v fit (omega arith) .1) in
+      let far : ¬ (pos c ≡ i + 1) = λ e. ne (sym (g .place-of c l p .1) ∙ ap (λ k. ord (k - 1)) (e ∙ sym at) ∙ g .place-of v fit (omega arith) .1) in
       omega arith
 
   pub nearest-skip : ¬ (top v ≡ v) → NearestNumbers n (i + 1) pos par te top nr near
   nearest-skip ne = record {
-    own = λ c l p b t. s .own c l p (early c l p b (λ e. ne (ap top (sym e) ∙ t ∙ e))) t;
+    numbered = λ c l p b t. s .numbered c l p (early c l p b (λ e. ne (ap top (sym e) ∙ t ∙ e))) t;
     up = λ c l p b t. s .up c l p (early c l p b (λ e. ne (ap top (sym e) ∙ t ∙ e))) t;
   }
 
   pub nearest-put : (y : ℕ) → (¬ (nr v ≡ 0) → y ≡ nr v) → (nr v ≡ 0 → y ≡ near (top (par v))) → NearestNumbers n (i + 1) pos par te top nr (update near v y)
-  nearest-put y own up = record {
-    own = update-at (λ c x. c < n → 0 < pos c → pos c ≤ i + 1 → top c ≡ c → ¬ (nr c ≡ 0) → x ≡ nr c) near v y
-        (λ _ _ _ _. own)
-        (λ c ne l p b. s .own c l p (early c l p b ne));
+  nearest-put y numbered up = record {
+    numbered = update-at (λ c x. c < n → 0 < pos c → pos c ≤ i + 1 → top c ≡ c → ¬ (nr c ≡ 0) → x ≡ nr c) near v y
+        (λ _ _ _ _. numbered)
+        (λ c ne l p b. s .numbered c l p (early c l p b ne));
     up = update-at (λ c x. c < n → 0 < pos c → pos c ≤ i + 1 → top c ≡ c → ¬ (te c ≡ 0) → nr c ≡ 0 → x ≡ update near v y (top (par c))) near v y
         (λ l p b t h z. up z ∙ sym (stays v l p b h))
         (λ c ne l p b t h z. s .up c l p (early c l p b ne) t h z ∙ sym (stays c l p b h));
@@ -45,19 +45,19 @@ module _ {n v : ℕ} {a : List ℕ} (g : CanNearest n a v) where
   pub nearest-number : {x : ℕ} {b : List ℕ} → x ≡ node 10 a v → ¬ (x ≡ 0) → Put 7 v x a b → NearestStep n v a b
   nearest-number {x} ex ne p = inr (record {
     value = x;
-    own = λ _. ex;
+    numbered = λ _. ex;
     up = λ z. absurd (ne (ex ∙ z));
     rest = only-put refl (g .fit) p;
-    nears = p .here;
+    nearest = p .here;
   })
 
   pub nearest-parent : {x p q y : ℕ} {b : List ℕ} → x ≡ node 10 a v → x ≡ 0 → p ≡ node 5 a v → q ≡ node 6 a p → y ≡ node 7 a q → Put 7 v y a b → NearestStep n v a b
   nearest-parent {x} {p} {q} {y} ex z ep eq ey s = inr (record {
     value = y;
-    own = λ ne. absurd (ne (sym ex ∙ z));
+    numbered = λ ne. absurd (ne (sym ex ∙ z));
     up = λ _. ey ∙ ap (node 7 a) (eq ∙ ap (node 6 a) ep);
     rest = only-put refl (g .fit) s;
-    nears = s .here;
+    nearest = s .here;
   })
 
   pub q-fits : {p q : ℕ} → p ≡ node 5 a v → q ≡ node 6 a p → q < n
@@ -66,7 +66,7 @@ module _ {n v : ℕ} {a : List ℕ} (g : CanNearest n a v) where
 pub nearest-none : {n seen : ℕ} {a : List ℕ} → CanNearestAll n seen a → NearestLoop n a 0 a
 nearest-none {n} {a = a} g = record {
   rest = only-none n a;
-  lifts = record { own = λ c l p b. absurd (omega arith); up = λ c l p b. absurd (omega arith) };
+  nearest = record { numbered = λ c l p b. absurd (omega arith); up = λ c l p b. absurd (omega arith) };
 }
 
 module _ {n seen i v : ℕ} {a w : List ℕ} (g : CanNearestAll n seen a) (s : NearestLoop n a i w) (l : i < seen) (ev : v ≡ node 3 w i) where
@@ -90,11 +90,11 @@ module _ {n seen i v : ℕ} {a w : List ℕ} (g : CanNearestAll n seen a) (s : N
 
   pub nearest-more : {w′ : List ℕ} → NearestStep n v w w′ → NearestLoop n a (i + 1) w′
   nearest-more {w′} = ⊎-elim
-      (λ (e, ne). rw e (record { rest = s .rest; lifts = nearest-skip (g .tree) (s .lifts) v-fits v-at (rw (keep 6 (omega arith) refl) at ne) }))
+      (λ (e, ne). rw e (record { rest = s .rest; nearest = nearest-skip (g .tree) (s .nearest) v-fits v-at (rw (keep 6 (omega arith) refl) at ne) }))
       (λ f. record {
         rest = only-then (s .rest) (f .rest);
-        lifts = rw (f .nears) (nearest-put (g .tree) (s .lifts) v-fits v-at (f .value)
-            (rw (keep 10 (omega arith) refl) at (f .own)) (rw (keep 10 (omega arith) refl, keep 6 (omega arith) refl, keep 5 (omega arith) refl) at (f .up)));
+        nearest = rw (f .nearest) (nearest-put (g .tree) (s .nearest) v-fits v-at (f .value)
+            (rw (keep 10 (omega arith) refl) at (f .numbered)) (rw (keep 10 (omega arith) refl, keep 6 (omega arith) refl, keep 5 (omega arith) refl) at (f .up)));
       })
 
 -- ---- right above
@@ -109,7 +109,7 @@ module _ {n x : ℕ} {a : List ℕ} (g : CanParent n a x) {v t e : ℕ} (ev : v 
   t-fits = rw t-is (g .top-fit)
 
   pub parent-none : {b : List ℕ} → e ≡ 0 → Put 9 x 0 a b → SetParent n x a b
-  parent-none z p = record { value = 0; none = λ _. refl; some = λ ne. absurd (ne (sym e-is ∙ z)); rest = only-put refl (g .fit) p; ups = p .here }
+  parent-none z p = record { value = 0; none = λ _. refl; some = λ ne. absurd (ne (sym e-is ∙ z)); rest = only-put refl (g .fit) p; parents = p .here }
 
   module _ {p q : ℕ} (ep : p ≡ node 5 a t) (eq : q ≡ node 6 a p) where
     p-is : p ≡ node 5 a (node 6 a (node 11 a x))
@@ -127,14 +127,14 @@ module _ {n x : ℕ} {a : List ℕ} (g : CanParent n a x) {v t e : ℕ} (ev : v 
       none = λ z. absurd (ne (e-is ∙ z));
       some = λ _. ey ∙ ap (node 7 a) q-is;
       rest = only-put refl (g .fit) s;
-      ups = s .here;
+      parents = s .here;
     }
 
   pub p-fits : {p : ℕ} → p ≡ node 5 a t → p < n
   p-fits ep = rw (ep, t-is) (g .par-fit)
 
 pub parents-none : {n h : ℕ} {a : List ℕ} → CanParents n h a → ParentLoop n a 0 a
-parents-none {n} {a = a} g = record { rest = only-none n a; raises = record { none = λ x l. absurd (omega arith); some = λ x l. absurd (omega arith) } }
+parents-none {n} {a = a} g = record { rest = only-none n a; parents = record { none = λ x l. absurd (omega arith); some = λ x l. absurd (omega arith) } }
 
 module _ {n h x : ℕ} {a w : List ℕ} (g : CanParents n h a) (s : ParentLoop n a x w) (l : x < h) where
   hold : (j : ℕ) → j < 16 → member (9 ∷ []) j ≡ false → node j w ≡ node j a
@@ -163,13 +163,13 @@ module _ {n h x : ℕ} {a w : List ℕ} (g : CanParents n h a) (s : ParentLoop n
   pub parents-more : {w′ : List ℕ} → SetParent n x w w′ → ParentLoop n a (x + 1) w′
   parents-more {w′} f = record {
     rest = only-then (s .rest) (f .rest);
-    raises = rw (f .ups) (record {
+    parents = rw (f .parents) (record {
       none = update-at (λ u y. u < x + 1 → node 13 a (node 6 a (node 11 a u)) ≡ 0 → y ≡ 0) (node 9 w) x (f .value)
           (λ _. rw (h11, h6, hold 13 (omega arith) refl) at (f .none))
-          (λ u ne b. s .raises .none u (omega arith));
+          (λ u ne b. s .parents .none u (omega arith));
       some = update-at (λ u y. u < x + 1 → ¬ (node 13 a (node 6 a (node 11 a u)) ≡ 0) → y ≡ node 7 a (node 6 a (node 5 a (node 6 a (node 11 a u))))) (node 9 w) x (f .value)
           (λ _. rw (h11, h6, h5, hold 7 (omega arith) refl, hold 13 (omega arith) refl) at (f .some))
-          (λ u ne b. s .raises .some u (omega arith));
+          (λ u ne b. s .parents .some u (omega arith));
     });
   }
 

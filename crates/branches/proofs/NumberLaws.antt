@@ -18,7 +18,7 @@ use Rattle.words.specs.Fields.{Put, node, update}
 -- ---- fields that stay
 -- ---- numbers, over functions
 pub numbers-none : {n : ℕ} {top nr rep : ℕ → ℕ} → ((v : ℕ) → v < n → nr v ≡ 0) → Numbers n 0 top nr rep
-numbers-none {n} {nr = nr} z = record { count = count-none nr n z; place = λ i l. absurd (omega arith); spot = λ c l ne. absurd (ne (z c l)) }
+numbers-none {n} {nr = nr} z = record { count = count-none nr n z; place = λ i l. absurd (omega arith); place-of = λ c l ne. absurd (ne (z c l)) }
 
 pub numbers-less : {n h : ℕ} {top nr rep : ℕ → ℕ} (t : ℕ) → Numbers n h top nr rep → t < n → nr t ≡ 0 → h < n
 numbers-less {n} {nr = nr} t g l z = omega (arith, count-less nr n t l z, g .count)
@@ -39,17 +39,17 @@ module _ {n h : ℕ} {top nr rep : ℕ → ℕ} (v : ℕ) (g : Numbers n h top n
         (λ i ne l.
         let (p, q) = g .place i (omega arith) in
         (p, update-stays nr (top v) (h + 1) (top (rep i)) new (λ z. omega arith) ∙ q));
-    spot = update-at (λ c y. c < n → ¬ (y ≡ 0) → (y ≤ h + 1) × (top (update rep h v (y - 1)) ≡ c)) nr (top v) (h + 1)
+    place-of = update-at (λ c y. c < n → ¬ (y ≡ 0) → (y ≤ h + 1) × (top (update rep h v (y - 1)) ≡ c)) nr (top v) (h + 1)
         (λ _ _. let e : h + 1 - 1 ≡ h = omega arith in (omega arith, ap (λ i. top (update rep h v i)) e ∙ ap top (update-same rep h v)))
         (λ c ne l nz.
-        let (p, q) = g .spot c l nz in
+        let (p, q) = g .place-of c l nz in
         (omega arith, ap top (update-other rep h v (nr c - 1) (λ e. omega arith)) ∙ q));
   }
 
 -- ---- active classes
 pub active-none : {n : ℕ} {act top nr rep live : ℕ → ℕ} → ((v : ℕ) → v < n → (nr v ≡ 0) × (live v ≡ 0)) → ActiveNumbers n 0 0 act top nr rep live
 active-none z = record {
-  names = numbers-none (λ v l. z v l .0);
+  numbers = numbers-none (λ v l. z v l .0);
   done = λ j l. absurd (omega arith);
   some = λ c l ne. absurd (ne (z c l .1));
   alive = λ c l ne. absurd (ne (z c l .0));
@@ -64,25 +64,25 @@ module _ {n i h : ℕ} {act top nr rep live : ℕ → ℕ} (g : ActiveNumbers n 
       (λ q.
       let p = ltb-true 1 y q in
       let (j, l, e) = g .reps (y - 2) (omega arith) in
-      let r : nr (top (act j)) ≡ y - 2 + 1 = ap (λ u. nr (top u)) (sym e) ∙ g .names .place (y - 2) (omega arith) .1 in
+      let r : nr (top (act j)) ≡ y - 2 + 1 = ap (λ u. nr (top u)) (sym e) ∙ g .numbers .place (y - 2) (omega arith) .1 in
       inr (j, l, omega arith))
       (λ q. inl (omega (arith, ltb-false 1 y q)))
 
   pub active-skip : ¬ (nr (top (act i)) ≡ 0) → ActiveNumbers n (i + 1) h act top nr rep live
   active-skip old = record {
-    names = g .names;
+    numbers = g .numbers;
     done = λ j l. onBool (eqb j i) (λ q. subst (λ (u : ℕ). ¬ (nr (top (act u)) ≡ 0)) (sym (eqb-true j i q)) old) (λ q. let ne : ¬ (j ≡ i) = eqb-false j i q in g .done j (omega arith));
     some = λ c l a. let (j, p, e, t) = g .some c l a in (j, omega arith, e, t);
     alive = g .alive;
     reps = λ x l. let (j, p, e) = g .reps x l in (j, omega arith, e);
     order = λ j l. onBool (eqb j i)
-        (λ q. subst (λ (u : ℕ). Prior (λ j. nr (top (act j))) u) (sym (eqb-true j i q)) (after (nr (top (act i))) (omega (arith, g .names .spot (top (act i)) top-fit old .0))))
+        (λ q. subst (λ (u : ℕ). Prior (λ j. nr (top (act j))) u) (sym (eqb-true j i q)) (after (nr (top (act i))) (omega (arith, g .numbers .place-of (top (act i)) top-fit old .0))))
         (λ q. let ne : ¬ (j ≡ i) = eqb-false j i q in g .order j (omega arith));
   }
 
   pub active-new : nr (top (act i)) ≡ 0 → ActiveNumbers n (i + 1) (h + 1) act top (update nr (top (act i)) (h + 1)) (update rep h (act i)) (update live (top (act i)) (act i + 1))
   active-new new = record {
-    names = numbers-more (act i) (g .names) fit top-fit new;
+    numbers = numbers-more (act i) (g .numbers) fit top-fit new;
     done = λ j l. onBool (eqb j i)
         (λ q. subst (λ (u : ℕ). ¬ (update nr (top (act i)) (h + 1) (top (act u)) ≡ 0)) (sym (eqb-true j i q)) (λ z. let y : h + 1 ≡ 0 = sym (update-same nr (top (act i)) (h + 1)) ∙ z in omega arith))
         (λ q. let ne : ¬ (j ≡ i) = eqb-false j i q in update-some nr (top (act i)) (h + 1) (top (act j)) (λ z. omega arith) (g .done j (omega arith)));
@@ -109,7 +109,7 @@ module _ {n i h : ℕ} {act top nr rep live : ℕ → ℕ} (g : ActiveNumbers n 
 -- ---- the other classes
 pub other-none : {n h : ℕ} {pos top other nr rep : ℕ → ℕ} → Numbers n h top nr rep → OtherNumbers n h 0 h pos top other nr nr rep rep
 other-none g = record {
-  names = g;
+  numbers = g;
   more = omega arith;
   still = λ c a. refl;
   old = λ i l. refl;
@@ -122,7 +122,7 @@ other-none g = record {
 module _ {n h₀ v h : ℕ} {pos top other nr₀ nr rep₀ rep : ℕ → ℕ} (g : OtherNumbers n h₀ v h pos top other nr₀ nr rep₀ rep) where
   pub other-skip : (¬ (pos v ≡ 0) → ¬ (other (top v) ≡ 0) → ¬ (nr (top v) ≡ 0)) → OtherNumbers n h₀ (v + 1) h pos top other nr₀ nr rep₀ rep
   other-skip old = record {
-    names = g .names;
+    numbers = g .numbers;
     more = g .more;
     still = g .still;
     old = g .old;
@@ -134,7 +134,7 @@ module _ {n h₀ v h : ℕ} {pos top other nr₀ nr rep₀ rep : ℕ → ℕ} (g
 
   pub other-new : v < n → top v < n → ¬ (pos v ≡ 0) → ¬ (other (top v) ≡ 0) → nr (top v) ≡ 0 → OtherNumbers n h₀ (v + 1) (h + 1) pos top other nr₀ (update nr (top v) (h + 1)) rep₀ (update rep h v)
   other-new fit top-fit seen two new = record {
-    names = numbers-more v (g .names) fit top-fit new;
+    numbers = numbers-more v (g .numbers) fit top-fit new;
     more = omega (arith, g .more);
     still = λ c a. let e = g .still c a in update-stays nr (top v) (h + 1) c new (λ z. a (sym e ∙ z)) ∙ e;
     old = λ i l. update-other rep h v i (λ e. omega (arith, g .more)) ∙ g .old i l;
@@ -167,7 +167,7 @@ module _ {n h₀ v h : ℕ} {pos top other nr₀ nr rep₀ rep : ℕ → ℕ} (g
 pub assigned : {n h v t : ℕ} {a b c : List ℕ} → CanAssign n h a v t → Put 11 h v a b → Put 10 t (h + 1) b c → Assigned n h v t a c
 assigned {n} {h} {v} {t} g p q = record {
   rest = only-then (only-put refl (g .less) p) (only-put refl (g .top-fit) q);
-  nrs = q .here ∙ ap (λ f. update f t (h + 1)) (p .else 10 (omega arith) (λ e. omega arith));
+  numbers = q .here ∙ ap (λ f. update f t (h + 1)) (p .else 10 (omega arith) (λ e. omega arith));
   reps = q .else 11 (omega arith) (λ e. omega arith) ∙ p .here;
 }
 
@@ -176,7 +176,7 @@ module _ {n h v : ℕ} {a : List ℕ} (g : CanNumber n h a v) {t x : ℕ} (et : 
   new-is z = ap (node 10 a) (sym et) ∙ sym ex ∙ z
 
   pub room-more : x ≡ 0 → h < n
-  room-more z = numbers-less (node 6 a v) (g .names) (g .top-fit) (new-is z)
+  room-more z = numbers-less (node 6 a v) (g .numbers) (g .top-fit) (new-is z)
 
   pub can-assign : x ≡ 0 → CanAssign n h a v t
   can-assign z = record { few = g .few; room = g .room; less = room-more z; fit = g .fit; top-fit = rw et (g .top-fit) }
@@ -189,7 +189,7 @@ module _ {n h v : ℕ} {a : List ℕ} (g : CanNumber n h a v) {t x : ℕ} (et : 
     new = new-is z;
     more = refl;
     rest = only-then (only-more (10 ∷ 11 ∷ []) refl (m .rest)) (only-put refl (can-assign z .top-fit) p);
-    nrs = p .else 10 (omega arith) (λ e. omega arith) ∙ m .nrs ∙ ap (λ i. update (node 10 a) i (h + 1)) et;
+    numbers = p .else 10 (omega arith) (λ e. omega arith) ∙ m .numbers ∙ ap (λ i. update (node 10 a) i (h + 1)) et;
     reps = p .else 11 (omega arith) (λ e. omega arith) ∙ m .reps;
     lives = p .here ∙ ap (λ f. update f t (v + 1)) (m .rest .nodes 7 (omega arith) refl) ∙ ap (λ i. update (node 7 a) i (v + 1)) et;
   })
@@ -205,7 +205,7 @@ module _ {n h v : ℕ} {a : List ℕ} (g : CanNumber n h a v) {t x : ℕ} (et : 
 
 module _ {n k : ℕ} {a : List ℕ} (g : CanNumberActives n k a) where
   pub actives-none : NumberingActives n k a 0 0 a
-  actives-none = record { rest = only-none n a; acts = active-none (g .none) }
+  actives-none = record { rest = only-none n a; actives = active-none (g .none) }
 
   module _ {i h v : ℕ} {w : List ℕ} (s : NumberingActives n k a i h w) (l : i < k) (ev : v ≡ node 1 w i) where
     v-is : v ≡ node 1 a i
@@ -218,22 +218,22 @@ module _ {n k : ℕ} {a : List ℕ} (g : CanNumberActives n k a) where
     actives-can = record {
       few = g .few;
       room = rw (s .rest .same) (g .room);
-      names = rw e6 (s .acts .names);
+      numbers = rw e6 (s .actives .numbers);
       fit = rw v-is (g .active i l);
       top-fit = rw (e6, v-is) (g .top-fit (node 1 a i) (g .active i l));
     }
 
     pub actives-more : {w′ : List ℕ} {h′ : ℕ} → ActiveStep n h v w w′ h′ → NumberingActives n k a (i + 1) h′ w′
     actives-more {w′} {h′} = ⊎-elim
-        (λ (e, eh, old). rw (e, eh) (record { rest = s .rest; acts = active-skip (s .acts) (g .active i l) (g .top-fit (node 1 a i) (g .active i l)) (rw (e6, v-is) at old) }))
+        (λ (e, eh, old). rw (e, eh) (record { rest = s .rest; actives = active-skip (s .actives) (g .active i l) (g .top-fit (node 1 a i) (g .active i l)) (rw (e6, v-is) at old) }))
         (λ f. rw (f .more) (record {
           rest = only-then (s .rest) (f .rest);
-          acts = rw (f .nrs, f .reps, f .lives, e6, v-is) (active-new (s .acts) (g .active i l) (g .top-fit (node 1 a i) (g .active i l)) (rw (e6, v-is) at (f .new)));
+          actives = rw (f .numbers, f .reps, f .lives, e6, v-is) (active-new (s .actives) (g .active i l) (g .top-fit (node 1 a i) (g .active i l)) (rw (e6, v-is) at (f .new)));
         }))
 
 module _ {n h₀ : ℕ} {a : List ℕ} (g : CanNumberOthers n h₀ a) where
   pub others-none : NumberingOthers n h₀ a 0 h₀ a
-  others-none = record { rest = only-none n a; rests = other-none (g .names) }
+  others-none = record { rest = only-none n a; others = other-none (g .numbers) }
 
   module _ {v h : ℕ} {w : List ℕ} (s : NumberingOthers n h₀ a v h w) (l : v < n) where
     f4 : node 4 w ≡ node 4 a
@@ -246,12 +246,12 @@ module _ {n h₀ : ℕ} {a : List ℕ} (g : CanNumberOthers n h₀ a) where
     f9 = s .rest .nodes 9 (omega arith) refl
 
     pub others-can : CanNumber n h w v
-    others-can = record { few = g .few; room = rw (s .rest .same) (g .room); names = rw f6 (s .rests .names); fit = l; top-fit = rw f6 (g .top-fit v l) }
+    others-can = record { few = g .few; room = rw (s .rest .same) (g .room); numbers = rw f6 (s .others .numbers); fit = l; top-fit = rw f6 (g .top-fit v l) }
 
     pub others-more : {w′ : List ℕ} {h′ : ℕ} → OtherStep n h v w w′ h′ → NumberingOthers n h₀ a (v + 1) h′ w′
     others-more {w′} {h′} = ⊎-elim
-        (λ (e, eh, old). rw (e, eh) (record { rest = s .rest; rests = other-skip (s .rests) (rw (f4, f6, f9) at old) }))
+        (λ (e, eh, old). rw (e, eh) (record { rest = s .rest; others = other-skip (s .others) (rw (f4, f6, f9) at old) }))
         (λ f. rw (f .more) (record {
           rest = only-then (s .rest) (f .is .rest);
-          rests = rw (f .is .nrs, f .is .reps, f6) (other-new (s .rests) l (g .top-fit v l) (rw f4 at (f .seen)) (rw (f6, f9) at (f .two)) (rw f6 at (f .new)));
+          others = rw (f .is .numbers, f .is .reps, f6) (other-new (s .others) l (g .top-fit v l) (rw f4 at (f .seen)) (rw (f6, f9) at (f .two)) (rw f6 at (f .new)));
         }))

@@ -25,10 +25,10 @@ forest-small {E} {S} {h} {ρ} {σ} {up} {H} s l = record {
   place = s .place;
   order = s .order;
   ascends = l .ascends;
-  edge = λ i j m. let e = l .edge i j m in (e .0, e .1, tied i j (omega (arith, e .0, e .1)) (e .1) (e .2));
+  edge = λ i j m. let e = l .edge i j m in (e .0, e .1, pair-linked i j (omega (arith, e .0, e .1)) (e .1) (e .2));
   linked = λ i j p q k. l .listed i j p q (s .back i j (omega arith) q (λ e. omega arith) k);
 }
   where
-    tied : (i j : ℕ) → i < h → j < h → ParentPair up i j → Linked E h ρ i j
-    tied i j p q (inl e) = s .link i j p q e
-    tied i j p q (inr e) = linked-flip E h ρ j i (s .link j i q p e)
+    pair-linked : (i j : ℕ) → i < h → j < h → ParentPair up i j → Linked E h ρ i j
+    pair-linked i j p q (inl e) = s .link i j p q e
+    pair-linked i j p q (inr e) = linked-flip E h ρ j i (s .link j i q p e)

@@ -55,14 +55,14 @@ table-order σ act f s (suc c) j b nz pr low =
     lows : (b′ : ℕ) → b ≤ b′ → f j ≤ b′ → (i : ℕ) → i < suc j → f i ≤ b′
     lows b′ p q i l = onBool (eqb i j) (λ e. omega (arith, ap f (eqb-true i j e))) (λ e. let ne : ¬ (i ≡ j) = eqb-false i j e in omega (arith, low i (omega arith)))
 
-module _ {n m k seen h₀ h : ℕ} {to pos par te root top mark act nr₀ rep₀ live₀ live kid other nr rep near up : ℕ → ℕ}
+module _ {n m k seen h₀ h : ℕ} {to pos par te root top mark act nr₀ rep₀ live₀ live child other nr rep near up : ℕ → ℕ}
     (f : Forest n m to pos par te root) (g : FinalTops n m to pos par te top)
     (marks : (v : ℕ) → v < n → 0 < mark v → (j : ℕ) × (j < k) × (act j ≡ v))
     (marked : (u : ℕ) → u < n → 0 < pos u → 0 < mark (root u))
-    (acts : (j : ℕ) → j < k → (act j < n) × (0 < mark (act j)))
+    (actives : (j : ℕ) → j < k → (act j < n) × (0 < mark (act j)))
     (have : (j : ℕ) → j < k → 0 < pos (act j))
     (low : (u : ℕ) → u < n → 0 < pos u → pos u ≤ seen)
-    (A : ActiveNumbers n k h₀ act top nr₀ rep₀ live₀) (K : Branches n pos par te top live₀ live kid other 0) (R : OtherNumbers n h₀ n h pos top other nr₀ nr rep₀ rep)
+    (A : ActiveNumbers n k h₀ act top nr₀ rep₀ live₀) (K : Branches n pos par te top live₀ live child other 0) (R : OtherNumbers n h₀ n h pos top other nr₀ nr rep₀ rep)
     (L : NearestNumbers n seen pos par te top nr near) (U : ParentNumbers h par te top near rep up) where
   abbrev E : List Edge
   E = edgesBelow to m
@@ -77,7 +77,7 @@ module _ {n m k seen h₀ h : ℕ} {to pos par te root top mark act nr₀ rep₀
   in-act j l = table-at act k 0 j (omega arith) (omega arith)
 
   active : (a : ℕ) → List·Memᴰ a S → (a < n) × (0 < pos a)
-  active a i = let (j, l, e) = is-act a i in (subst (λ (v : ℕ). v < n) (sym e) (acts j l .0), subst (λ (v : ℕ). 0 < pos v) (sym e) (have j l))
+  active a i = let (j, l, e) = is-act a i in (subst (λ (v : ℕ). v < n) (sym e) (actives j l .0), subst (λ (v : ℕ). 0 < pos v) (sym e) (have j l))
 
   marked-in : (v : ℕ) → v < n → 0 < mark v → List·Memᴰ v S
   marked-in v l p = let (j, b, e) = marks v l p in subst (λ (v : ℕ). List·Memᴰ v S) e (in-act j b)
@@ -94,11 +94,11 @@ module _ {n m k seen h₀ h : ℕ} {to pos par te root top mark act nr₀ rep₀
   isAct : NodeSet
   isAct v = ltb v n && ltb 0 (mark v)
 
-  weights : Witnesses E S T live kid other
+  witnesses-of : Witnesses E S T live child other
   unfolding isAct
-  weights = witnesses f g S active rooted isAct
+  witnesses-of = witnesses f g S active rooted isAct
       (λ a t. and-elim (ltb a n) (ltb 0 (mark a)) t λ p q. marked-in a (ltb-true a n p) (ltb-true 0 (mark a) q))
-      (λ a i. let (j, l, e) = is-act a i in subst (λ (v : ℕ). (ltb v n && ltb 0 (mark v)) ≡ true) (sym e) (ap₂ _&&_ (lt-ltb (act j) n (acts j l .0)) (lt-ltb 0 (mark (act j)) (acts j l .1))))
+      (λ a i. let (j, l, e) = is-act a i in subst (λ (v : ℕ). (ltb v n && ltb 0 (mark v)) ≡ true) (sym e) (ap₂ _&&_ (lt-ltb (act j) n (actives j l .0)) (lt-ltb 0 (mark (act j)) (actives j l .1))))
       (λ c l z. let (j, b, e, t) = A .some c l z in let x : live₀ c - 1 ≡ act j = omega arith in (subst (λ (v : ℕ). List·Memᴰ v S) (sym x) (in-act j b), ap top x ∙ t))
       (λ a i. let (j, l, e) = is-act a i in A .alive (top a) (g .tops .fit a (active a i .0)) (subst (λ (v : ℕ). ¬ (nr₀ (top v) ≡ 0)) (sym e) (A .done j l)))
       K
@@ -111,7 +111,7 @@ module _ {n m k seen h₀ h : ℕ} {to pos par te root top mark act nr₀ rep₀
   unfolding classForest
   kept-nr z l p t q = onBool (eqb (nr₀ z) 0)
       (λ e.
-      let o = kept-other E S T weights z (seen-is n pos z l p) t (λ a i x. act-nr a i (ap nr₀ x ∙ eqb-true (nr₀ z) 0 e)) q in
+      let o = kept-other E S T witnesses-of z (seen-is n pos z l p) t (λ a i x. act-nr a i (ap nr₀ x ∙ eqb-true (nr₀ z) 0 e)) q in
       subst (λ (v : ℕ). ¬ (nr v ≡ 0)) t (R .done z l (λ y. omega arith) (λ y. o (sym (ap other t) ∙ y))))
       (λ e. let ne : ¬ (nr₀ z ≡ 0) = eqb-false (nr₀ z) 0 e in λ y. ne (sym (R .still z ne) ∙ y))
 
@@ -122,7 +122,7 @@ module _ {n m k seen h₀ h : ℕ} {to pos par te root top mark act nr₀ rep₀
   rep-on : (i : ℕ) → i < h → (rep i < n) × (0 < pos (rep i))
   rep-on i l = onBool (ltb i h₀)
       (λ q. active (rep i) (rep-act i (ltb-true i h₀ q)))
-      (λ q. (R .names .place i l .0, let ne = R .late i (omega (arith, ltb-false i h₀ q)) l .1 in omega arith))
+      (λ q. (R .numbers .place i l .0, let ne = R .late i (omega (arith, ltb-false i h₀ q)) l .1 in omega arith))
 
   rep-kept : (i : ℕ) → i < h → Kept E S (top (rep i))
   unfolding classForest
@@ -131,7 +131,7 @@ module _ {n m k seen h₀ h : ℕ} {to pos par te root top mark act nr₀ rep₀
       let s = seen-is n pos (rep i) p q in
       onBool (ltb i h₀)
       (λ b. kept-class E S (top (rep i)) (rep i) (insep-sym E (T .top-two (rep i) s)) (kept-active E S (rep i) (rep-act i (ltb-true i h₀ b))))
-      (λ b. other-kept E S T weights (top (rep i)) (T .top-seen (rep i) s) (T .top-top (rep i) s) (R .late i (omega (arith, ltb-false i h₀ b)) l .2))
+      (λ b. other-kept E S T witnesses-of (top (rep i)) (T .top-seen (rep i) s) (T .top-top (rep i) s) (R .late i (omega (arith, ltb-false i h₀ b)) l .2))
 
   -- the nearest class with a number
   unfoldable NearAt : ℕ → Type 0
@@ -141,8 +141,8 @@ module _ {n m k seen h₀ h : ℕ} {to pos par te root top mark act nr₀ rep₀
   unfolding classForest NearAt
   near-own y l p t ne =
       let s = seen-is n pos y l p in
-      let (b, q) = R .names .spot y l ne in
-      let e : near y ≡ nr y = L .own y l p (low y l p) t ne in
+      let (b, q) = R .numbers .place-of y l ne in
+      let e : near y ≡ nr y = L .numbered y l p (low y l p) t ne in
       let c : nr y - 1 < h = omega arith in
       let k′ : Kept E S y = subst (λ (v : ℕ). Kept E S v) q (rep-kept (nr y - 1) c) in
       rw (e, q) (ne, c, nearest-self E S T y (record { on = s; is-top = t; kept = k′ }))
@@ -174,17 +174,17 @@ module _ {n m k seen h₀ h : ℕ} {to pos par te root top mark act nr₀ rep₀
   numbered = record {
     on = λ i l. let (p, q) = rep-on i l in seen-is n pos (rep i) p q;
     kept = rep-kept;
-    once = λ i j p q e. let a = R .names .place i p .1 in let b = R .names .place j q .1 in let c : nr (top (rep i)) ≡ nr (top (rep j)) = ap nr e in omega arith;
+    once = λ i j p q e. let a = R .numbers .place i p .1 in let b = R .numbers .place j q .1 in let c : nr (top (rep i)) ≡ nr (top (rep j)) = ap nr e in omega arith;
     all = λ z q.
         let (l, p) = seen-in n pos z (q .on) in
         let ne = kept-nr z l p (q .is-top) (q .kept) in
-        let (b, e) = R .names .spot z l ne in
+        let (b, e) = R .numbers .place-of z l ne in
         (nr z - 1, omega arith, e);
     place = λ a i.
         let (l, p) = active a i in
         let ne = act-nr a i in
         let nz : ¬ (nr (top a) ≡ 0) = λ z. ne (sym (R .still (top a) ne) ∙ z) in
-        let (b, e) = R .names .spot (top a) (g .tops .fit a l) nz in
+        let (b, e) = R .numbers .place-of (top a) (g .tops .fit a l) nz in
         (omega arith, e);
     order = table-order (λ v. nr (top v) - 1) act (λ j. nr (top (act j))) (λ i. refl) k 0 0
         (λ i l z. let ne = A .done i (omega arith) in ne (sym (R .still (top (act i)) ne) ∙ z))
@@ -219,7 +219,7 @@ module _ {n m k seen h₀ h : ℕ} {to pos par te root top mark act nr₀ rep₀
   -- numbers without an active node come from the second loop
   idle : (i : ℕ) → i < h → Idle S (λ v. nr (top v) - 1) i → h₀ ≤ i
   idle i l d = onBool (ltb i h₀)
-      (λ q. let e = R .names .place i l .1 in absurd (d (rep i) (rep-act i (ltb-true i h₀ q)) (omega arith)))
+      (λ q. let e = R .numbers .place i l .1 in absurd (d (rep i) (rep-act i (ltb-true i h₀ q)) (omega arith)))
       (λ q. omega (arith, ltb-false i h₀ q))
 
   pub small-canonical : Canonical E S h rep (λ v. nr (top v) - 1)

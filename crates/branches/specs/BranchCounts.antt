@@ -13,15 +13,15 @@ use Rattle.words.specs.Fields.{node, update}
 pub record Child (n : ℕ) (pos par te top : ℕ → ℕ) (t c : ℕ) : Type 0 where
   pub fit : c < n
   pub seen : 0 < pos c
-  pub own : top c ≡ c
-  pub hung : te c ≡ 0 → ⊥
+  pub is-top : top c ≡ c
+  pub has-edge : te c ≡ 0 → ⊥
   pub under : top (par c) ≡ t
 
 -- what is needed of the forest
 pub record TreeOrder (n seen : ℕ) (ord pos par te top : ℕ → ℕ) : Type 0 where
   pub less : seen ≤ n
   pub place : (i : ℕ) → i < seen → (ord i < n) × (pos (ord i) ≡ i + 1)
-  pub spot : (u : ℕ) → u < n → 0 < pos u → (pos u ≤ seen) × (ord (pos u - 1) ≡ u)
+  pub place-of : (u : ℕ) → u < n → 0 < pos u → (pos u ≤ seen) × (ord (pos u - 1) ≡ u)
   pub par-fit : (u : ℕ) → u < n → 0 < pos u → par u < n
   pub top-fit : (u : ℕ) → u < n → top u < n
   pub up : (u : ℕ) → u < n → 0 < pos u → (te u ≡ 0 → ⊥) → pos (top (par u)) < pos u
@@ -39,29 +39,29 @@ pub record CanReport (n : ℕ) (w : List ℕ) (v : ℕ) : Type 0 where
 pub record Reported (n v q : ℕ) (a b : List ℕ) : Type 0 where
   pub is : node 6 a (node 5 a v) ≡ q
   pub top : node 6 a v ≡ v
-  pub hung : node 13 a v ≡ 0 → ⊥
+  pub has-edge : node 13 a v ≡ 0 → ⊥
   pub live : node 7 a v ≡ 0 → ⊥
   pub rest : OnlyFields (7 ∷ 8 ∷ 9 ∷ []) n a b
   pub lives : node 7 b ≡ update (node 7 a) q (node 7 a v)
-  pub kids : node 8 b ≡ update (node 8 a) q (v + 1)
+  pub children : node 8 b ≡ update (node 8 a) q (v + 1)
   pub others : node 9 b ≡ update (node 9 a) q (node 8 a q)
 
 abbrev pub Report : ℕ → ℕ → List ℕ → List ℕ → Type 0
 Report n v a b = ((b ≡ a) × (node 6 a v ≡ v → (node 13 a v ≡ 0 → ⊥) → node 7 a v ≡ 0)) ⊎ Reported n v (node 6 a (node 5 a v)) a b
 
 -- those after place i have been told
-pub record Branches (n : ℕ) (pos par te top live₀ live kid other : ℕ → ℕ) (i : ℕ) : Type 0 where
+pub record Branches (n : ℕ) (pos par te top live₀ live child other : ℕ → ℕ) (i : ℕ) : Type 0 where
   -- a relation that goes up with the classes holds of each witness
   pub witness : (P : ℕ → ℕ → Bool) → ((t c x : ℕ) → Child n pos par te top t c → P c x ≡ true → P t x ≡ true) → ((t : ℕ) → t < n → (live₀ t ≡ 0 → ⊥) → P t (live₀ t) ≡ true)
       → (t : ℕ) → t < n → (live t ≡ 0 → ⊥) → P t (live t) ≡ true
   pub still : (t : ℕ) → (live₀ t ≡ 0 → ⊥) → live t ≡ 0 → ⊥
-  pub one : (t : ℕ) → t < n → (kid t ≡ 0 → ⊥) → Child n pos par te top t (kid t - 1) × (i < pos (kid t - 1)) × (live (kid t - 1) ≡ 0 → ⊥)
-  pub two : (t : ℕ) → t < n → (other t ≡ 0 → ⊥) → Child n pos par te top t (other t - 1) × (i < pos (other t - 1)) × (live (other t - 1) ≡ 0 → ⊥) × (other t ≡ kid t → ⊥) × (kid t ≡ 0 → ⊥)
-  pub all : (t c : ℕ) → t < n → Child n pos par te top t c → i < pos c → (live c ≡ 0 → ⊥) → (live t ≡ 0 → ⊥) × (kid t ≡ 0 → ⊥) × ((c + 1 ≡ kid t) ⊎ (other t ≡ 0 → ⊥))
+  pub one : (t : ℕ) → t < n → (child t ≡ 0 → ⊥) → Child n pos par te top t (child t - 1) × (i < pos (child t - 1)) × (live (child t - 1) ≡ 0 → ⊥)
+  pub two : (t : ℕ) → t < n → (other t ≡ 0 → ⊥) → Child n pos par te top t (other t - 1) × (i < pos (other t - 1)) × (live (other t - 1) ≡ 0 → ⊥) × (other t ≡ child t → ⊥) × (child t ≡ 0 → ⊥)
+  pub all : (t c : ℕ) → t < n → Child n pos par te top t c → i < pos c → (live c ≡ 0 → ⊥) → (live t ≡ 0 → ⊥) × (child t ≡ 0 → ⊥) × ((c + 1 ≡ child t) ⊎ (other t ≡ 0 → ⊥))
 
 pub record Counting (n seen : ℕ) (a : List ℕ) (i : ℕ) (w : List ℕ) : Type 0 where
   pub rest : OnlyFields (7 ∷ 8 ∷ 9 ∷ []) n a w
-  pub weigh : Branches n (node 4 a) (node 5 a) (node 13 a) (node 6 a) (node 7 a) (node 7 w) (node 8 w) (node 9 w) i
+  pub branches : Branches n (node 4 a) (node 5 a) (node 13 a) (node 6 a) (node 7 a) (node 7 w) (node 8 w) (node 9 w) i
 
 pub record CanCount (n seen : ℕ) (w : List ℕ) : Type 0 where
   pub few : n ≤ 65536

@@ -14,7 +14,7 @@ use Rattle.words.specs.Fields.{node, update}
 pub record Numbers (n h : ℕ) (top nr rep : ℕ → ℕ) : Type 0 where
   pub count : countNonzero nr n ≡ h
   pub place : (i : ℕ) → i < h → (rep i < n) × (nr (top (rep i)) ≡ i + 1)
-  pub spot : (c : ℕ) → c < n → ¬ (nr c ≡ 0) → (nr c ≤ h) × (top (rep (nr c - 1)) ≡ c)
+  pub place-of : (c : ℕ) → c < n → ¬ (nr c ≡ 0) → (nr c ≤ h) × (top (rep (nr c - 1)) ≡ c)
 
 abbrev pub NumbersAt : ℕ → ℕ → List ℕ → Type 0
 NumbersAt n h w = Numbers n h (node 6 w) (node 10 w) (node 11 w)
@@ -29,13 +29,13 @@ pub record CanAssign (n h : ℕ) (w : List ℕ) (v t : ℕ) : Type 0 where
 
 pub record Assigned (n h v t : ℕ) (a b : List ℕ) : Type 0 where
   pub rest : OnlyFields (10 ∷ 11 ∷ []) n a b
-  pub nrs : node 10 b ≡ update (node 10 a) t (h + 1)
+  pub numbers : node 10 b ≡ update (node 10 a) t (h + 1)
   pub reps : node 11 b ≡ update (node 11 a) h v
 
 pub record CanNumber (n h : ℕ) (w : List ℕ) (v : ℕ) : Type 0 where
   pub few : n ≤ 65536
   pub room : 16 * n ≤ length w
-  pub names : NumbersAt n h w
+  pub numbers : NumbersAt n h w
   pub fit : v < n
   pub top-fit : node 6 w v < n
 
@@ -44,7 +44,7 @@ pub record NumberedActive (n h v : ℕ) (a b : List ℕ) (h′ : ℕ) : Type 0 w
   pub new : node 10 a (node 6 a v) ≡ 0
   pub more : h′ ≡ h + 1
   pub rest : OnlyFields (7 ∷ 10 ∷ 11 ∷ []) n a b
-  pub nrs : node 10 b ≡ update (node 10 a) (node 6 a v) (h + 1)
+  pub numbers : node 10 b ≡ update (node 10 a) (node 6 a v) (h + 1)
   pub reps : node 11 b ≡ update (node 11 a) h v
   pub lives : node 7 b ≡ update (node 7 a) (node 6 a v) (v + 1)
 
@@ -57,7 +57,7 @@ Prior f j = (f j ≤ 1) ⊎ ((l : ℕ) × (l < j) × (f j ≤ f l + 1))
 
 -- the classes of the first i active nodes have their numbers, in order of first appearance
 pub record ActiveNumbers (n i h : ℕ) (act top nr rep live : ℕ → ℕ) : Type 0 where
-  pub names : Numbers n h top nr rep
+  pub numbers : Numbers n h top nr rep
   pub done : (j : ℕ) → j < i → ¬ (nr (top (act j)) ≡ 0)
   pub some : (c : ℕ) → c < n → ¬ (live c ≡ 0) → (j : ℕ) × (j < i) × (live c ≡ act j + 1) × (top (act j) ≡ c)
   pub alive : (c : ℕ) → c < n → ¬ (nr c ≡ 0) → ¬ (live c ≡ 0)
@@ -66,7 +66,7 @@ pub record ActiveNumbers (n i h : ℕ) (act top nr rep live : ℕ → ℕ) : Typ
 
 pub record NumberingActives (n k : ℕ) (a : List ℕ) (i h : ℕ) (w : List ℕ) : Type 0 where
   pub rest : OnlyFields (7 ∷ 10 ∷ 11 ∷ []) n a w
-  pub acts : ActiveNumbers n i h (node 1 a) (node 6 a) (node 10 w) (node 11 w) (node 7 w)
+  pub actives : ActiveNumbers n i h (node 1 a) (node 6 a) (node 10 w) (node 11 w) (node 7 w)
 
 pub record CanNumberActives (n k : ℕ) (w : List ℕ) : Type 0 where
   pub few : n ≤ 65536
@@ -89,7 +89,7 @@ OtherStep n h v a b h′ = ((b ≡ a) × (h′ ≡ h) × (¬ (node 4 a v ≡ 0) 
 
 -- of the classes without a number those with two live children and a node below v have got theirs, by their smallest nodes
 pub record OtherNumbers (n h₀ v h : ℕ) (pos top other nr₀ nr rep₀ rep : ℕ → ℕ) : Type 0 where
-  pub names : Numbers n h top nr rep
+  pub numbers : Numbers n h top nr rep
   pub more : h₀ ≤ h
   pub still : (c : ℕ) → ¬ (nr₀ c ≡ 0) → nr c ≡ nr₀ c
   pub old : (i : ℕ) → i < h₀ → rep i ≡ rep₀ i
@@ -100,12 +100,12 @@ pub record OtherNumbers (n h₀ v h : ℕ) (pos top other nr₀ nr rep₀ rep : 
 
 pub record NumberingOthers (n h₀ : ℕ) (a : List ℕ) (v h : ℕ) (w : List ℕ) : Type 0 where
   pub rest : OnlyFields (10 ∷ 11 ∷ []) n a w
-  pub rests : OtherNumbers n h₀ v h (node 4 a) (node 6 a) (node 9 a) (node 10 a) (node 10 w) (node 11 a) (node 11 w)
+  pub others : OtherNumbers n h₀ v h (node 4 a) (node 6 a) (node 9 a) (node 10 a) (node 10 w) (node 11 a) (node 11 w)
 
 pub record CanNumberOthers (n h : ℕ) (w : List ℕ) : Type 0 where
   pub few : n ≤ 65536
   pub room : 16 * n ≤ length w
-  pub names : NumbersAt n h w
+  pub numbers : NumbersAt n h w
   pub top-fit : (v : ℕ) → v < n → node 6 w v < n
 
 -- ---- the nearest kept class above
@@ -119,21 +119,21 @@ pub record CanNearest (n : ℕ) (w : List ℕ) (v : ℕ) : Type 0 where
 -- the top v gets the number of its class, or where it has none what the class right above has
 pub record SetNearest (n v : ℕ) (a b : List ℕ) : Type 0 where
   pub value : ℕ
-  pub own : ¬ (node 10 a v ≡ 0) → value ≡ node 10 a v
+  pub numbered : ¬ (node 10 a v ≡ 0) → value ≡ node 10 a v
   pub up : node 10 a v ≡ 0 → value ≡ node 7 a (node 6 a (node 5 a v))
   pub rest : OnlyFields (7 ∷ []) n a b
-  pub nears : node 7 b ≡ update (node 7 a) v value
+  pub nearest : node 7 b ≡ update (node 7 a) v value
 
 abbrev pub NearestStep : ℕ → ℕ → List ℕ → List ℕ → Type 0
 NearestStep n v a b = ((b ≡ a) × ¬ (node 6 a v ≡ v)) ⊎ SetNearest n v a b
 
 pub record NearestNumbers (n i : ℕ) (pos par te top nr near : ℕ → ℕ) : Type 0 where
-  pub own : (c : ℕ) → c < n → 0 < pos c → pos c ≤ i → top c ≡ c → ¬ (nr c ≡ 0) → near c ≡ nr c
+  pub numbered : (c : ℕ) → c < n → 0 < pos c → pos c ≤ i → top c ≡ c → ¬ (nr c ≡ 0) → near c ≡ nr c
   pub up : (c : ℕ) → c < n → 0 < pos c → pos c ≤ i → top c ≡ c → ¬ (te c ≡ 0) → nr c ≡ 0 → near c ≡ near (top (par c))
 
 pub record NearestLoop (n : ℕ) (a : List ℕ) (i : ℕ) (w : List ℕ) : Type 0 where
   pub rest : OnlyFields (7 ∷ []) n a w
-  pub lifts : NearestNumbers n i (node 4 a) (node 5 a) (node 13 a) (node 6 a) (node 10 a) (node 7 w)
+  pub nearest : NearestNumbers n i (node 4 a) (node 5 a) (node 13 a) (node 6 a) (node 10 a) (node 7 w)
 
 pub record CanNearestAll (n seen : ℕ) (w : List ℕ) : Type 0 where
   pub few : n ≤ 65536
@@ -155,7 +155,7 @@ pub record SetParent (n x : ℕ) (a b : List ℕ) : Type 0 where
   pub none : node 13 a (node 6 a (node 11 a x)) ≡ 0 → value ≡ 0
   pub some : ¬ (node 13 a (node 6 a (node 11 a x)) ≡ 0) → value ≡ node 7 a (node 6 a (node 5 a (node 6 a (node 11 a x))))
   pub rest : OnlyFields (9 ∷ []) n a b
-  pub ups : node 9 b ≡ update (node 9 a) x value
+  pub parents : node 9 b ≡ update (node 9 a) x value
 
 pub record ParentNumbers (i : ℕ) (par te top near rep up : ℕ → ℕ) : Type 0 where
   pub none : (x : ℕ) → x < i → te (top (rep x)) ≡ 0 → up x ≡ 0
@@ -163,7 +163,7 @@ pub record ParentNumbers (i : ℕ) (par te top near rep up : ℕ → ℕ) : Type
 
 pub record ParentLoop (n : ℕ) (a : List ℕ) (i : ℕ) (w : List ℕ) : Type 0 where
   pub rest : OnlyFields (9 ∷ []) n a w
-  pub raises : ParentNumbers i (node 5 a) (node 13 a) (node 6 a) (node 7 a) (node 11 a) (node 9 w)
+  pub parents : ParentNumbers i (node 5 a) (node 13 a) (node 6 a) (node 7 a) (node 11 a) (node 9 w)
 
 pub record CanParents (n h : ℕ) (w : List ℕ) : Type 0 where
   pub few : n ≤ 65536

@@ -14,12 +14,12 @@ use Rattle.words.proofs.FieldLaws.{update-at}
 use Rattle.words.specs.Fields.{Put, node, update}
 
 pub own-none : (n : ℕ) (w : List ℕ) → OwnTops n 0 w w
-own-none n w = record { only = only-none n w; own = λ u l. absurd (omega arith) }
+own-none n w = record { rest = only-none n w; self = λ u l. absurd (omega arith) }
 
 pub own-more : {n v : ℕ} {a b c : List ℕ} → v < n → OwnTops n v a b → Put 6 v v b c → OwnTops n (v + 1) a c
 own-more {n} {v} {a} {b} l o p = record {
-  only = only-then-put refl l (o .only) p;
-  own = rw (p .here) (update-at (λ u y. u < v + 1 → y ≡ u) (node 6 b) v v (λ _. refl) (λ u ne i. o .own u (omega arith)));
+  rest = only-then-put refl l (o .rest) p;
+  self = rw (p .here) (update-at (λ u y. u < v + 1 → y ≡ u) (node 6 b) v v (λ _. refl) (λ u ne i. o .self u (omega arith)));
 }
 
 -- one step: v goes to the top of its top
@@ -40,7 +40,7 @@ compressed {v} {t} {u} {w} e q p = let z : u ≡ node 6 w (node 6 w v) = q ∙ a
 
 pub compressed-none : {n seen : ℕ} {w : List ℕ} → CanCompress n seen w → Compressed n 0 w w
 compressed-none {n} {w = w} f = record {
-  only = only-none n w;
+  rest = only-none n w;
   tops = f .tops;
   back = λ u l e. e;
   keep = λ D s. s;
@@ -51,10 +51,10 @@ compressed-none {n} {w = w} f = record {
 
 module _ {n seen i v : ℕ} {a b : List ℕ} (f : CanCompress n seen a) (g : Compressed n i a b) (l : i < seen) (ev : v ≡ node 3 b i) where
   k3 : node 3 b ≡ node 3 a
-  k3 = g .only .nodes 3 (omega arith) refl
+  k3 = g .rest .nodes 3 (omega arith) refl
 
   k4 : node 4 b ≡ node 4 a
-  k4 = g .only .nodes 4 (omega arith) refl
+  k4 = g .rest .nodes 4 (omega arith) refl
 
   v-fits : v < n
   v-fits = rw (ev, k3) (f .place i l .0)
@@ -63,11 +63,11 @@ module _ {n seen i v : ℕ} {a b : List ℕ} (f : CanCompress n seen a) (g : Com
   v-at = rw (ev, k3) (f .place i l .1)
 
   pub compressed-can : CanFind n b v
-  compressed-can = record { fit = v-fits; room = rw (g .only .same) (f .room); tops = rw k4 (g .tops) }
+  compressed-can = record { fit = v-fits; room = rw (g .rest .same) (f .room); tops = rw k4 (g .tops) }
 
   pub compressed-more : {c : List ℕ} → Put 6 v (node 6 b (node 6 b v)) b c → Compressed n (i + 1) a c
   compressed-more {c} p = record {
-    only = only-then-put refl v-fits (g .only) p;
+    rest = only-then-put refl v-fits (g .rest) p;
     tops = rw (p .here) (w .tops);
     back = λ u j e. g .back u j (w .back u j (sym (ap (λ h. h u) (p .here)) ∙ e));
     keep = λ D s. rw (p .here) (w .keep D (g .keep D s) .0);
@@ -96,7 +96,7 @@ module _ {n seen i v : ℕ} {a b : List ℕ} (f : CanCompress n seen a) (g : Com
       earlier u j ne q = onBool (eqb (node 4 a u) (i + 1))
           (λ r.
           let z : node 4 a u ≡ i + 1 = eqb-true (node 4 a u) (i + 1) r in
-          absurd (ne (sym (f .spot u j (omega arith) .1) ∙ ap (λ k. node 3 a (k - 1)) (z ∙ sym v-at) ∙ f .spot v v-fits (omega (arith, v-at)) .1)))
+          absurd (ne (sym (f .place-of u j (omega arith) .1) ∙ ap (λ k. node 3 a (k - 1)) (z ∙ sym v-at) ∙ f .place-of v v-fits (omega (arith, v-at)) .1)))
           (λ r. let z : ¬ (node 4 a u ≡ i + 1) = eqb-false (node 4 a u) (i + 1) r in omega arith)
 
       flat : (u : ℕ) → u < n → node 4 a u ≤ i + 1 → update t v x (update t v x u) ≡ update t v x u

@@ -64,7 +64,7 @@ module _ (n : ℕ) (pos : ℕ → ℕ) where
 
 -- the loop of `find`
 pub record Finding (n v₀ : ℕ) (a : List ℕ) (v u : ℕ) (b : List ℕ) : Type 0 where
-  pub only : OnlyTops n a b
+  pub rest : OnlyTops n a b
   pub walk : FindPath n (node 4 a) (node 6 a) (node 6 b) v₀ v
   pub next : u ≡ node 6 b v
   pub fit : u < n
@@ -72,7 +72,7 @@ pub record Finding (n v₀ : ℕ) (a : List ℕ) (v u : ℕ) (b : List ℕ) : Ty
 
 pub finding-none : {n v u : ℕ} {a : List ℕ} → Tops n (node 4 a) (node 6 a) → v < n → 16 * n ≤ length a → u ≡ node 6 a v → Finding n v a v u a
 finding-none {n} {v} {u} {a} h l r e = record {
-  only = only-none n a;
+  rest = only-none n a;
   walk = path-none n (node 4 a) (node 6 a) v h l;
   next = e;
   fit = rw e (h .fit v l);
@@ -87,7 +87,7 @@ finding-more {n} {v₀} {v} {u} {x} {y} {a} {b} {c} f ne ex p ey =
     let q : node 6 c ≡ update (node 6 b) v (node 6 b (node 6 b v)) = p .here ∙ ap (update (node 6 b) v) e in
     let w : FindPath n (node 4 a) (node 6 a) (node 6 c) v₀ x = rw (q, e) (m .0) in (
       record {
-        only = only-then-put refl (f .walk .fit) (f .only) p;
+        rest = only-then-put refl (f .walk .fit) (f .rest) p;
         walk = w;
         next = ey;
         fit = rw ey (w .tops .fit x (w .fit));

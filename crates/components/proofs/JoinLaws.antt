@@ -24,7 +24,7 @@ use Rattle.words.specs.Fields.{half, node}
 
 between-still : {n m k seen j : ℕ} {a b : List ℕ} → OnlyTops n a b → BetweenTrees n m k a seen j → BetweenTrees n m k b seen j
 between-still {n} {m} {k} {seen} {j} {a} {b} o g = record {
-  ground = lists-still refl o (g .ground);
+  lists = lists-still refl o (g .lists);
   active = rw (at 0 (omega arith) refl, at 1 (omega arith) refl) (g .active);
   all = g .all;
   search = rw (o .halves 0, at 0 (omega arith) refl, at 3 (omega arith) refl, at 4 (omega arith) refl, at 5 (omega arith) refl, at 12 (omega arith) refl, at 13 (omega arith) refl) (g .search);
@@ -37,32 +37,32 @@ between-still {n} {m} {k} {seen} {j} {a} {b} o g = record {
 module _ {n m k s : ℕ} {w₁ w₂ : List ℕ} (g : BetweenTrees n m k w₁ s k) (f : ForestAt n m w₁) (o : OwnTops n n w₁ w₂) where
   pub can-merge : CanMerge n m w₂
   can-merge = record {
-    few = g .ground .few;
-    much = omega (arith, g .ground .much);
-    room = rw (o .only .same) (g .ground .room);
-    forest = forest-still (o .only) f;
-    own = o .own;
+    few = g .lists .few;
+    much = omega (arith, g .lists .much);
+    room = rw (o .rest .same) (g .lists .room);
+    forest = forest-still (o .rest) f;
+    self = o .self;
   }
 
   module _ {w₃ : List ℕ} (t : EdgesMerged n m w₂ m w₃) where
     all : OnlyTops n w₁ w₃
-    all = only-then (o .only) (t .only)
+    all = only-then (o .rest) (t .rest)
 
     pub can-compress : CanCompress n s w₃
     can-compress =
         let b = between-still all g in
         record {
-          few = g .ground .few;
-          room = omega (arith, b .ground .room);
+          few = g .lists .few;
+          room = omega (arith, b .lists .room);
           less = seen-less (b .search);
-          tops = rw (t .only .nodes 4 (omega arith) refl) (t .tops);
+          tops = rw (t .rest .nodes 4 (omega arith) refl) (t .tops);
           place = b .search .place;
-          spot = b .search .spot;
+          place-of = b .search .place-of;
         }
 
     pub components : {w₀ w₄ : List ℕ} → Searched n w₀ w₁ → Compressed n s w₃ w₄ → Components n m k w₀ w₄ s
     components {w₀} {w₄} h q = record {
-      kept = only-then (only-more (3 ∷ 4 ∷ 5 ∷ 12 ∷ 13 ∷ []) refl h) (only-more (6 ∷ []) refl every);
+      rest = only-then (only-more (3 ∷ 4 ∷ 5 ∷ 12 ∷ 13 ∷ []) refl h) (only-more (6 ∷ []) refl every);
       search = b;
       forest = forest;
       final = final;
@@ -71,7 +71,7 @@ module _ {n m k s : ℕ} {w₁ w₂ : List ℕ} (g : BetweenTrees n m k w₁ s k
     }
       where
         every : OnlyTops n w₁ w₄
-        every = only-then all (q .only)
+        every = only-then all (q .rest)
 
         b : BetweenTrees n m k w₄ s k
         b = between-still every g
@@ -80,10 +80,10 @@ module _ {n m k s : ℕ} {w₁ w₂ : List ℕ} (g : BetweenTrees n m k w₁ s k
         forest = forest-still every f
 
         late : OnlyTops n w₂ w₄
-        late = only-then (t .only) (q .only)
+        late = only-then (t .rest) (q .rest)
 
         k4 : node 4 w₃ ≡ node 4 w₂
-        k4 = t .only .nodes 4 (omega arith) refl
+        k4 = t .rest .nodes 4 (omega arith) refl
 
         tops : Tops n (node 4 w₂) (node 6 w₄)
         tops = rw k4 at (q .tops)
@@ -95,7 +95,7 @@ module _ {n m k s : ℕ} {w₁ w₂ : List ℕ} (g : BetweenTrees n m k w₁ s k
         full D c = q .keep D (t .full D (con D c))
 
         low : (u : ℕ) → u < n → node 4 w₃ u ≤ s
-        low u i = onBool (eqb (node 4 w₃ u) 0) (λ r. omega (arith, eqb-true (node 4 w₃ u) 0 r)) (λ r. let ne : ¬ (node 4 w₃ u ≡ 0) = eqb-false (node 4 w₃ u) 0 r in can-compress .spot u i (omega arith) .0)
+        low u i = onBool (eqb (node 4 w₃ u) 0) (λ r. omega (arith, eqb-true (node 4 w₃ u) 0 r)) (λ r. let ne : ¬ (node 4 w₃ u ≡ 0) = eqb-false (node 4 w₃ u) 0 r in can-compress .place-of u i (omega arith) .0)
 
         final₂ : FinalTops n m (half n 0 w₂) (node 4 w₂) (node 5 w₂) (node 13 w₂) (node 6 w₄)
         final₂ = record {

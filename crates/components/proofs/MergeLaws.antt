@@ -129,35 +129,35 @@ module _ {n m e x y : ℕ} {w : List ℕ} (t : CanMergeEdge n m e w) (ex : x ≡
 
 pub merged-none : {n m : ℕ} {w : List ℕ} → CanMerge n m w → EdgesMerged n m w 0 w
 merged-none {n} {m} {w} h = record {
-  only = only-none n w;
-  tops = record { fit = λ u l. rw (h .own u l) l; up = λ u l ne. absurd (ne (h .own u l)) };
-  sound = λ U c u l. ap U (h .own u l);
-  full = λ D c u l. ap D (h .own u l);
+  rest = only-none n w;
+  tops = record { fit = λ u l. rw (h .self u l) l; up = λ u l ne. absurd (ne (h .self u l)) };
+  sound = λ U c u l. ap U (h .self u l);
+  full = λ D c u l. ap D (h .self u l);
   done = λ D c e l. absurd (omega arith);
 }
 
 module _ {n m e : ℕ} {w₀ w : List ℕ} (h : CanMerge n m w₀) (t : EdgesMerged n m w₀ e w) (l : e < m) where
   k0 : half n 0 w ≡ half n 0 w₀
-  k0 = t .only .halves 0
+  k0 = t .rest .halves 0
 
   k4 : node 4 w ≡ node 4 w₀
-  k4 = t .only .nodes 4 (omega arith) refl
+  k4 = t .rest .nodes 4 (omega arith) refl
 
   k5 : node 5 w ≡ node 5 w₀
-  k5 = t .only .nodes 5 (omega arith) refl
+  k5 = t .rest .nodes 5 (omega arith) refl
 
   k12 : node 12 w ≡ node 12 w₀
-  k12 = t .only .nodes 12 (omega arith) refl
+  k12 = t .rest .nodes 12 (omega arith) refl
 
   k13 : node 13 w ≡ node 13 w₀
-  k13 = t .only .nodes 13 (omega arith) refl
+  k13 = t .rest .nodes 13 (omega arith) refl
 
   pub merged-can : CanMergeEdge n m e w
   merged-can = record {
     few = h .few;
     less = l;
-    room = rw (t .only .same) (h .room);
-    forest = forest-still (t .only) (h .forest);
+    room = rw (t .rest .same) (h .room);
+    forest = forest-still (t .rest) (h .forest);
     tops = rw k4 (t .tops);
     full = rw k5 (t .full);
   }
@@ -165,7 +165,7 @@ module _ {n m e : ℕ} {w₀ w : List ℕ} (h : CanMerge n m w₀) (t : EdgesMer
   pub merged-more : {w′ : List ℕ} → EdgeMerged n e w w′ → EdgesMerged n m w₀ (e + 1) w′
   merged-more {w′} tried = ⊎-elim
       (λ p. rw (p .0) (record {
-        only = t .only;
+        rest = t .rest;
         tops = t .tops;
         sound = t .sound;
         full = t .full;
@@ -177,7 +177,7 @@ module _ {n m e : ℕ} {w₀ w : List ℕ} (h : CanMerge n m w₀) (t : EdgesMer
       let o : NonTreeEdge (half n 0 w₀) (node 4 w₀) (node 13 w₀) e = rw (k0, k4, k13) at (p .1) in
       let full : (D : NodeSet) → FollowsParents n (node 5 w₀) (node 6 w′) D → Stable n (node 6 w′) D × (D (half n 0 w₀ (2 * e)) ≡ D (half n 0 w₀ (2 * e + 1))) = rw (k0, k5) at (j .full) in
       record {
-        only = only-then (t .only) (j .only);
+        rest = only-then (t .rest) (j .rest);
         tops = rw k4 at (j .tops);
         sound = λ U c. j .keep U (rw (k0, k4, k5, k12) (allows-merge (h .forest) U c e l o)) (t .sound U c);
         full = λ D c. full D c .0;

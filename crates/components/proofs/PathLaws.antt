@@ -40,7 +40,7 @@ merged-up n pos par t t₁ a q l w tq ta up = record {
 -- the same at the words
 pub merged-up-at : {n a q p : ℕ} {w w₁ w₂ : List ℕ} → CanMergeUp n w a → p ≡ node 5 w a → Found n w p q w₁ → Put 6 a q w₁ w₂ → MergedUpAt n w a q w₂
 merged-up-at {n} {a} {q} {p} {w} {w₁} {w₂} r e f k = record {
-  only = only-then-put refl (r .fit) (f .only) k;
+  rest = only-then-put refl (r .fit) (f .rest) k;
   is = rw (k .here) (merged-up n (node 4 w) (node 5 w) (node 6 w) (node 6 w₁) a q (r .fit) (rw e at (f .walk)) (f .top) (r .top) (r .up));
 }
 
@@ -124,13 +124,13 @@ module _ (n : ℕ) (pos par root : ℕ → ℕ) (o : SearchOrder n pos par root)
       at-q D k e = r .keep D (c .full D k .0) e .1
 
 pub record PathLoop (n x y : ℕ) (w₀ : List ℕ) (a b : ℕ) (w : List ℕ) : Type 0 where
-  pub only : OnlyTops n w₀ w
+  pub rest : OnlyTops n w₀ w
   pub room : 16 * n ≤ length w
   pub go : PathStep n (node 4 w₀) (node 5 w₀) (node 12 w₀) x y (node 6 w₀) (node 6 w) a b
 
 pub loop-none : {n a b : ℕ} {w : List ℕ} → CanMergePath n w → SeenTop n w a → SeenTop n w b → node 12 w a ≡ node 12 w b → PathLoop n a b w a b w
 loop-none {n} {a} {b} {w} r s s′ e = record {
-  only = only-none n w;
+  rest = only-none n w;
   room = r .room;
   go = record {
     tops = r .tops;
@@ -149,13 +149,13 @@ loop-none {n} {a} {b} {w} r s s′ e = record {
 
 module _ {n x y a b : ℕ} {w₀ w : List ℕ} (r : CanMergePath n w₀) (m : PathLoop n x y w₀ a b w) where
   loop-flip : PathLoop n x y w₀ b a w
-  loop-flip = record { only = m .only; room = m .room; go = step-flip n _ _ _ (r .order) x y _ _ a b (m .go) }
+  loop-flip = record { rest = m .rest; room = m .room; go = step-flip n _ _ _ (r .order) x y _ _ a b (m .go) }
 
   e4 : node 4 w ≡ node 4 w₀
-  e4 = m .only .nodes 4 (omega arith) refl
+  e4 = m .rest .nodes 4 (omega arith) refl
 
   e5 : node 5 w ≡ node 5 w₀
-  e5 = m .only .nodes 5 (omega arith) refl
+  e5 = m .rest .nodes 5 (omega arith) refl
 
   loop-later : (a ≡ b → ⊥) → node 4 w b ≤ node 4 w a → node 4 w₀ b < node 4 w₀ a
   loop-later ne l = later n _ _ _ (r .order) x y _ _ a b (m .go) ne (rw e4 at l)
@@ -177,8 +177,8 @@ module _ {n x y a b : ℕ} {w₀ w : List ℕ} (r : CanMergePath n w₀) (m : Pa
   loop-more ne l {q} {w′} k =
       let i : MergedUp n (node 4 w₀) (node 5 w₀) (node 6 w) (node 6 w′) a q = rw (e4, e5) at (k .is) in (
         record {
-          only = only-then (m .only) (k .only);
-          room = rw (k .only .same) (m .room);
+          rest = only-then (m .rest) (k .rest);
+          room = rw (k .rest .same) (m .room);
           go = step-more n _ _ _ (r .order) x y _ _ _ a b q (m .go) (loop-later ne l) i;
         },
         i .low,
@@ -193,7 +193,7 @@ module _ {n x y a b : ℕ} {w₀ w : List ℕ} (r : CanMergePath n w₀) (m : Pa
 
   pub loop-done : a ≡ b → MergedPath n w₀ x y w
   loop-done e = record {
-    only = m .only;
+    rest = m .rest;
     tops = m .go .tops;
     back = m .go .back;
     full = λ D h. let k = m .go .full D h in (k .0, k .1 (ap D e));
@@ -202,13 +202,13 @@ module _ {n x y a b : ℕ} {w₀ w : List ℕ} (r : CanMergePath n w₀) (m : Pa
 
 module _ {n v r : ℕ} {w w₁ : List ℕ} (g : CanMergePath n w) (f : Found n w v r w₁) where
   s4 : node 4 w₁ ≡ node 4 w
-  s4 = f .only .nodes 4 (omega arith) refl
+  s4 = f .rest .nodes 4 (omega arith) refl
 
   s5 : node 5 w₁ ≡ node 5 w
-  s5 = f .only .nodes 5 (omega arith) refl
+  s5 = f .rest .nodes 5 (omega arith) refl
 
   s12 : node 12 w₁ ≡ node 12 w
-  s12 = f .only .nodes 12 (omega arith) refl
+  s12 = f .rest .nodes 12 (omega arith) refl
 
   stable : (D : ℕ → Bool) → FollowsParents n (node 5 w) (node 6 w₁) D → Stable n (node 6 w) D
   stable D h = g .full D (λ u i ne. h u i (λ e. ne (f .walk .back u i e)))
@@ -216,7 +216,7 @@ module _ {n v r : ℕ} {w w₁ : List ℕ} (g : CanMergePath n w) (f : Found n w
   pub ready-after : CanMergePath n w₁
   ready-after = record {
     few = g .few;
-    room = rw (f .only .same) (g .room);
+    room = rw (f .rest .same) (g .room);
     tops = rw s4 (f .walk .tops);
     order = rw (s4, s5, s12) (g .order);
     full = λ D h. f .walk .keep D (stable D (rw s5 at h)) .0;
@@ -240,7 +240,7 @@ module _ {n v r : ℕ} {w w₁ : List ℕ} (g : CanMergePath n w) (f : Found n w
 
   pub merged-first : {y : ℕ} {w₂ : List ℕ} → MergedPath n w₁ r y w₂ → MergedPath n w v y w₂
   merged-first {y} {w₂} j = record {
-    only = only-then (f .only) (j .only);
+    rest = only-then (f .rest) (j .rest);
     tops = rw s4 at (j .tops);
     back = λ u i e. f .walk .back u i (j .back u i e);
     full = λ D h.
@@ -255,7 +255,7 @@ module _ {n v r : ℕ} {w w₁ : List ℕ} (g : CanMergePath n w) (f : Found n w
 
 pub merged-flip : {n x y : ℕ} {w w′ : List ℕ} → MergedPath n w x y w′ → MergedPath n w y x w′
 merged-flip j = record {
-  only = j .only;
+  rest = j .rest;
   tops = j .tops;
   back = j .back;
   full = λ D h. let k = j .full D h in (k .0, sym (k .1));

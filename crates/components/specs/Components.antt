@@ -12,7 +12,7 @@ use Rattle.words.specs.Fields.{half, node}
 
 -- the words after the classes are found
 pub record Components (n m k : ℕ) (a w : List ℕ) (seen : ℕ) : Type 0 where
-  pub kept : OnlyFields (3 ∷ 4 ∷ 5 ∷ 6 ∷ 12 ∷ 13 ∷ []) n a w
+  pub rest : OnlyFields (3 ∷ 4 ∷ 5 ∷ 6 ∷ 12 ∷ 13 ∷ []) n a w
   pub search : BetweenTrees n m k w seen k
   pub forest : ForestAt n m w
   pub final : FinalTops n m (half n 0 w) (node 4 w) (node 5 w) (node 13 w) (node 6 w)

@@ -31,7 +31,7 @@ EdgeMerged n e w w′ = ((w′ ≡ w) × (NonTreeEdge (half n 0 w) (node 4 w) (n
 
 -- the first i edges are tied where they are loose
 pub record EdgesMerged (n m : ℕ) (w₀ : List ℕ) (i : ℕ) (w : List ℕ) : Type 0 where
-  pub only : OnlyTops n w₀ w
+  pub rest : OnlyTops n w₀ w
   pub tops : Tops n (node 4 w₀) (node 6 w)
   pub sound : (U : NodeSet) → cut U (edgesBelow (half n 0 w₀) m) ≤ 1 → Stable n (node 6 w) U
   pub full : (D : NodeSet) → FollowsParents n (node 5 w₀) (node 6 w) D → Stable n (node 6 w) D
@@ -44,7 +44,7 @@ pub record CanMerge (n m : ℕ) (w : List ℕ) : Type 0 where
   pub much : m ≤ 65536
   pub room : 16 * n + 4 * m ≤ length w
   pub forest : ForestAt n m w
-  pub own : (u : ℕ) → u < n → node 6 w u ≡ u
+  pub self : (u : ℕ) → u < n → node 6 w u ≡ u
 
 -- the tops after the climb are the classes
 pub record FinalTops (n m : ℕ) (to pos par te : ℕ → ℕ) (t : ℕ → ℕ) : Type 0 where

@@ -37,7 +37,7 @@ pub record CanFind (n : ℕ) (w : List ℕ) (v : ℕ) : Type 0 where
   pub tops : Tops n (node 4 w) (node 6 w)
 
 pub record Found (n : ℕ) (w : List ℕ) (v r : ℕ) (w′ : List ℕ) : Type 0 where
-  pub only : OnlyTops n w w′
+  pub rest : OnlyTops n w w′
   pub walk : FindPath n (node 4 w) (node 6 w) (node 6 w′) v r
   pub top : node 6 w′ r ≡ r
 
@@ -62,7 +62,7 @@ pub record CanMergeUp (n : ℕ) (w : List ℕ) (a : ℕ) : Type 0 where
   pub top : node 6 w a ≡ a
 
 pub record MergedUpAt (n : ℕ) (w : List ℕ) (a q : ℕ) (w′ : List ℕ) : Type 0 where
-  pub only : OnlyTops n w w′
+  pub rest : OnlyTops n w w′
   pub is : MergedUp n (node 4 w) (node 5 w) (node 6 w) (node 6 w′) a q
 
 -- what is needed of the forest to climb: parents come earlier in the order, and roots are shared
@@ -102,7 +102,7 @@ pub record SameTree (n : ℕ) (w : List ℕ) (x y : ℕ) : Type 0 where
 
 -- the ways up from x and y are tied
 pub record MergedPath (n : ℕ) (w : List ℕ) (x y : ℕ) (w′ : List ℕ) : Type 0 where
-  pub only : OnlyTops n w w′
+  pub rest : OnlyTops n w w′
   pub tops : Tops n (node 4 w) (node 6 w′)
   pub back : (u : ℕ) → u < n → node 6 w′ u ≡ u → node 6 w u ≡ u
   pub full : (D : ℕ → Bool) → FollowsParents n (node 5 w) (node 6 w′) D → Stable n (node 6 w′) D × (D x ≡ D y)
@@ -110,8 +110,8 @@ pub record MergedPath (n : ℕ) (w : List ℕ) (x y : ℕ) (w′ : List ℕ) : T
 
 -- the first i nodes are their own tops
 pub record OwnTops (n i : ℕ) (a b : List ℕ) : Type 0 where
-  pub only : OnlyTops n a b
-  pub own : (u : ℕ) → u < i → node 6 b u ≡ u
+  pub rest : OnlyTops n a b
+  pub self : (u : ℕ) → u < i → node 6 b u ≡ u
 
 pub record CanCompress (n seen : ℕ) (w : List ℕ) : Type 0 where
   pub few : n ≤ 65536
@@ -119,11 +119,11 @@ pub record CanCompress (n seen : ℕ) (w : List ℕ) : Type 0 where
   pub less : seen ≤ n
   pub tops : Tops n (node 4 w) (node 6 w)
   pub place : (i : ℕ) → i < seen → (node 3 w i < n) × (node 4 w (node 3 w i) ≡ i + 1)
-  pub spot : (u : ℕ) → u < n → 0 < node 4 w u → (node 4 w u ≤ seen) × (node 3 w (node 4 w u - 1) ≡ u)
+  pub place-of : (u : ℕ) → u < n → 0 < node 4 w u → (node 4 w u ≤ seen) × (node 3 w (node 4 w u - 1) ≡ u)
 
 -- the same tops, and the first i nodes of the order go straight to theirs
 pub record Compressed (n i : ℕ) (a b : List ℕ) : Type 0 where
-  pub only : OnlyTops n a b
+  pub rest : OnlyTops n a b
   pub tops : Tops n (node 4 a) (node 6 b)
   pub back : (u : ℕ) → u < n → node 6 b u ≡ u → node 6 a u ≡ u
   pub keep : (D : ℕ → Bool) → Stable n (node 6 a) D → Stable n (node 6 b) D

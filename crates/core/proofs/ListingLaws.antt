@@ -21,10 +21,10 @@ ready-still r k = record { few = k .few; room = rw (r .same) (k .room); less = k
 
 module _ {n h x u : ℕ} {w : List ℕ} (k : Pushing n h w w (x + 1)) (l : x < h) (eu : u ≡ node 9 w x) where
   pub push-skip : (0 < u → x < u) → Pushing n h w w x
-  push-skip z = record { ready = k .ready; rest = k .rest; hooks = lists-skip (k .hooks) (λ s c. let q : u ≡ s + 1 = eu ∙ c .2 in omega (arith, c .0, z (omega arith))) }
+  push-skip z = record { ready = k .ready; rest = k .rest; lists = lists-skip (k .lists) (λ s c. let q : u ≡ s + 1 = eu ∙ c .2 in omega (arith, c .0, z (omega arith))) }
 
   pub pushed : {c : ℕ} {w₁ w₂ : List ℕ} → 0 < u → u ≤ x → c ≡ node 2 w (u - 1) → Put 8 x c w w₁ → Put 2 (u - 1) (x + 1) w₁ w₂ → Pushing n h w w₂ x
-  pushed {c} {w₁} {w₂} p i ec q r = record { ready = ready-still rest (k .ready); rest = rest; hooks = rw (ups-same rest, e2, e8) (lists-push (k .hooks) u eu p i l) }
+  pushed {c} {w₁} {w₂} p i ec q r = record { ready = ready-still rest (k .ready); rest = rest; lists = rw (ups-same rest, e2, e8) (lists-push (k .lists) u eu p i l) }
     where
       rest : OnlyFields (2 ∷ 4 ∷ 5 ∷ 8 ∷ []) n w w₂
       rest = only-then-put refl (omega (arith, k .ready .less)) (only-put refl (omega (arith, k .ready .less)) q) r
@@ -36,10 +36,10 @@ module _ {n h x u : ℕ} {w : List ℕ} (k : Pushing n h w w (x + 1)) (l : x < h
       e8 = r .else 8 (omega arith) (λ e. omega arith) ∙ q .here ∙ ap (update (node 8 w) x) ec
 
 pub pushing-self : {n h i : ℕ} {a w : List ℕ} → Pushing n h a w i → Pushing n h w w i
-pushing-self {n} {w = w} k = record { ready = k .ready; rest = only-none n w; hooks = k .hooks }
+pushing-self {n} {w = w} k = record { ready = k .ready; rest = only-none n w; lists = k .lists }
 
 pub pushing-then : {n h i j : ℕ} {a b c : List ℕ} → Pushing n h a b i → Pushing n h b c j → Pushing n h a c j
-pushing-then k l = record { ready = l .ready; rest = only-then (k .rest) (l .rest); hooks = l .hooks }
+pushing-then k l = record { ready = l .ready; rest = only-then (k .rest) (l .rest); lists = l .lists }
 
 -- one number down
 pub pushing-down : {n h i : ℕ} {a w : List ℕ} → (i ≡ 0 → ⊥) → Pushing n h a w i → Pushing n h w w (i - 1 + 1)
@@ -50,7 +50,7 @@ pub pushing-cleared : {n h : ℕ} {a w : List ℕ} → CanList n h a → Cleared
 pushing-cleared {n} {h} {a} {w} r c = record {
   ready = ready-still rest r;
   rest = rest;
-  hooks = record { heads = λ s l. rw (c .zero 2 (omega arith) refl s l) (first-none (λ y i p. omega (arith, p .1))); nexts = λ s x l p. absurd (omega (arith, p .1)) };
+  lists = record { heads = λ s l. rw (c .zero 2 (omega arith) refl s l) (first-none (λ y i p. omega (arith, p .1))); nexts = λ s x l p. absurd (omega (arith, p .1)) };
 }
   where
     rest : OnlyFields (2 ∷ 4 ∷ 5 ∷ 8 ∷ []) n a w
@@ -70,7 +70,7 @@ module _ {n h m s f t : ℕ} {w : List ℕ} (k : Writing n h w w m s f) (l : s <
   wrote {w₁} {w₂} q r = record {
     ready = ready-still rest (k .ready);
     rest = rest;
-    hooks = rw (ups-same rest, still 2 (omega arith) (λ e. omega arith) (λ e. omega arith), still 8 (omega arith) (λ e. omega arith) (λ e. omega arith)) (k .hooks);
+    lists = rw (ups-same rest, still 2 (omega arith) (λ e. omega arith) (λ e. omega arith), still 8 (omega arith) (λ e. omega arith) (λ e. omega arith)) (k .lists);
     listed = rw (ups-same rest, e4, e5) more;
   }
     where
@@ -87,10 +87,10 @@ module _ {n h m s f t : ℕ} {w : List ℕ} (k : Writing n h w w m s f) (l : s <
       e5 = r .here ∙ ap (λ g. update g m (t - 1)) (q .else 5 (omega arith) (λ e. omega arith))
 
 pub writing-self : {n h m s f : ℕ} {a w : List ℕ} → Writing n h a w m s f → Writing n h w w m s f
-writing-self {n} {w = w} k = record { ready = k .ready; rest = only-none n w; hooks = k .hooks; listed = k .listed }
+writing-self {n} {w = w} k = record { ready = k .ready; rest = only-none n w; lists = k .lists; listed = k .listed }
 
 pub writing-then : {n h m s f m′ s′ f′ : ℕ} {a b c : List ℕ} → Writing n h a b m s f → Writing n h b c m′ s′ f′ → Writing n h a c m′ s′ f′
-writing-then k l = record { ready = l .ready; rest = only-then (k .rest) (l .rest); hooks = l .hooks; listed = l .listed }
+writing-then k l = record { ready = l .ready; rest = only-then (k .rest) (l .rest); lists = l .lists; listed = l .listed }
 
 -- the walk along the pairs of s: c is the next larger end in its list, t one more than the next larger end of all
 pub record RowLoop (n h : ℕ) (a w : List ℕ) (s u c f m t : ℕ) : Type 0 where
@@ -102,7 +102,7 @@ pub record RowLoop (n h : ℕ) (a w : List ℕ) (s u c f m t : ℕ) : Type 0 whe
 
 pub row-none : {n h s u c m o t : ℕ} {w : List ℕ} → Writing n h w w m s (s + 1) → s < h → u ≡ node 9 w s → c ≡ node 2 w s → IfAbove u (s + 1) o → LeastNonzero c o t → RowLoop n h w w s u c (s + 1) m t
 row-none {n} {h} {s} {u} {c} {w = w} k l eu ec a b =
-    let ch : FirstFrom (LargerChild h (node 9 w) s) (s + 1) c = rw ec (first-from (s + 1) (k .hooks .heads s l) (λ y p. omega (arith, p .0))) in
+    let ch : FirstFrom (LargerChild h (node 9 w) s) (s + 1) c = rw ec (first-from (s + 1) (k .lists .heads s l) (λ y p. omega (arith, p .0))) in
     record { listing = k; child = ch; next = first-least ch (first-after (node 9 w) (omega arith) eu (rw eu (k .ready .fits s l)) a) b; ups = eu; past = omega arith }
 
 module _ {n h s u c f m t : ℕ} {a w : List ℕ} (g : RowLoop n h a w s u c f m t) (l : s < h) where
@@ -126,7 +126,7 @@ module _ {n h s u c f m t : ℕ} {a w : List ℕ} (g : RowLoop n h a w s u c f m
       ch = ⊎-elim
           (λ e. let q : t - 1 + 1 ≡ t = omega arith in
           let b : LargerChild h (node 9 w′) s (t - 1) = rw (e .0) at (old .at (omega (arith, e .0)) .1) in
-          rw (e .1) (rw q at (k .hooks .nexts s (t - 1) (omega arith) b)))
+          rw (e .1) (rw q at (k .lists .nexts s (t - 1) (omega arith) b)))
           (λ e. rw (e .1) (first-stay old (omega (arith, far)) (λ y i p. g .next .gap y i (inl (rw same at p)) .1) (e .0)))
           sk
 
@@ -134,12 +134,12 @@ module _ {n h s u c f m t : ℕ} {a w : List ℕ} (g : RowLoop n h a w s u c f m
   row-done z = record {
     ready = g .listing .ready;
     rest = g .listing .rest;
-    hooks = g .listing .hooks;
+    lists = g .listing .lists;
     listed = listed-next (g .listing .listed) (rw z at (g .next)) (λ y. ⊎-elim (λ p. p .0) (λ p. p .0));
   }
 
 pub writing-none : {n h : ℕ} {w : List ℕ} → Pushing n h w w 0 → Writing n h w w 0 0 (0 + 1)
-writing-none {w = w} k = record { ready = k .ready; rest = k .rest; hooks = k .hooks; listed = listed-none (node 4 w) (node 5 w) (λ y. ⊎-elim (λ p. p .0) (λ p. p .0)) }
+writing-none {w = w} k = record { ready = k .ready; rest = k .rest; lists = k .lists; listed = listed-none (node 4 w) (node 5 w) (λ y. ⊎-elim (λ p. p .0) (λ p. p .0)) }
 
 pair-at : {h x y x′ y′ : ℕ} (up up′ : ℕ → ℕ) → up ≡ up′ → x ≡ x′ → y ≡ y′ → EdgePair h up x′ y′ → EdgePair h up′ x y
 pair-at up up′ e f g p = rw (← e, f, g) p

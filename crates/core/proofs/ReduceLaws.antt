@@ -66,10 +66,10 @@ module _ {n m k : ℕ} {w₀ : List ℕ} (s : Loaded n m k w₀) where
 
       module _ {seen : ℕ} {w₃ : List ℕ} (p : Components n m k w₂ w₃ seen) where
         f0 : node 0 w₃ ≡ node 0 w₂
-        f0 = p .kept .nodes 0 (omega arith) refl
+        f0 = p .rest .nodes 0 (omega arith) refl
 
         f1 : node 1 w₃ ≡ node 1 w₂
-        f1 = p .kept .nodes 1 (omega arith) refl
+        f1 = p .rest .nodes 1 (omega arith) refl
 
         pub can-number-classes : CanNumberClasses n m k seen w₃
         can-number-classes = record {
@@ -78,19 +78,19 @@ module _ {n m k : ℕ} {w₀ : List ℕ} (s : Loaded n m k w₀) where
           final = p .final;
           marks = rw (f0, f1) (λ v l b. let (j, i, e) = s .marks v l (subst (λ (x : ℕ). 0 < x) (mark₂ v l) b) in (j, i, act₂ j i ∙ e));
           none = λ v l. (
-            ap (λ f. f v) (p .kept .nodes 7 (omega arith) refl) ∙ q .nodes 7 (omega arith) (λ e. omega arith) v l ∙ c .zero 7 (omega arith) refl v l,
-            ap (λ f. f v) (p .kept .nodes 8 (omega arith) refl) ∙ q .nodes 8 (omega arith) (λ e. omega arith) v l ∙ c .zero 8 (omega arith) refl v l,
-            ap (λ f. f v) (p .kept .nodes 9 (omega arith) refl) ∙ q .nodes 9 (omega arith) (λ e. omega arith) v l ∙ c .zero 9 (omega arith) refl v l,
-            ap (λ f. f v) (p .kept .nodes 10 (omega arith) refl) ∙ q .nodes 10 (omega arith) (λ e. omega arith) v l ∙ c .zero 10 (omega arith) refl v l,
+            ap (λ f. f v) (p .rest .nodes 7 (omega arith) refl) ∙ q .nodes 7 (omega arith) (λ e. omega arith) v l ∙ c .zero 7 (omega arith) refl v l,
+            ap (λ f. f v) (p .rest .nodes 8 (omega arith) refl) ∙ q .nodes 8 (omega arith) (λ e. omega arith) v l ∙ c .zero 8 (omega arith) refl v l,
+            ap (λ f. f v) (p .rest .nodes 9 (omega arith) refl) ∙ q .nodes 9 (omega arith) (λ e. omega arith) v l ∙ c .zero 9 (omega arith) refl v l,
+            ap (λ f. f v) (p .rest .nodes 10 (omega arith) refl) ∙ q .nodes 10 (omega arith) (λ e. omega arith) v l ∙ c .zero 10 (omega arith) refl v l,
           );
         }
 
         module _ {h : ℕ} {w₄ : List ℕ} (d : ClassNumbers n m k w₃ h w₄) where
           pub can-list : CanList n h w₄
-          can-list = record { few = s .few; room = omega (arith, s .room, d .rest .same, p .kept .same, q .same, c .rest .same); less = d .less; fits = d .forest .up-fit }
+          can-list = record { few = s .few; room = omega (arith, s .room, d .rest .same, p .rest .same, q .same, c .rest .same); less = d .less; fits = d .forest .up-fit }
 
           ends-same : half n 0 w₃ ≡ half n 0 w₀
-          ends-same = p .kept .halves 0 ∙ q .tos ∙ c .rest .halves 0
+          ends-same = p .rest .halves 0 ∙ q .tos ∙ c .rest .halves 0
 
           act₃ : (i : ℕ) → i < k → node 1 w₃ i ≡ node 1 w₀ i
           act₃ i l = ap (λ f. f i) f1 ∙ act₂ i l
@@ -140,11 +140,11 @@ module _ {n m k : ℕ} {w₀ : List ℕ} (s : Loaded n m k w₀) where
               past : (i : ℕ) → 16 * n + 4 * m ≤ i → getD w₆ i 0 ≡ getD w₀ i 0
               past i b =
                   let f : 16 * n ≤ i = omega arith in
-                  only-past (t .rest) i f ∙ only-past (l .rest) i f ∙ only-past (d .rest) i f ∙ only-past (p .kept) i f ∙ linking-past q i b ∙ only-past (c .rest) i f
+                  only-past (t .rest) i f ∙ only-past (l .rest) i f ∙ only-past (d .rest) i f ∙ only-past (p .rest) i f ∙ linking-past q i b ∙ only-past (c .rest) i f
 
               pub reduced : Reduced n m k w₀ w₆ h e
               reduced = record {
-                same = t .rest .same ∙ l .rest .same ∙ d .rest .same ∙ p .kept .same ∙ q .same ∙ c .rest .same;
+                same = t .rest .same ∙ l .rest .same ∙ d .rest .same ∙ p .rest .same ∙ q .same ∙ c .rest .same;
                 past = past;
                 less = d .less;
                 ρ = node 11 w₄;

@@ -64,12 +64,12 @@ pub record CanList (n h : ℕ) (w : List ℕ) : Type 0 where
 pub record Pushing (n h : ℕ) (a w : List ℕ) (i : ℕ) : Type 0 where
   pub ready : CanList n h w
   pub rest : OnlyFields (2 ∷ 4 ∷ 5 ∷ 8 ∷ []) n a w
-  pub hooks : ChildLists h i (node 9 w) (node 2 w) (node 8 w)
+  pub lists : ChildLists h i (node 9 w) (node 2 w) (node 8 w)
 
 pub record Writing (n h : ℕ) (a w : List ℕ) (m s f : ℕ) : Type 0 where
   pub ready : CanList n h w
   pub rest : OnlyFields (2 ∷ 4 ∷ 5 ∷ 8 ∷ []) n a w
-  pub hooks : ChildLists h 0 (node 9 w) (node 2 w) (node 8 w)
+  pub lists : ChildLists h 0 (node 9 w) (node 2 w) (node 8 w)
   pub listed : ListedPairs (EdgePair h (node 9 w)) (node 4 w) (node 5 w) m s f
 
 -- the m pairs written are the pairs, ascending

@@ -26,7 +26,7 @@ abbrev pub Searched : ℕ → List ℕ → List ℕ → Type 0
 Searched n a b = OnlyFields (3 ∷ 4 ∷ 5 ∷ 12 ∷ 13 ∷ []) n a b
 
 pub record Appended (n seen v p t r : ℕ) (a b : List ℕ) : Type 0 where
-  pub kept : Searched n a b
+  pub rest : Searched n a b
   pub ord : node 3 b ≡ update (node 3 a) seen v
   pub pos : node 4 b ≡ update (node 4 a) v (seen + 1)
   pub par : node 5 b ≡ update (node 5 a) v p
@@ -43,11 +43,11 @@ pub record Search (n m : ℕ) (mark to ord pos par te root : ℕ → ℕ) (done 
   pub some : done ≤ seen
   pub count : countNonzero pos n ≡ seen
   pub place : (i : ℕ) → i < seen → (ord i < n) × (pos (ord i) ≡ i + 1)
-  pub spot : (u : ℕ) → u < n → 0 < pos u → (pos u ≤ seen) × (ord (pos u - 1) ≡ u)
+  pub place-of : (u : ℕ) → u < n → 0 < pos u → (pos u ≤ seen) × (ord (pos u - 1) ≡ u)
   pub kind : (u : ℕ) → u < n → 0 < pos u → Root par te root u ⊎ HasParent n m to pos par te root u
   pub first : (u : ℕ) → u < n → 0 < pos u → (0 < pos (root u)) × (pos (root u) ≤ pos u)
   pub marked : (u : ℕ) → u < n → 0 < pos u → 0 < mark (root u)
-  pub wait : (u : ℕ) → u < n → done < pos u → root u ≡ r
+  pub pending : (u : ℕ) → u < n → done < pos u → root u ≡ r
   pub out : (h : ℕ) → h < 2 * m → 0 < pos (origin to h) → pos (origin to h) ≤ done → (0 < pos (to h)) × (root (to h) ≡ root (origin to h))
 
 abbrev pub SearchAt : ℕ → ℕ → List ℕ → ℕ → ℕ → ℕ → Type 0
@@ -65,7 +65,7 @@ pub record TreeEdge (n m : ℕ) (to pos root : ℕ → ℕ) (v p t r : ℕ) : Ty
 
 -- v, at place done, is left: its half-edges from k on lead to seen nodes of the tree
 pub record Scanning (n m : ℕ) (w : List ℕ) (done seen r v k : ℕ) : Type 0 where
-  pub ground : AdjacencyLists n m w
+  pub lists : AdjacencyLists n m w
   pub search : SearchAt n m w done seen r
   pub fit : v < n
   pub fit-r : r < n
@@ -75,7 +75,7 @@ pub record Scanning (n m : ℕ) (w : List ℕ) (done seen r v k : ℕ) : Type 0 
 
 -- what the search keeps: fields and half-edges, and that a node was seen
 pub record SearchKeeps (n : ℕ) (a b : List ℕ) : Type 0 where
-  pub kept : Searched n a b
+  pub rest : Searched n a b
   pub more : (u : ℕ) → u < n → 0 < node 4 a u → 0 < node 4 b u
 
 abbrev pub Visited : ℕ → ℕ → List ℕ → List ℕ → ℕ → ℕ → ℕ → ℕ → ℕ → Type 0
@@ -88,18 +88,18 @@ pub record CanVisit (n m : ℕ) (w : List ℕ) (done seen r v h : ℕ) : Type 0 
 
 -- a search in the tree of r
 pub record Growing (n m : ℕ) (w : List ℕ) (done seen r : ℕ) : Type 0 where
-  pub ground : AdjacencyLists n m w
+  pub lists : AdjacencyLists n m w
   pub search : SearchAt n m w done seen r
   pub fit-r : r < n
   pub mark : 0 < node 0 w r
 
 pub record Grown (n m : ℕ) (w w′ : List ℕ) (done seen r : ℕ) : Type 0 where
-  pub went : SearchKeeps n w w′
+  pub keeps : SearchKeeps n w w′
   pub search : SearchAt n m w′ done seen r
 
 -- between two trees: the first j active nodes are seen
 pub record BetweenTrees (n m k : ℕ) (w : List ℕ) (seen j : ℕ) : Type 0 where
-  pub ground : AdjacencyLists n m w
+  pub lists : AdjacencyLists n m w
   pub active : (i : ℕ) → i < k → (node 1 w i < n) × (0 < node 0 w (node 1 w i))
   pub all : k ≤ n
   pub search : SearchAt n m w seen seen 0

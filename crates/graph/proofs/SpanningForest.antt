@@ -125,11 +125,11 @@ module _ (E : List Edge) (S : List ℕ) (T : ClassForest E S) where
     pub on : seen t ≡ true
     pub is-top : top t ≡ t
     pub no-root : root t ≡ false
-    pub hangs : top (par t) ≡ c
+    pub under : top (par t) ≡ c
 
   module _ (c : ℕ) (sc : seen c ≡ true) (tc : top c ≡ c) where
     parent-class : (t : ℕ) → ChildClass c t → TwoEdgeConnected E (par t) c
-    parent-class t k = subst (λ (v : ℕ). TwoEdgeConnected E (par t) v) (k .hangs) (T .top-two (par t) (T .par-seen t (k .on) (k .no-root)))
+    parent-class t k = subst (λ (v : ℕ). TwoEdgeConnected E (par t) v) (k .under) (T .top-two (par t) (T .par-seen t (k .on) (k .no-root)))
 
     child-outside : (t : ℕ) → ChildClass c t → below t c ≡ false
     child-outside t k = sym (same-side E (par t) c (parent-class t k) (below t) (T .top-cut t (k .on) (k .is-top))) ∙ parent-outside t (k .on) (k .no-root)
@@ -185,7 +185,7 @@ module _ (E : List Edge) (S : List ℕ) (T : ClassForest E S) where
         (λ e.
         let nc : ¬ (x ≡ c) = λ q. ne (e ∙ q) in
         onBool (root x) (λ r. absurd (nc (T .below-root c x r h))) λ r.
-        onEq (top (par x)) c (λ q. (x, record { on = s; is-top = e; no-root = r; hangs = q }, T .below-self x)) λ q.
+        onEq (top (par x)) c (λ q. (x, record { on = s; is-top = e; no-root = r; under = q }, T .below-self x)) λ q.
         let (t, k, w) = branch-of n (par x) (omega (arith, T .par-pos x s r)) (T .par-seen x s r) (sym (T .below-parent c x s r nc) ∙ h) q in
         (t, k, onEq x t (λ i. subst (λ (v : ℕ). below t v ≡ true) (sym i) (T .below-self t)) (λ i. T .below-parent t x s r i ∙ w)))
         (λ e.
@@ -319,7 +319,7 @@ module _ (E : List Edge) (S : List ℕ) (T : ClassForest E S) where
       let y = top (par x) in
       let sy = T .top-seen (par x) sp in
       let ty = T .top-top (par x) sp in
-      let k : ChildClass y x = record { on = s; is-top = t; no-root = r; hangs = refl } in
+      let k : ChildClass y x = record { on = s; is-top = t; no-root = r; under = refl } in
       let ly : pos y < pos x = onEq y (par x) (λ i. omega (arith, ap pos i, T .par-pos x s r)) (λ i. omega (arith, T .top-pos (par x) sp i, T .par-pos x s r)) in
       let yx : below y x ≡ true = T .below-parent y x s r (λ i. omega (arith, ap pos i)) ∙ below-class y (par x) sy ty sp ∙ T .below-self y in
       let yc : below y c ≡ true = below-trans (suc (pos c)) y x c (omega arith) (mc .on) yx p in

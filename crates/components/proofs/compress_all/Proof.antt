@@ -18,7 +18,7 @@ loop-holds : tie.Need-loop-holds Inv-loop μ-loop
 loop-holds c = (omega arith, compressed-none (c .before .pre))
 
 get-requires : tie.Need-get-requires Inv-loop μ-loop
-get-requires c κs = let s = c .before .before .loop .inv .1 .only .same in omega (arith, c .before .before .before .before .pre .room, c .before .before .before .before .pre .less)
+get-requires c κs = let s = c .before .before .loop .inv .1 .rest .same in omega (arith, c .before .before .before .before .pre .room, c .before .before .before .before .pre .less)
 
 compress-requires : tie.Need-compress-requires Inv-loop μ-loop
 compress-requires c κs = compressed-can (c .before .before .before .before .before .before .pre) (c .before .before .before .before .loop .inv .1) (omega arith) (c .before .get .ensures .0)
@@ -33,7 +33,7 @@ loop-again : tie.Need-loop-again Inv-loop μ-loop
 loop-again c = (omega arith, compressed-more (c .before .before .before .before .before .before .before .before .before .pre) (c .before .before .before .before .before .before .before .loop .inv .1) (omega arith) (c .before .before .before .before .get .ensures .0) (c .before .before .compress .ensures))
 
 same-length : tie.Need-same-length Inv-loop μ-loop
-same-length c = c .before .loop .inv .1 .only .same
+same-length c = c .before .loop .inv .1 .rest .same
 
 returns : tie.Need-returns Inv-loop μ-loop
 returns c = let e : c .before .loop .i ≡ c .before .before .before .args .seen = omega arith in rw e at (c .before .loop .inv .1)

@@ -40,10 +40,10 @@ loop-again c = let l = c .before .before .before .before .before .before .before
     finding-more l (c .before .before .before .before .before .before .before .before .loop-test .taken) (c .before .before .before .before .before .before .get2 .ensures .0) (c .before .before .before .before .put .ensures) (c .get3 .ensures .0) .0
 
 same-length : tie.Need-same-length Inv-loop μ-loop
-same-length c = c .before .loop .inv .only .same
+same-length c = c .before .loop .inv .rest .same
 
 returns : tie.Need-returns Inv-loop μ-loop
-returns c = record { only = c .before .loop .inv .only; walk = c .before .loop .inv .walk; top = omega arith }
+returns c = record { rest = c .before .loop .inv .rest; walk = c .before .loop .inv .walk; top = omega arith }
 
 pub find-spec : {M : Type 1} → statement M
 find-spec =

@@ -21,7 +21,7 @@ same-length : tie.Need-same-length
 same-length c = search needs
 
 returns : tie.Need-returns
-returns c = components (c .before .before .before .before .before .before .before .before .before .before .before .before .before .before .spanning-forest .ensures .1) (c .before .before .before .before .before .before .before .before .before .before .before .before .before .before .spanning-forest .ensures .2) (c .before .before .before .before .before .before .before .before .before .before .start-tops .ensures) (c .before .before .before .before .before .before .merge-edges .ensures) (c .before .before .before .before .before .before .before .before .before .before .before .before .before .before .spanning-forest .ensures .0 .kept) (c .before .before .compress-all .ensures)
+returns c = components (c .before .before .before .before .before .before .before .before .before .before .before .before .before .before .spanning-forest .ensures .1) (c .before .before .before .before .before .before .before .before .before .before .before .before .before .before .spanning-forest .ensures .2) (c .before .before .before .before .before .before .before .before .before .before .start-tops .ensures) (c .before .before .before .before .before .before .merge-edges .ensures) (c .before .before .before .before .before .before .before .before .before .before .before .before .before .before .spanning-forest .ensures .0 .rest) (c .before .before .compress-all .ensures)
 
 pub find-components-spec : {M : Type 1} → statement M
 find-components-spec =

@@ -30,7 +30,7 @@ loop-again : tie.Need-loop-again Inv-loop μ-loop
 loop-again c = (omega arith, merged-more (c .before .before .before .before .before .before .before .pre) (c .before .before .before .before .before .loop .inv .1) (omega arith) (c .before .before .merge-edge .ensures))
 
 same-length : tie.Need-same-length Inv-loop μ-loop
-same-length c = c .before .loop .inv .1 .only .same
+same-length c = c .before .loop .inv .1 .rest .same
 
 returns : tie.Need-returns Inv-loop μ-loop
 returns c = let e : c .before .loop .e ≡ c .before .before .before .args .m = omega arith in rw e at (c .before .loop .inv .1)

@@ -42,7 +42,7 @@ loop-again-2 : tie.Need-loop-again-2 Inv-loop μ-loop
 loop-again-2 c = loop-more (c .before .before .before .before .before .before .before .before .before .before .before .before .pre .0) (c .before .before .before .before .before .before .before .before .before .before .loop .inv) (c .before .before .before .before .before .before .before .before .before .loop-test .taken) (omega arith) (c .before .before .merge-parent2 .ensures) .0
 
 same-length : tie.Need-same-length Inv-loop μ-loop
-same-length c = c .before .loop .inv .only .same
+same-length c = c .before .loop .inv .rest .same
 
 returns : tie.Need-returns Inv-loop μ-loop
 returns c = loop-done (c .before .before .before .pre .0) (c .before .loop .inv) (omega arith)

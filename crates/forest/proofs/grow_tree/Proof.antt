@@ -21,7 +21,7 @@ scan-node-requires : tie.Need-scan-node-requires Inv-loop μ-loop
 scan-node-requires c κs = (growing-still (c .before .before .before .before .pre) (c .before .before .loop .inv), omega arith)
 
 add-done : tie.Need-add-done Inv-loop μ-loop
-add-done c = omega (arith, grown-less (c .before .before .before .before .before .loop .inv), c .before .before .before .before .before .before .before .pre .ground .few)
+add-done c = omega (arith, grown-less (c .before .before .before .before .before .loop .inv), c .before .before .before .before .before .before .before .pre .lists .few)
 
 loop-less : tie.Need-loop-less Inv-loop μ-loop
 loop-less c = omega (arith, grown-less (c .before .before .before .before .before .loop .inv))
@@ -30,7 +30,7 @@ loop-again : tie.Need-loop-again Inv-loop μ-loop
 loop-again c = grown-then (c .before .before .before .before .before .loop .inv) (c .before .before .scan-node .ensures)
 
 same-length : tie.Need-same-length Inv-loop μ-loop
-same-length c = c .before .loop .inv .went .kept .same
+same-length c = c .before .loop .inv .keeps .rest .same
 
 returns : tie.Need-returns Inv-loop μ-loop
 returns c = let e : c .before .loop .done ≡ c .before .loop .seen = omega arith in rw e at (c .before .loop .inv)

@@ -32,7 +32,7 @@ sub-get-half : tie.Need-sub-get-half Inv-loop μ-loop
 sub-get-half c = search needs
 
 get-half-requires : tie.Need-get-half-requires Inv-loop μ-loop
-get-half-requires c κs = let g = c .before .before .before .visit-half .ensures .1 .ground in omega (arith, g .room, c .before .before .before .before .before .before .loop .inv .low)
+get-half-requires c κs = let g = c .before .before .before .visit-half .ensures .1 .lists in omega (arith, g .room, c .before .before .before .before .before .before .loop .inv .low)
 
 loop-less : tie.Need-loop-less Inv-loop μ-loop
 loop-less c = scan-more (c .before .before .before .before .before .before .before .loop .inv) (c .before .before .before .before .before .before .loop-test .taken) (c .before .before .before .before .visit-half .ensures) (c .get-half .ensures .0) .1
@@ -41,7 +41,7 @@ loop-again : tie.Need-loop-again Inv-loop μ-loop
 loop-again c = scan-more (c .before .before .before .before .before .before .before .loop .inv) (c .before .before .before .before .before .before .loop-test .taken) (c .before .before .before .before .visit-half .ensures) (c .get-half .ensures .0) .0
 
 same-length : tie.Need-same-length Inv-loop μ-loop
-same-length c = c .before .loop .inv .went .kept .same
+same-length c = c .before .loop .inv .keeps .rest .same
 
 returns : tie.Need-returns Inv-loop μ-loop
 returns c = scan-done (c .before .loop .inv) (omega arith)

@@ -30,12 +30,12 @@ loop-again : tie.Need-loop-again Inv-loop μ-loop
 loop-again c = (omega arith, keeps-then (c .before .before .before .before .before .loop .inv .1) (c .before .before .start-tree .ensures .0), c .before .before .start-tree .ensures .1)
 
 same-length : tie.Need-same-length Inv-loop μ-loop
-same-length c = c .before .loop .inv .1 .kept .same
+same-length c = c .before .loop .inv .1 .rest .same
 
 returns : tie.Need-returns Inv-loop μ-loop
 returns c = let e : c .before .loop .j ≡ c .before .before .before .args .k = omega arith in
     let b = c .before .loop .inv .2 in
-    (c .before .loop .inv .1, rw e at b, forest-of (b .ground) (b .search))
+    (c .before .loop .inv .1, rw e at b, forest-of (b .lists) (b .search))
 
 pub spanning-forest-spec : {M : Type 1} → statement M
 spanning-forest-spec =
