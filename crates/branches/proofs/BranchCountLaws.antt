@@ -1,9 +1,9 @@
--- TODO head
+-- Laws of counting branches: a node that reports nothing, one that reports, over functions and then at the words.
 -- Assumes nothing.
 use Prim.Native.Nat.{_+_, _-_, _<_, ℕ}
 use mathlib.Core.Bool.{false, true}
 use mathlib.Core.List.{List, [], _∷_}
-use mathlib.Core.Logic.{_⊎_, inl, inr, ⊎-elim}
+use mathlib.Core.Logic.{inl, inr, ⊎-elim}
 use mathlib.Core.Path.{_∙_, _≡_, ap, refl, sym}
 use lib.Dec.{eqb}
 use native.Mathlib.Omega.{arith}
@@ -26,7 +26,7 @@ module _ {n seen : ℕ} {ord pos par te top live₀ live child other : ℕ → �
       let far : pos c ≡ i + 1 → ⊥ = λ e. ne (sym (g .place-of c l (omega arith) .1) ∙ ap (λ k. ord (k - 1)) (e ∙ sym at) ∙ g .place-of v fit (omega arith) .1) in
       h ne (omega arith))
 
-  -- v is not told
+  -- v reports nothing
   pub count-skip : (top v ≡ v → (te v ≡ 0 → ⊥) → live v ≡ 0) → Branches n pos par te top live₀ live child other i
   count-skip quiet = record {
     witness = w .witness;
@@ -38,7 +38,7 @@ module _ {n seen : ℕ} {ord pos par te top live₀ live child other : ℕ → �
         (λ _ r. w .all t c l k r a);
   }
 
-  -- v is told to q
+  -- v reports to the class above, q
   module _ (is-top : top v ≡ v) (has-edge : te v ≡ 0 → ⊥) (alive : live v ≡ 0 → ⊥) where
     low : pos (top (par v)) < i + 1
     low = omega (arith, g .up v fit (omega arith) has-edge)

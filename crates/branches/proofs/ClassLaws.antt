@@ -1,4 +1,4 @@
--- TODO head
+-- The words from one call of `number_classes` to the next.
 -- Assumes nothing.
 use Prim.Native.Nat.{_*_, _<_, _≤_, ℕ}
 use mathlib.Core.List.{List, [], _∷_}

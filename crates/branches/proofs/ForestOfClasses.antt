@@ -1,4 +1,4 @@
--- TODO head
+-- The forest of the search with its final tops is a spanning forest with tops as graph/proofs/SpanningForest has it, and what counting leaves are its witnesses.
 -- Assumes nothing.
 use Prim.Native.Nat.{_*_, _+_, _-_, _<_, _≤_, suc, zero, ℕ}
 use mathlib.Core.Bool.{Bool, _&&_, _||_, false, not, true}
@@ -10,12 +10,13 @@ use native.Mathlib.Omega.{arith}
 use borrow.Author.Tests.{eq-eqb, eqb-false, eqb-true, lt-ltb, ltb-false, ltb-true, ne-eqb}
 use Rattle.branches.proofs.KeptClasses.{Witnesses}
 use Rattle.branches.specs.BranchCounts.{Branches, Child}
+use Rattle.components.proofs.CrossingEdges.{none-crosses}
 use Rattle.components.proofs.ComponentLaws.{ancestor-root, ancestor-self, ancestorWithin, descendants, descendants-cut, descendants-parent, descendants-unseen, same-top-class}
 use Rattle.components.specs.Merging.{FinalTops}
 use Rattle.forest.specs.Forest.{Forest, HasParent, Joins, edgesBelow}
 use Rattle.graph.proofs.Booleans.{and-elim, contradict, onBool}
 use Rattle.graph.proofs.SpanningForest.{ChildClass, ClassForest, below-class, below-trans}
-use Rattle.graph.specs.Cut.{crosses, cut}
+use Rattle.graph.specs.Cut.{cut}
 use Rattle.graph.specs.Graph.{Edge, NodeSet}
 use Rattle.graph.specs.Route.{Adjacent, back, fore, next}
 
@@ -31,13 +32,8 @@ edge-adjacent to (suc m) e l = onBool (eqb e m)
     (λ q. subst (λ (v : ℕ). Adjacent (to (2 * v)) (to (2 * v + 1)) (edgesBelow to (suc m))) (sym (eqb-true e m q)) fore)
     (λ q. let ne : ¬ (e ≡ m) = eqb-false e m q in next (edge-adjacent to m e (omega arith)))
 
-x1-same : (a b : Bool) → a ≡ b → crosses a b ≤ 0
-x1-same true b e = subst (λ (b : Bool). crosses true b ≤ 0) e (omega arith)
-x1-same false b e = subst (λ (b : Bool). crosses false b ≤ 0) e (omega arith)
-
 none-cross : (U : NodeSet) (to : ℕ → ℕ) (m : ℕ) → ((e : ℕ) → e < m → U (to (2 * e)) ≡ U (to (2 * e + 1))) → cut U (edgesBelow to m) ≤ 0
-none-cross U to zero q = omega arith
-none-cross U to (suc m) q = omega (arith, x1-same (U (to (2 * m))) (U (to (2 * m + 1))) (q m (omega arith)), none-cross U to m (λ e l. q e (omega arith)))
+none-cross U to m q = omega (arith, none-crosses U to m q)
 
 -- ---- the sets
 unfoldable pub isSeen : ℕ → (ℕ → ℕ) → NodeSet

@@ -1,4 +1,5 @@
--- TODO head
+-- Kept classes by witnesses: a class without an active node is kept just where it has two branches; the nearest kept class at or above a class; and kept classes
+-- with numbers, each with the nearest above, are a small forest. Over a spanning forest with tops (graph/proofs/SpanningForest).
 -- Assumes nothing.
 use Prim.Native.Nat.{_+_, _-_, _<_, _≤_, suc, zero, ℕ}
 use mathlib.Core.Bool.{false, true}
@@ -22,7 +23,7 @@ between-move E x x′ z z′ y y′ p q r n (U, a, b, c, h) = n (U, same-side E 
 module _ (E : List Edge) (S : List ℕ) (T : ClassForest E S) where
   open ClassForest T using (seen, root, par, top, pos, below)
 
-  -- live t is not 0 where an active node is at or below the class t; kid t and other t are one more than two of its live children, where there are two
+  -- live t is not 0 where an active node is at or below the class t; child t and other t are one more than two of its branches, where there are two
   pub record Witnesses (live child other : ℕ → ℕ) : Type 0 where
     pub still : (a : ℕ) → List·Memᴰ a S → ¬ (live (top a) ≡ 0)
     pub wit : (t : ℕ) → seen t ≡ true → ¬ (live t ≡ 0) → (a : ℕ) × List·Memᴰ a S × (below t a ≡ true)
@@ -57,7 +58,7 @@ module _ (E : List Edge) (S : List ℕ) (T : ClassForest E S) where
         let s = T .active a m in
         live-up (suc (pos (top a))) c (top a) (omega arith) (T .top-seen a s) (T .top-top a s) (W .still a m) sc tc (sym (below-class E S T c a sc tc s) ∙ h)
 
-    -- two live children
+    -- two branches
     pub other-kept : (c : ℕ) → seen c ≡ true → top c ≡ c → ¬ (other c ≡ 0) → Kept E S c
     other-kept c sc tc o =
         let (k, a, ne, nz) = W .two c sc o in

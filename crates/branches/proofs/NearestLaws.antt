@@ -1,4 +1,4 @@
--- TODO head
+-- Laws of the nearest kept class at or above each class, and above each number: over functions first, then at the words.
 -- Assumes nothing.
 use Prim.Native.Nat.{_+_, _-_, _<_, _≤_, ℕ}
 use mathlib.Core.Bool.{false}
@@ -97,7 +97,7 @@ module _ {n seen i v : ℕ} {a w : List ℕ} (g : CanNearestAll n seen a) (s : N
             (rw (keep 10 (omega arith) refl) at (f .numbered)) (rw (keep 10 (omega arith) refl, keep 6 (omega arith) refl, keep 5 (omega arith) refl) at (f .up)));
       })
 
--- ---- right above
+-- ---- above each number
 module _ {n x : ℕ} {a : List ℕ} (g : CanParent n a x) {v t e : ℕ} (ev : v ≡ node 11 a x) (et : t ≡ node 6 a v) (ee : e ≡ node 13 a t) where
   t-is : t ≡ node 6 a (node 11 a x)
   t-is = et ∙ ap (node 6 a) ev
@@ -172,5 +172,3 @@ module _ {n h x : ℕ} {a w : List ℕ} (g : CanParents n h a) (s : ParentLoop n
           (λ u ne b. s .parents .some u (omega arith));
     });
   }
-
--- ---- clear

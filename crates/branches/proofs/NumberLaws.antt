@@ -1,7 +1,6 @@
--- TODO head
+-- Laws of numbering: classes with an active node in order of first appearance, the others by their smallest nodes; over functions first, then at the words.
 -- Assumes nothing.
 use Prim.Native.Nat.{_+_, _-_, _<_, _≤_, ℕ}
-use mathlib.Core.Bool.{Bool, _||_, false, true, true≢false}
 use mathlib.Core.List.{List, [], _∷_}
 use mathlib.Core.Logic.{_⊎_, inl, inr, ⊎-elim}
 use mathlib.Core.Path.{_∙_, _≡_, ap, refl, subst, sym}
@@ -15,7 +14,6 @@ use Rattle.words.proofs.ChangeLaws.{only-more, only-none, only-put, only-then}
 use Rattle.words.proofs.FieldLaws.{update-at, update-other, update-same}
 use Rattle.words.specs.Fields.{Put, node, update}
 
--- ---- fields that stay
 -- ---- numbers, over functions
 pub numbers-none : {n : ℕ} {top nr rep : ℕ → ℕ} → ((v : ℕ) → v < n → nr v ≡ 0) → Numbers n 0 top nr rep
 numbers-none {n} {nr = nr} z = record { count = count-none nr n z; place = λ i l. absurd (omega arith); place-of = λ c l ne. absurd (ne (z c l)) }

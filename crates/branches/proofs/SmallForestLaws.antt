@@ -1,4 +1,4 @@
--- TODO head
+-- A small forest with its edges listed is a small graph.
 -- Assumes nothing.
 use Prim.Native.Nat.{_<_, ℕ}
 use mathlib.Core.List.{List}

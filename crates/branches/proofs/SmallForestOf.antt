@@ -1,8 +1,8 @@
--- TODO head
+-- What the loops leave behind is a small forest, with the numbering that document 01 fixes.
 -- Assumes nothing.
 use Prim.Native.Nat.{_+_, _-_, _<_, _≤_, suc, zero, ℕ}
 use mathlib.Core.Bool.{_&&_, true}
-use mathlib.Core.List.{List, List·Memᴰ, List·Memᴰ·cases-cons, List·Memᴰ·head, List·Memᴰ·not-nil, List·Memᴰ·tail, map}
+use mathlib.Core.List.{List, List·Memᴰ, map}
 use mathlib.Core.Logic.{inl, inr, ⊎-elim}
 use mathlib.Core.Path.{_∙_, _≡_, ap, ap₂, refl, subst, sym}
 use lib.Dec.{eqb, ltb}
@@ -18,6 +18,7 @@ use Rattle.components.specs.Merging.{FinalTops}
 use Rattle.forest.specs.Forest.{Forest, edgesBelow}
 use Rattle.graph.proofs.ActiveLists.{order-new, order-old}
 use Rattle.graph.proofs.Booleans.{and-elim, onBool}
+use Rattle.graph.proofs.Lists.{table-in, table-mem}
 use Rattle.graph.proofs.Kept.{Kept, kept-active, kept-class}
 use Rattle.graph.proofs.Separation.{insep-sym, twoEdge-connected}
 use Rattle.graph.proofs.SpanningForest.{ClassForest}
@@ -25,20 +26,7 @@ use Rattle.graph.specs.Graph.{Edge, NodeSet}
 use Rattle.graph.specs.Lists.{table}
 use Rattle.graph.specs.SmallGraph.{Canonical, Idle, inOrder}
 
--- ---- the list of active nodes
-pub table-at : (act : ℕ → ℕ) (c j i : ℕ) → j ≤ i → i < j + c → List·Memᴰ (act i) (table act j c)
-table-at act zero j i p q = absurd (omega arith)
-table-at act (suc c) j i p q = onBool (eqb i j)
-    (λ e. List·Memᴰ·head (ap act (eqb-true i j e)))
-    (λ e. let ne : ¬ (i ≡ j) = eqb-false i j e in List·Memᴰ·tail (table-at act c (suc j) i (omega arith) (omega arith)))
-
-pub table-index : (act : ℕ → ℕ) (c j a : ℕ) → List·Memᴰ a (table act j c) → (i : ℕ) × (j ≤ i) × (i < j + c) × (a ≡ act i)
-table-index act zero j a m = absurd (List·Memᴰ·not-nil m)
-table-index act (suc c) j a m = ⊎-elim
-    (λ e. (j, omega arith, omega arith, e))
-    (λ t. let (i, p, q, e) = table-index act c (suc j) a t in (i, omega arith, omega arith, e))
-    (List·Memᴰ·cases-cons m)
-
+-- numbers given in order of first appearance
 table-order : (σ act f : ℕ → ℕ) → ((i : ℕ) → σ (act i) ≡ f i - 1) → (c j b : ℕ) → ((i : ℕ) → i < j + c → ¬ (f i ≡ 0)) → ((i : ℕ) → i < j + c → Prior f i) → ((i : ℕ) → i < j → f i ≤ b)
     → inOrder b (map σ (table act j c)) ≡ true
 table-order σ act f s zero j b nz pr low = refl
@@ -71,10 +59,10 @@ module _ {n m k seen h₀ h : ℕ} {to pos par te root top mark act nr₀ rep₀
   S = table act 0 k
 
   is-act : (a : ℕ) → List·Memᴰ a S → (j : ℕ) × (j < k) × (a ≡ act j)
-  is-act a i = let (j, _, l, e) = table-index act k 0 a i in (j, omega arith, e)
+  is-act a i = let (j, l, e) = table-mem act 0 k a i in (j, omega arith, e)
 
   in-act : (j : ℕ) → j < k → List·Memᴰ (act j) S
-  in-act j l = table-at act k 0 j (omega arith) (omega arith)
+  in-act j l = table-in act 0 k j (omega arith) (omega arith)
 
   active : (a : ℕ) → List·Memᴰ a S → (a < n) × (0 < pos a)
   active a i = let (j, l, e) = is-act a i in (subst (λ (v : ℕ). v < n) (sym e) (actives j l .0), subst (λ (v : ℕ). 0 < pos v) (sym e) (have j l))

@@ -1,5 +1,6 @@
--- TODO head
--- Assumes nothing.
+-- The branches of a class: the classes right below it that have an active node at or below them. Witnesses in place of a count: `live` is one more than an active node
+-- at or below the class, `child` one more than the last branch reported, `other` one more than one reported before; 0 stands for none.
+-- Assumes nothing: these are definitions.
 use Prim.Native.Nat.{_*_, _+_, _-_, _<_, _≤_, ℕ}
 use mathlib.Core.Bool.{Bool, true}
 use mathlib.Core.List.{List, [], _∷_}
@@ -49,9 +50,9 @@ pub record Reported (n v q : ℕ) (a b : List ℕ) : Type 0 where
 abbrev pub Report : ℕ → ℕ → List ℕ → List ℕ → Type 0
 Report n v a b = ((b ≡ a) × (node 6 a v ≡ v → (node 13 a v ≡ 0 → ⊥) → node 7 a v ≡ 0)) ⊎ Reported n v (node 6 a (node 5 a v)) a b
 
--- those after place i have been told
+-- those after place i have reported
 pub record Branches (n : ℕ) (pos par te top live₀ live child other : ℕ → ℕ) (i : ℕ) : Type 0 where
-  -- a relation that goes up with the classes holds of each witness
+  -- a relation that goes up from a class to the one above holds of each active node kept as a witness
   pub witness : (P : ℕ → ℕ → Bool) → ((t c x : ℕ) → Child n pos par te top t c → P c x ≡ true → P t x ≡ true) → ((t : ℕ) → t < n → (live₀ t ≡ 0 → ⊥) → P t (live₀ t) ≡ true)
       → (t : ℕ) → t < n → (live t ≡ 0 → ⊥) → P t (live t) ≡ true
   pub still : (t : ℕ) → (live₀ t ≡ 0 → ⊥) → live t ≡ 0 → ⊥

@@ -1,5 +1,5 @@
--- TODO head
--- Assumes nothing.
+-- What `number_classes` takes and gives.
+-- Assumes nothing: these are definitions.
 use Prim.Native.Nat.{_*_, _-_, _<_, _≤_, ℕ}
 use mathlib.Core.List.{List, [], _∷_}
 use mathlib.Core.Path.{_≡_}
@@ -13,7 +13,7 @@ use Rattle.graph.specs.SmallGraph.{Canonical}
 use Rattle.words.specs.Changes.{OnlyFields}
 use Rattle.words.specs.Fields.{half, node}
 
--- the classes are found, and each marked node is one of the k active nodes
+-- before: the components are found, each marked node is one of the k active nodes, and there is no number and no branch yet
 pub record CanNumberClasses (n m k seen : ℕ) (w : List ℕ) : Type 0 where
   pub search : BetweenTrees n m k w seen k
   pub forest : ForestAt n m w
@@ -32,7 +32,7 @@ pub record HasNumber (n : ℕ) (w : List ℕ) (v : ℕ) : Type 0 where
 abbrev pub classFields : List ℕ
 classFields = 7 ∷ 8 ∷ 9 ∷ 10 ∷ 11 ∷ []
 
--- after: h numbers, field 11 has a node of each, field 9 the number right above, and the number of v's class is one less than field 10 of field 6 of v
+-- after: h numbers; field 11 has a node of each, field 9 its parent number, and the number of v's class is one less than field 10 of v's top
 pub record ClassNumbers (n m k : ℕ) (a : List ℕ) (h : ℕ) (w : List ℕ) : Type 0 where
   pub forest : SmallForest (edgesBelow (half n 0 a) m) (table (node 1 a) 0 k) h (node 11 w) (λ v. node 10 w (node 6 w v) - 1) (node 9 w)
   pub canonical : Canonical (edgesBelow (half n 0 a) m) (table (node 1 a) 0 k) h (node 11 w) (λ v. node 10 w (node 6 w v) - 1)

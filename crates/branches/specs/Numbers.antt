@@ -1,5 +1,6 @@
--- TODO head
--- Assumes nothing.
+-- The loops that number the kept classes and find the nearest kept class above each. Functions: `nr` of a top is one more than the number of its class (0 for none),
+-- `rep` of a number a node of its class, `near` of a top one more than the number of the nearest kept class at or above, `up` of a number that of the nearest above.
+-- Assumes nothing: these are definitions.
 use Prim.Native.Nat.{_*_, _+_, _-_, _<_, _≤_, ℕ}
 use mathlib.Core.List.{List, [], _∷_}
 use mathlib.Core.Logic.{_⊎_}
@@ -39,7 +40,7 @@ pub record CanNumber (n h : ℕ) (w : List ℕ) (v : ℕ) : Type 0 where
   pub fit : v < n
   pub top-fit : node 6 w v < n
 
--- the class of the active node v has a number, or gets the next, and then it is live by v
+-- the class of the active node v gets the next number, and v is its active node
 pub record NumberedActive (n h v : ℕ) (a b : List ℕ) (h′ : ℕ) : Type 0 where
   pub new : node 10 a (node 6 a v) ≡ 0
   pub more : h′ ≡ h + 1
@@ -76,7 +77,7 @@ pub record CanNumberActives (n k : ℕ) (w : List ℕ) : Type 0 where
   pub top-fit : (v : ℕ) → v < n → node 6 w v < n
   pub none : (v : ℕ) → v < n → (node 10 w v ≡ 0) × (node 7 w v ≡ 0)
 
--- v's class gets the next number, where it has none and two live children
+-- v's class gets the next number, where it has none and two branches
 pub record NumberedOther (n h v : ℕ) (a b : List ℕ) (h′ : ℕ) : Type 0 where
   pub new : node 10 a (node 6 a v) ≡ 0
   pub seen : ¬ (node 4 a v ≡ 0)
@@ -87,7 +88,7 @@ pub record NumberedOther (n h v : ℕ) (a b : List ℕ) (h′ : ℕ) : Type 0 wh
 abbrev pub OtherStep : ℕ → ℕ → ℕ → List ℕ → List ℕ → ℕ → Type 0
 OtherStep n h v a b h′ = ((b ≡ a) × (h′ ≡ h) × (¬ (node 4 a v ≡ 0) → ¬ (node 9 a (node 6 a v) ≡ 0) → ¬ (node 10 a (node 6 a v) ≡ 0))) ⊎ NumberedOther n h v a b h′
 
--- of the classes without a number those with two live children and a node below v have got theirs, by their smallest nodes
+-- of the classes that had no number those with two branches and a node below v have got theirs, by their smallest nodes
 pub record OtherNumbers (n h₀ v h : ℕ) (pos top other nr₀ nr rep₀ rep : ℕ → ℕ) : Type 0 where
   pub numbers : Numbers n h top nr rep
   pub more : h₀ ≤ h
@@ -116,7 +117,7 @@ pub record CanNearest (n : ℕ) (w : List ℕ) (v : ℕ) : Type 0 where
   pub par-fit : node 5 w v < n
   pub top-fit : node 6 w (node 5 w v) < n
 
--- the top v gets the number of its class, or where it has none what the class right above has
+-- the top v gets the number of its class, or where it has none what the class above has
 pub record SetNearest (n v : ℕ) (a b : List ℕ) : Type 0 where
   pub value : ℕ
   pub numbered : ¬ (node 10 a v ≡ 0) → value ≡ node 10 a v
@@ -140,7 +141,7 @@ pub record CanNearestAll (n seen : ℕ) (w : List ℕ) : Type 0 where
   pub room : 16 * n ≤ length w
   pub tree : TreeOrderAt n seen w
 
--- the class with number x, which has the top t, gets what the class right above has; a root's class gets 0
+-- number x gets what the class above its class has; a root's class gets 0
 pub record CanParent (n : ℕ) (w : List ℕ) (x : ℕ) : Type 0 where
   pub few : n ≤ 65536
   pub room : 16 * n ≤ length w

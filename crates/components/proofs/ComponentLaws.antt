@@ -1,4 +1,4 @@
--- TODO head
+-- Why merging is complete: at most one edge leaves the nodes below a top, its tree edge. So two seen nodes have one top just where no such set parts them.
 -- Assumes nothing.
 use Prim.Native.Nat.{_*_, _+_, _-_, _<_, _≤_, suc, zero, ℕ}
 use mathlib.Core.Bool.{Bool, _||_, false, true, true≢false}
@@ -75,11 +75,11 @@ module _ {n m : ℕ} {to pos par te root : ℕ → ℕ} (f : Forest n m to pos p
   unfolding descendants ancestorWithin
   descendants-unseen u z = rw z refl
 
-  module _ (t : ℕ → ℕ) (tops : Tops n pos t) (done : (descendants : NodeSet) → FollowsParents n par t descendants → (e : ℕ) → e < m → NonTreeEdge to pos te e → descendants (to (2 * e)) ≡ descendants (to (2 * e + 1))) (ta : t a ≡ a) where
+  module _ (t : ℕ → ℕ) (tops : Tops n pos t) (done : (D : NodeSet) → FollowsParents n par t D → (e : ℕ) → e < m → NonTreeEdge to pos te e → D (to (2 * e)) ≡ D (to (2 * e + 1))) (ta : t a ≡ a) where
     pub descendants-follow : FollowsParents n par t descendants
     descendants-follow u l ne = descendants-parent u l (omega (arith, tops .up u l ne)) (λ e. ne (ap t e ∙ ta ∙ sym e))
 
-    -- an end that hangs by e
+    -- an end whose tree edge is e
     tree-edge-inside : (e u : ℕ) → e < m → (e ≡ te a - 1 → ⊥) → u < n → 0 < pos u → te u ≡ e + 1 → descendants (to (2 * e)) ≡ descendants (to (2 * e + 1))
     tree-edge-inside e u l ne i s q = ⊎-elim
         (λ r. absurd (omega (arith, r .none)))

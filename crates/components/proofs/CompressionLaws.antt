@@ -1,4 +1,4 @@
--- TODO head
+-- Laws of the loops before and after merging: each node its own top, and each top final.
 -- Assumes nothing.
 use Prim.Native.Nat.{_+_, _-_, _<_, _≤_, ℕ}
 use mathlib.Core.List.{List}
@@ -7,7 +7,7 @@ use lib.Dec.{eqb}
 use native.Mathlib.Omega.{arith}
 use borrow.Author.Tests.{eqb-false, eqb-true}
 use Rattle.components.proofs.FindLaws.{path-halve, path-none}
-use Rattle.words.proofs.ChangeLaws.{only-none, only-then, only-then-put}
+use Rattle.words.proofs.ChangeLaws.{only-none, only-then-put}
 use Rattle.components.specs.Tops.{CanCompress, CanFind, Compressed, FindPath, OwnTops, Tops}
 use Rattle.graph.proofs.Booleans.{onBool}
 use Rattle.words.proofs.FieldLaws.{update-at}

@@ -1,4 +1,4 @@
--- TODO head
+-- Which edges of the half-edges cross a set: where one crosses a small cut no other does, and where no edge but one crosses at most one edge leaves the set.
 -- Assumes nothing.
 use Prim.Native.Nat.{_*_, _+_, _<_, _≤_, suc, zero, ℕ}
 use mathlib.Core.Bool.{Bool, false, false≢true, true, true≢false}
@@ -9,21 +9,9 @@ use native.Mathlib.Omega.{arith}
 use borrow.Author.Tests.{eqb-false, eqb-true, ltb-false, ltb-true}
 use Rattle.forest.specs.Forest.{edgesBelow}
 use Rattle.graph.proofs.Booleans.{onBool}
-use Rattle.graph.proofs.Cuts.{crosses-zero}
+use Rattle.graph.proofs.Cuts.{crosses-le, crosses-same, crosses-zero}
 use Rattle.graph.specs.Cut.{crosses, cut}
 use Rattle.graph.specs.Graph.{NodeSet}
-
-crosses-le : (a b : Bool) → crosses a b ≤ 1
-crosses-le true true = omega arith
-crosses-le true false = omega arith
-crosses-le false true = omega arith
-crosses-le false false = omega arith
-
-crosses-same : (a b : Bool) → a ≡ b → crosses a b ≡ 0
-crosses-same true true e = refl
-crosses-same true false e = absurd (true≢false e)
-crosses-same false true e = absurd (false≢true e)
-crosses-same false false e = refl
 
 crosses-other : (a b : Bool) → (a ≡ b → ⊥) → crosses a b ≡ 1
 crosses-other true true e = absurd (e refl)
@@ -64,13 +52,13 @@ module _ (U : NodeSet) (to : ℕ → ℕ) where
       (λ q. crosses-zero _ _ (omega (arith, crossesAt-two m i j (ltb-true i j q) k)))
       (λ q. crosses-zero _ _ (omega (arith, crossesAt-two m j i (omega (arith, ltb-false i j q)) l)))
 
-  none-crosses : (m : ℕ) → ((e : ℕ) → e < m → U (to (2 * e)) ≡ U (to (2 * e + 1))) → cut U (edgesBelow to m) ≡ 0
+  pub none-crosses : (m : ℕ) → ((e : ℕ) → e < m → U (to (2 * e)) ≡ U (to (2 * e + 1))) → cut U (edgesBelow to m) ≡ 0
   none-crosses zero h = refl
-  none-crosses (suc m) h = omega (arith, none-crosses m (λ e l. h e (omega arith)), crosses-same _ _ (h m (omega arith)))
+  none-crosses (suc m) h = omega (arith, none-crosses m (λ e l. h e (omega arith)), crosses-same (h m (omega arith)))
 
   -- no edge but f crosses
   pub only-one-crosses : (m f : ℕ) → ((e : ℕ) → e < m → (e ≡ f → ⊥) → U (to (2 * e)) ≡ U (to (2 * e + 1))) → cut U (edgesBelow to m) ≤ 1
   only-one-crosses zero f h = omega arith
   only-one-crosses (suc m) f h = onBool (eqb m f)
       (λ q. omega (arith, none-crosses m (λ e l. h e (omega arith) (λ z. omega (arith, eqb-true m f q))), crosses-le (U (to (2 * m))) (U (to (2 * m + 1)))))
-      (λ q. omega (arith, only-one-crosses m f (λ e l n. h e (omega arith) n), crosses-same _ _ (h m (omega arith) (eqb-false m f q))))
+      (λ q. omega (arith, only-one-crosses m f (λ e l n. h e (omega arith) n), crosses-same (h m (omega arith) (eqb-false m f q))))

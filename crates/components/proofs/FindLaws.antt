@@ -1,4 +1,4 @@
--- TODO head
+-- Laws of `find`: following the tops, with the path halved, changes no top and no side of a set that the tops do not leave.
 -- Assumes nothing.
 use Prim.Native.Nat.{_*_, _<_, _≤_, ℕ}
 use mathlib.Core.List.{List}

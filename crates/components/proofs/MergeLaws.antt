@@ -1,4 +1,4 @@
--- TODO head
+-- Why merging is sound: a set that at most one edge leaves parts no node from the parent that it is merged with. Then the laws of the loop over the edges.
 -- Assumes nothing.
 use Prim.Native.Nat.{_*_, _+_, _<_, _≤_, suc, zero, ℕ}
 use mathlib.Core.List.{List}
@@ -7,7 +7,7 @@ use mathlib.Core.Path.{_∙_, _≡_, ap, refl, sym}
 use native.Mathlib.Omega.{arith}
 use borrow.Author.Count.{below-more}
 use Rattle.components.proofs.CrossingEdges.{bool-dec, one-crosses}
-use Rattle.words.proofs.ChangeLaws.{only-none, only-then, only-then-put}
+use Rattle.words.proofs.ChangeLaws.{only-none, only-then}
 use Rattle.components.specs.Merging.{CanMerge, CanMergeEdge, EdgeMerged, EdgesMerged, NonTreeEdge}
 use Rattle.components.specs.Tops.{AllowsMerge, CanMergePath, FollowsParents, MergedPath, OnlyTops, SameTree, SearchOrder, Stable}
 use Rattle.forest.specs.Forest.{Forest, ForestAt, HasParent, Joins, edgesBelow}
@@ -23,7 +23,7 @@ module _ {n m : ℕ} {to pos par te root : ℕ → ℕ} (f : Forest n m to pos p
     first = f .first;
   }
 
-  -- an edge hangs one node only
+  -- an edge is the tree edge of one node only
   pub edge-once : (a u : ℕ) (h : HasParent n m to pos par te root a) (k : HasParent n m to pos par te root u) → pos u < pos a → h .edge ≡ k .edge → ⊥
   edge-once a u h k l e =
       let j : Joins to (h .edge) u (par u) = rw e (k .join) in
@@ -80,7 +80,7 @@ module _ {n m : ℕ} {to pos par te root : ℕ → ℕ} (f : Forest n m to pos p
 pub ready-of : {n m e : ℕ} {w : List ℕ} → CanMergeEdge n m e w → CanMergePath n w
 ready-of t = record { few = t .few; room = omega (arith, t .room); tops = t .tops; order = order-of (t .forest); full = t .full }
 
--- the words that changed leave the forest as it was
+-- a change of the tops leaves the forest as it was
 pub forest-still : {n m : ℕ} {w w′ : List ℕ} → OnlyTops n w w′ → ForestAt n m w → ForestAt n m w′
 forest-still o g = rw (o .halves 0, o .nodes 4 (omega arith) refl, o .nodes 5 (omega arith) refl, o .nodes 12 (omega arith) refl, o .nodes 13 (omega arith) refl) g
 

@@ -1,4 +1,4 @@
--- TODO head
+-- Laws of merging along a tree path: a top into the top of its parent; the loop of `merge_tops`, over functions and then at the words; and both ends found first.
 -- Assumes nothing.
 use Prim.Native.Nat.{_*_, _<_, _≤_, ℕ}
 use mathlib.Core.Bool.{Bool}
@@ -83,7 +83,7 @@ module _ (n : ℕ) (pos par root : ℕ → ℕ) (o : SearchOrder n pos par root)
   pub later : (t : ℕ → ℕ) (a b : ℕ) → PathStep n pos par root x y t₀ t a b → (a ≡ b → ⊥) → pos b ≤ pos a → pos b < pos a
   later t a b c ne l = let z : pos a ≡ pos b → ⊥ = λ e. ne (o .one a b (c .fit) (c .fit′) (c .seen) e) in omega arith
 
-  -- sets that the ways up do not leave: a tree, and the seen nodes
+  -- sets that part no node from its parent: a tree, and the seen nodes
   pub tree-follows : (t : ℕ → ℕ) → Tops n pos t → (r : ℕ) → FollowsParents n par t (λ u. eqb (root u) r)
   tree-follows t s r u l ne = ⊎-elim
       (λ h. ap (λ v. eqb (root v) r) (sym (h .1)))

@@ -1,5 +1,5 @@
--- TODO head
--- Assumes nothing.
+-- The 2-edge-connected components of all that the active nodes reach: two nodes have one top just where no set that at most one edge leaves parts them.
+-- Assumes nothing: these are definitions.
 use Prim.Native.Nat.{_<_, ℕ}
 use mathlib.Core.List.{List, [], _∷_}
 use mathlib.Core.Path.{_≡_}
@@ -10,7 +10,7 @@ use Rattle.graph.specs.Cut.{Inseparable}
 use Rattle.words.specs.Changes.{OnlyFields}
 use Rattle.words.specs.Fields.{half, node}
 
--- the words after the classes are found
+-- from a to w: the search, and the tops of the components
 pub record Components (n m k : ℕ) (a w : List ℕ) (seen : ℕ) : Type 0 where
   pub rest : OnlyFields (3 ∷ 4 ∷ 5 ∷ 6 ∷ 12 ∷ 13 ∷ []) n a w
   pub search : BetweenTrees n m k w seen k

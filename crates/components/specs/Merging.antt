@@ -1,5 +1,5 @@
--- TODO head
--- Assumes nothing.
+-- Merging along the tree path between the ends of each edge that is no tree edge.
+-- Assumes nothing: these are definitions.
 use Prim.Native.Nat.{_*_, _+_, _<_, _≤_, ℕ}
 use mathlib.Core.List.{List}
 use mathlib.Core.Logic.{_⊎_}
@@ -25,11 +25,11 @@ pub record CanMergeEdge (n m e : ℕ) (w : List ℕ) : Type 0 where
   pub tops : Tops n (node 4 w) (node 6 w)
   pub full : (D : NodeSet) → FollowsParents n (node 5 w) (node 6 w) D → Stable n (node 6 w) D
 
--- edge e is tied where it is loose
+-- the tree path of edge e is merged where it is no tree edge
 abbrev pub EdgeMerged : ℕ → ℕ → List ℕ → List ℕ → Type 0
 EdgeMerged n e w w′ = ((w′ ≡ w) × (NonTreeEdge (half n 0 w) (node 4 w) (node 13 w) e → ⊥)) ⊎ (MergedPath n w (half n 0 w (2 * e)) (half n 0 w (2 * e + 1)) w′ × NonTreeEdge (half n 0 w) (node 4 w) (node 13 w) e)
 
--- the first i edges are tied where they are loose
+-- the same of the first i edges
 pub record EdgesMerged (n m : ℕ) (w₀ : List ℕ) (i : ℕ) (w : List ℕ) : Type 0 where
   pub rest : OnlyTops n w₀ w
   pub tops : Tops n (node 4 w₀) (node 6 w)
@@ -46,7 +46,7 @@ pub record CanMerge (n m : ℕ) (w : List ℕ) : Type 0 where
   pub forest : ForestAt n m w
   pub self : (u : ℕ) → u < n → node 6 w u ≡ u
 
--- the tops after the climb are the classes
+-- the tops after merging: each node goes straight to its top, sound and complete
 pub record FinalTops (n m : ℕ) (to pos par te : ℕ → ℕ) (t : ℕ → ℕ) : Type 0 where
   pub tops : Tops n pos t
   pub flat : (u : ℕ) → u < n → t (t u) ≡ t u

@@ -1,5 +1,6 @@
--- TODO head
--- Assumes nothing.
+-- Tops. `t` takes a node to an earlier node of its component; a node that it takes to itself is a top, and following it from any node leads to the top of the
+-- component. What is said of the components is said of every set of nodes: a set that `t` does not leave is on one side of each component.
+-- Assumes nothing: these are definitions.
 use Prim.Native.Nat.{_*_, _+_, _-_, _<_, _≤_, ℕ}
 use mathlib.Core.Bool.{Bool}
 use mathlib.Core.List.{List, [], _∷_}
@@ -7,18 +8,18 @@ use mathlib.Core.Logic.{_⊎_}
 use mathlib.Core.Path.{_≡_}
 use lib.ListN.{length}
 use Rattle.words.specs.Changes.{OnlyFields}
-use Rattle.words.specs.Fields.{half, node}
+use Rattle.words.specs.Fields.{node}
 
 -- a top is its own; any other node goes to an earlier one
 pub record Tops (n : ℕ) (pos t : ℕ → ℕ) : Type 0 where
   pub fit : (u : ℕ) → u < n → t u < n
   pub up : (u : ℕ) → u < n → (t u ≡ u → ⊥) → pos (t u) < pos u
 
--- a set that does not part a node from where it goes
+-- a set that the tops do not leave
 abbrev pub Stable : ℕ → (ℕ → ℕ) → (ℕ → Bool) → Type 0
 Stable n t D = (u : ℕ) → u < n → D (t u) ≡ D u
 
--- t′ has the tops of t and parts nothing new, and r is at or above v
+-- t′ has the tops of t and leaves no set that t does not leave; r is reached from v
 pub record FindPath (n : ℕ) (pos t t′ : ℕ → ℕ) (v r : ℕ) : Type 0 where
   pub tops : Tops n pos t′
   pub still : (u : ℕ) → u < n → t u ≡ u → t′ u ≡ u
@@ -41,7 +42,7 @@ pub record Found (n : ℕ) (w : List ℕ) (v r : ℕ) (w′ : List ℕ) : Type 0
   pub walk : FindPath n (node 4 w) (node 6 w) (node 6 w′) v r
   pub top : node 6 w′ r ≡ r
 
--- the top a is tied to q, its parent's top
+-- the top a is merged into q, its parent's top
 pub record MergedUp (n : ℕ) (pos par t t′ : ℕ → ℕ) (a q : ℕ) : Type 0 where
   pub tops : Tops n pos t′
   pub back : (u : ℕ) → u < n → t′ u ≡ u → t u ≡ u
@@ -65,7 +66,7 @@ pub record MergedUpAt (n : ℕ) (w : List ℕ) (a q : ℕ) (w′ : List ℕ) : T
   pub rest : OnlyTops n w w′
   pub is : MergedUp n (node 4 w) (node 5 w) (node 6 w) (node 6 w′) a q
 
--- what is needed of the forest to climb: parents come earlier in the order, and roots are shared
+-- what merging needs of the forest: a parent comes earlier in the order and has the same root
 pub record SearchOrder (n : ℕ) (pos par root : ℕ → ℕ) : Type 0 where
   pub one : (u v : ℕ) → u < n → v < n → 0 < pos u → pos u ≡ pos v → u ≡ v
   pub kind : (u : ℕ) → u < n → 0 < pos u → ((root u ≡ u) × (par u ≡ u)) ⊎ ((par u < n) × (0 < pos (par u)) × (pos (par u) < pos u) × (root (par u) ≡ root u))
@@ -75,7 +76,7 @@ pub record SearchOrder (n : ℕ) (pos par root : ℕ → ℕ) : Type 0 where
 abbrev pub FollowsParents : ℕ → (ℕ → ℕ) → (ℕ → ℕ) → (ℕ → Bool) → Type 0
 FollowsParents n par t D = (u : ℕ) → u < n → (t u ≡ u → ⊥) → D u ≡ D (par u)
 
--- a set that lets the way from x to y be tied: it parts the later of two nodes of a tree from its parent only if it parts the two, though not x from y
+-- a set that allows merging from x to y: where x and y on one side would put a and b of one tree on one side, it does not part the later of the two from its parent
 abbrev pub AllowsMerge : ℕ → (ℕ → ℕ) → (ℕ → ℕ) → (ℕ → ℕ) → ℕ → ℕ → (ℕ → Bool) → Type 0
 AllowsMerge n pos par root x y D = (a b : ℕ) → a < n → b < n → 0 < pos b → pos b < pos a → root a ≡ root b → (D x ≡ D y → D a ≡ D b) → D (par a) ≡ D a
 
@@ -100,7 +101,7 @@ pub record SameTree (n : ℕ) (w : List ℕ) (x y : ℕ) : Type 0 where
   pub seen′ : 0 < node 4 w y
   pub same : node 12 w x ≡ node 12 w y
 
--- the ways up from x and y are tied
+-- the tree path from x to y is merged
 pub record MergedPath (n : ℕ) (w : List ℕ) (x y : ℕ) (w′ : List ℕ) : Type 0 where
   pub rest : OnlyTops n w w′
   pub tops : Tops n (node 4 w) (node 6 w′)

@@ -1,7 +1,7 @@
 -- Laws of clearing: one field more of a node, and one node more.
 -- Assumes nothing.
 use Prim.Native.Nat.{ℕ, _+_, _<_}
-use mathlib.Core.Bool.{_||_, true, false}
+use mathlib.Core.Bool.{_||_, false}
 use mathlib.Core.List.{List, [], _∷_}
 use mathlib.Core.Path.{_≡_, _∙_, ap, refl, subst, sym}
 use lib.Dec.{eqb}

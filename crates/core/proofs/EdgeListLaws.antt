@@ -1,4 +1,4 @@
--- TODO head
+-- Laws on functions: the first number with a property, the lists of larger children, the edges written, and that there are at most h of them.
 -- Assumes nothing.
 use Prim.Native.Nat.{_+_, _-_, _<_, _≤_, suc, zero, ℕ}
 use mathlib.Core.Bool.{cond}
@@ -172,21 +172,21 @@ module _ {h : ℕ} {up ea eb : ℕ → ℕ} {m s f : ℕ} (l : ListedPairs (Edge
       (λ e′ c′. let z : ea j ≡ ea i = sym e′ ∙ q ∙ e in less-not (ea i) (eb i) (ea j) (eb j) r (sym z) (let y : eb i + 1 ≡ eb j + 1 = sym (c .2) ∙ ap up (sym z) ∙ c′ .2 in omega arith))))
 
 module _ (ea eb : ℕ → ℕ) where
-  pub table-in : (i k j : ℕ) → i ≤ j → j < i + k → List·Memᴰ (ea j, eb j) (edgeTable ea eb i k)
-  table-in i zero j a b = absurd (omega arith)
-  table-in i (suc k) j a b = onBool (eqb j i)
+  pub edge-in : (i k j : ℕ) → i ≤ j → j < i + k → List·Memᴰ (ea j, eb j) (edgeTable ea eb i k)
+  edge-in i zero j a b = absurd (omega arith)
+  edge-in i (suc k) j a b = onBool (eqb j i)
       (λ q. List·Memᴰ·head (ap (λ v. (ea v, eb v)) (eqb-true j i q)))
-      (λ q. let ne : ¬ (j ≡ i) = eqb-false j i q in List·Memᴰ·tail (table-in (suc i) k j (omega arith) (omega arith)))
+      (λ q. let ne : ¬ (j ≡ i) = eqb-false j i q in List·Memᴰ·tail (edge-in (suc i) k j (omega arith) (omega arith)))
 
-  pub table-out : (i k : ℕ) (e : Edge) → List·Memᴰ e (edgeTable ea eb i k) → (j : ℕ) × (i ≤ j) × (j < i + k) × (e ≡ (ea j, eb j))
-  table-out i zero e q = absurd (elim q [ ])
-  table-out i (suc k) e (List·Memᴰ·head p) = (i, omega arith, omega arith, p)
-  table-out i (suc k) e (List·Memᴰ·tail q) = let (j, a, b, p) = table-out (suc i) k e q in (j, omega arith, omega arith, p)
+  pub edge-out : (i k : ℕ) (e : Edge) → List·Memᴰ e (edgeTable ea eb i k) → (j : ℕ) × (i ≤ j) × (j < i + k) × (e ≡ (ea j, eb j))
+  edge-out i zero e q = absurd (elim q [ ])
+  edge-out i (suc k) e (List·Memᴰ·head p) = (i, omega arith, omega arith, p)
+  edge-out i (suc k) e (List·Memᴰ·tail q) = let (j, a, b, p) = edge-out (suc i) k e q in (j, omega arith, omega arith, p)
 
   above : (e : Edge) (i k : ℕ) → ((j : ℕ) → i ≤ j → j < i + k → EdgeLess e (ea j, eb j)) → LessAll e (edgeTable ea eb i k)
   above e i zero a = tt
   above e i (suc k) a = (a i (omega arith) (omega arith), above e (suc i) k (λ j b c. a j (omega arith) (omega arith)))
 
-  pub table-ascends : (i k : ℕ) → ((x y : ℕ) → x < y → y < i + k → EdgeLess (ea x, eb x) (ea y, eb y)) → Ascends (edgeTable ea eb i k)
-  table-ascends i zero r = tt
-  table-ascends i (suc k) r = (above (ea i, eb i) (suc i) k (λ j b c. r i j (omega arith) (omega arith)), table-ascends (suc i) k (λ x y a b. r x y a (omega arith)))
+  pub edges-ascend : (i k : ℕ) → ((x y : ℕ) → x < y → y < i + k → EdgeLess (ea x, eb x) (ea y, eb y)) → Ascends (edgeTable ea eb i k)
+  edges-ascend i zero r = tt
+  edges-ascend i (suc k) r = (above (ea i, eb i) (suc i) k (λ j b c. r i j (omega arith) (omega arith)), edges-ascend (suc i) k (λ x y a b. r x y a (omega arith)))

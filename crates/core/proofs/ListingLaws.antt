@@ -1,11 +1,11 @@
--- TODO head
+-- The same at the words, and the loop of `write_row`.
 -- Assumes nothing.
 use Prim.Native.Nat.{_+_, _-_, _<_, _≤_, ℕ}
 use mathlib.Core.List.{List, List·Memᴰ, [], _∷_}
 use mathlib.Core.Logic.{inl, ⊎-elim}
 use mathlib.Core.Path.{_∙_, _≡_, ap, refl, sym}
 use native.Mathlib.Omega.{arith}
-use Rattle.core.proofs.EdgeListLaws.{first-after, first-from, first-least, first-none, first-stay, listed-few, listed-more, listed-next, listed-none, lists-push, lists-skip, table-ascends, table-in, table-out}
+use Rattle.core.proofs.EdgeListLaws.{first-after, first-from, first-least, first-none, first-stay, listed-few, listed-more, listed-next, listed-none, lists-push, lists-skip, edges-ascend, edge-in, edge-out}
 use Rattle.core.specs.Clearing.{Cleared}
 use Rattle.core.specs.EdgeList.{CanList, EdgePair, EdgesListed, FirstFrom, IfAbove, LargerChild, LeastNonzero, ListedPairs, NextChild, Pushing, Writing, edgeTable}
 use Rattle.graph.specs.Graph.{Edge}
@@ -92,7 +92,7 @@ writing-self {n} {w = w} k = record { ready = k .ready; rest = only-none n w; li
 pub writing-then : {n h m s f m′ s′ f′ : ℕ} {a b c : List ℕ} → Writing n h a b m s f → Writing n h b c m′ s′ f′ → Writing n h a c m′ s′ f′
 writing-then k l = record { ready = l .ready; rest = only-then (k .rest) (l .rest); lists = l .lists; listed = l .listed }
 
--- the walk along the pairs of s: c is the next larger end in its list, t one more than the next larger end of all
+-- the loop of `write_row`: c is the next child of s in its list, t one more than the larger end of the next edge
 pub record RowLoop (n h : ℕ) (a w : List ℕ) (s u c f m t : ℕ) : Type 0 where
   pub listing : Writing n h a w m s f
   pub child : FirstFrom (LargerChild h (node 9 w) s) f c
@@ -153,13 +153,13 @@ all-listed {n} {h} {m} {a} {b} {c} k l =
     record {
       rest = r;
       most = listed-few (l .listed);
-      ascends = table-ascends (node 4 c) (node 5 c) 0 m (λ x y p q. l .listed .rise x y p (omega arith));
-      is = λ x y p. let (j, _, q, e) = table-out (node 4 c) (node 5 c) 0 m (x, y) p in
+      ascends = edges-ascend (node 4 c) (node 5 c) 0 m (λ x y p q. l .listed .rise x y p (omega arith));
+      is = λ x y p. let (j, _, q, e) = edge-out (node 4 c) (node 5 c) 0 m (x, y) p in
           let ex : x ≡ node 4 c j = ap (λ z. z .0) e in
           let ey : y ≡ node 5 c j = ap (λ z. z .1) e in
           pair-at (node 9 c) (node 9 a) (ups-same r) ex ey (l .listed .real j (omega arith) .0);
       all = λ x y p.
           let p′ : EdgePair h (node 9 c) x y = rw (ups-same r) p in
           let (j, q, ex, ey) = l .listed .all x y p′ (inl (⊎-elim (λ z. omega (arith, z .0, z .1)) (λ z. omega (arith, z .0, z .1)) p′)) in
-          mem-at (edgeTable (node 4 c) (node 5 c) 0 m) ex ey (table-in (node 4 c) (node 5 c) 0 m j (omega arith) (omega arith));
+          mem-at (edgeTable (node 4 c) (node 5 c) 0 m) ex ey (edge-in (node 4 c) (node 5 c) 0 m j (omega arith) (omega arith));
     }

@@ -11,7 +11,7 @@ use Rattle.core.specs.Numbers.{CanWrite, WritingNumbers}
 use Rattle.graph.proofs.Booleans.{onBool}
 use Rattle.words.proofs.ChangeLaws.{only-none, only-then-put}
 use Rattle.words.proofs.FieldLaws.{update-other, update-same}
-use Rattle.words.specs.Fields.{Put, node, update}
+use Rattle.words.specs.Fields.{Put, node}
 
 pub number-is : {n t x v : ℕ} {w : List ℕ} → HasNumber n w v → t ≡ node 6 w v → x ≡ node 10 w t → (x ≡ node 10 w (node 6 w v)) × (0 < x)
 number-is {w = w} g et ex = let e = ex ∙ ap (node 10 w) et in let ne = g .some in (e, omega arith)

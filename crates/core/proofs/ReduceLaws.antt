@@ -1,10 +1,9 @@
 -- The words from one call of `reduce` to the next: what each call asks for follows from what those before it ensure, and at the end the small graph stands in the words.
 -- Assumes nothing.
 use Prim.Native.Nat.{ℕ, zero, suc, _+_, _-_, _*_, _<_, _≤_}
-use mathlib.Core.Bool.{true, false}
 use mathlib.Core.List.{List, [], _∷_}
-use mathlib.Core.Logic.{_⊎_, inl, inr, ⊎-elim}
-use mathlib.Core.Path.{_≡_, _∙_, ap, ap₂, refl, subst, sym}
+use mathlib.Core.Logic.{inl, inr, ⊎-elim}
+use mathlib.Core.Path.{_≡_, _∙_, ap, ap₂, refl, subst}
 use lib.ListN.{length, getD}
 use native.Mathlib.Omega.{arith}
 use Rattle.branches.proofs.SmallForestLaws.{forest-small}
@@ -25,7 +24,7 @@ use Rattle.graph.proofs.CutEquivalence.{small-cuts-equal}
 use Rattle.graph.proofs.SmallGraphDefinition.{small-definition}
 use Rattle.graph.proofs.SmallGraphs.{SmallGraph}
 use Rattle.graph.specs.Cut.{cut}
-use Rattle.graph.specs.Graph.{Edge, NodeSet}
+use Rattle.graph.specs.Graph.{NodeSet}
 use Rattle.graph.specs.Lists.{table}
 use Rattle.graph.specs.SmallGraph.{Canonical, IsSmallGraph}
 use Rattle.words.proofs.ChangeLaws.{only-past}

@@ -1,6 +1,7 @@
--- TODO head
--- Assumes nothing.
-use Prim.Native.Nat.{_*_, _+_, _-_, _<_, _≤_, suc, zero, ℕ}
+-- The edges between each number and its parent number, listed in ascending order. `up x` is 0, or one more than the parent number of x.
+-- Fields: 9 is `up`; 2 the head and 8 the next of the lists of larger children; 4 and 5 the ends of the edges as they are written.
+-- Assumes nothing: these are definitions.
+use Prim.Native.Nat.{_*_, _+_, _-_, _<_, _≤_, ℕ}
 use mathlib.Core.List.{List, List·Memᴰ, [], _∷_}
 use mathlib.Core.Logic.{_⊎_}
 use mathlib.Core.Path.{_≡_}
@@ -11,11 +12,11 @@ use Rattle.graph.specs.Lists.{table}
 use Rattle.words.specs.Changes.{OnlyFields}
 use Rattle.words.specs.Fields.{node}
 
--- the pair of s and y, s smaller, where s is up of y
+-- s is the parent of y, and smaller
 abbrev pub LargerChild : ℕ → (ℕ → ℕ) → ℕ → ℕ → Type 0
 LargerChild h up s y = (s < y) × (y < h) × (up y ≡ s + 1)
 
--- where y is up of s
+-- y is the parent of s, and larger
 abbrev pub LargerParent : ℕ → (ℕ → ℕ) → ℕ → ℕ → Type 0
 LargerParent h up s y = (s < y) × (y < h) × (up s ≡ y + 1)
 
@@ -40,7 +41,7 @@ IfAbove u f r = ((f < u) × (r ≡ u)) ⊎ ((u ≤ f) × (r ≡ 0))
 abbrev pub NextChild : List ℕ → ℕ → ℕ → ℕ → Type 0
 NextChild w c t r = ((c ≡ t) × (r ≡ node 8 w (t - 1))) ⊎ ((c ≡ t → ⊥) × (r ≡ c))
 
--- the numbers from i on are in their lists, which ascend
+-- the numbers from i on are in the lists of their parents, where these are smaller; each list ascends
 pub record ChildLists (h i : ℕ) (up head next : ℕ → ℕ) : Type 0 where
   pub heads : (s : ℕ) → s < h → FirstFrom (LargerChild h up s) i (head s)
   pub nexts : (s x : ℕ) → i ≤ x → LargerChild h up s x → FirstFrom (LargerChild h up s) (x + 1) (next x)
@@ -72,7 +73,7 @@ pub record Writing (n h : ℕ) (a w : List ℕ) (m s f : ℕ) : Type 0 where
   pub lists : ChildLists h 0 (node 9 w) (node 2 w) (node 8 w)
   pub listed : ListedPairs (EdgePair h (node 9 w)) (node 4 w) (node 5 w) m s f
 
--- the m pairs written are the pairs, ascending
+-- the m edges written are those of the numbers and their parents, ascending
 pub record EdgesListed (n h : ℕ) (a w : List ℕ) (m : ℕ) : Type 0 where
   pub rest : OnlyFields (2 ∷ 4 ∷ 5 ∷ 8 ∷ []) n a w
   pub most : m ≤ h

@@ -1,4 +1,4 @@
--- TODO head
+-- Laws of linking: one half-edge more, an edge, all of them; what stays.
 -- Assumes nothing.
 use Prim.Native.Nat.{_*_, _+_, _-_, _/_, _<_, _≤_, ℕ}
 use mathlib.Core.List.{List}

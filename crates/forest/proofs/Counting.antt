@@ -1,4 +1,4 @@
--- TODO head
+-- How many places below n a function is not 0 at: at most n, less where one is 0, one more where one becomes positive.
 -- Assumes nothing.
 use Prim.Native.Nat.{_+_, _<_, _≤_, suc, zero, ℕ}
 use mathlib.Core.Path.{_∙_, _≡_, ap, refl, sym}

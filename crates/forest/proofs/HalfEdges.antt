@@ -1,4 +1,4 @@
--- TODO head
+-- Half-edges and their twins.
 -- Assumes nothing.
 use Prim.Native.Nat.{_%_, _*_, _+_, _/_, _<_, ℕ}
 use mathlib.Core.Logic.{inl, inr}

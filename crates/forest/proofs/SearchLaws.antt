@@ -1,4 +1,4 @@
--- TODO head
+-- Laws of the search. In order: one node more; a half-edge; the half-edges of a node; a tree; all trees; and what the search leaves is a forest.
 -- Assumes nothing.
 use Prim.Native.Nat.{_*_, _+_, _-_, _/_, _<_, _≤_, ℕ}
 use mathlib.Core.Bool.{false}
@@ -13,7 +13,7 @@ use Rattle.forest.proofs.Counting.{count-le, count-less, count-more, co
 use Rattle.forest.proofs.HalfEdges.{half-joins, twin-back, twin-even, twin-odd}
 use Rattle.forest.specs.AdjacencyLists.{AdjacencyLists, LastFrom, origin, twin}
 use Rattle.forest.specs.Forest.{ForestAt, HasParent, Root}
-use Rattle.forest.specs.Search.{Appended, BetweenTrees, CanAppend, CanVisit, Growing, Grown, Scanning, Search, SearchAt, SearchKeeps, Searched, TreeEdge, Visited}
+use Rattle.forest.specs.Search.{Appended, BetweenTrees, CanAppend, CanVisit, Growing, Grown, Scanning, Search, SearchAt, SearchKeeps, TreeEdge, Visited}
 use Rattle.graph.specs.Lists.{member}
 use Rattle.graph.proofs.Booleans.{onBool}
 use Rattle.words.proofs.ChangeLaws.{only-none, only-put, only-then, only-then-put}
@@ -343,7 +343,7 @@ growing-still g a = record { lists = lists-still refl (a .keeps .rest) (g .lists
 pub grown-less : {n m d s r : ℕ} {w₀ w : List ℕ} → Grown n m w₀ w d s r → s ≤ n
 grown-less a = seen-less (a .search)
 
--- where nothing waits, any root will do
+-- where every seen node is finished, any root will do
 pub any-root : {n m : ℕ} {mark to ord pos par te root : ℕ → ℕ} {seen r : ℕ} (q : ℕ) → Search n m mark to ord pos par te root seen seen r → Search n m mark to ord pos par te root seen seen q
 any-root q s = record {
   some = s .some;

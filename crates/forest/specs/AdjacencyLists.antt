@@ -1,5 +1,6 @@
--- TODO head
--- Assumes nothing.
+-- The adjacency lists in the words. Edge e has the half-edges 2 e and 2 e + 1, each with its far end; a half-edge leaves the far end of its twin.
+-- Field 2 of a node is one more than the last half-edge that leaves it, field 1 of a half-edge one more than the one before it at the same node; 0 ends a list.
+-- Assumes nothing: these are definitions.
 use Prim.Native.Nat.{_%_, _*_, _+_, _-_, _<_, _≤_, ℕ}
 use mathlib.Core.Bool.{cond}
 use mathlib.Core.List.{List}
@@ -21,7 +22,7 @@ pub record LastFrom (out : ℕ → ℕ) (v k c : ℕ) : Type 0 where
   pub at : 0 < c → out (c - 1) ≡ v
   pub gap : (h : ℕ) → c ≤ h → h < k → out h ≡ v → ⊥
 
--- what is given: the edges, linked by the nodes that they leave
+-- each half-edge is in the list of the node that it leaves
 pub record AdjacencyLists (n m : ℕ) (w : List ℕ) : Type 0 where
   pub few : n ≤ 65536
   pub much : m ≤ 32768
@@ -42,7 +43,7 @@ pub record CanLink (n m : ℕ) (w : List ℕ) : Type 0 where
   pub ends : (h : ℕ) → h < 2 * m → half n 0 w h < n
   pub empty : (v : ℕ) → v < n → node 2 w v ≡ 0
 
--- from a to w; all that is not a head or a link stays
+-- the first i half-edges are linked; from a to w all that is not a head or a link stays
 pub record Linking (n m : ℕ) (a w : List ℕ) (i : ℕ) : Type 0 where
   pub few : n ≤ 65536
   pub much : m ≤ 32768

@@ -1,5 +1,7 @@
--- TODO head
--- Assumes nothing.
+-- The breadth-first search that makes the forest, over functions that are read off the words: what holds between its steps, and what each step asks for and ensures.
+-- Each half-edge that leaves a finished node leads to a seen node of the same root, and a seen node that is not finished has the current root; so at the end
+-- the ends of each edge have the same root, and no argument about closure is needed.
+-- Assumes nothing: these are definitions.
 use Prim.Native.Nat.{_*_, _+_, _-_, _<_, _≤_, suc, zero, ℕ}
 use mathlib.Core.Bool.{cond}
 use mathlib.Core.List.{List, [], _∷_}
@@ -33,12 +35,12 @@ pub record Appended (n seen v p t r : ℕ) (a b : List ℕ) : Type 0 where
   pub te : node 13 b ≡ update (node 13 a) v t
   pub root : node 12 b ≡ update (node 12 a) v r
 
--- how many nodes below n have a place
+-- at how many of the first n places p is not 0
 unfoldable pub countNonzero : (ℕ → ℕ) → ℕ → ℕ
 countNonzero p zero = 0
 countNonzero p (suc n) = cond (eqb (p n) 0) 0 1 + countNonzero p n
 
--- seen nodes stand in the order, the first done of them have been left along all their half-edges, and the others are of the tree of r
+-- `seen` nodes stand in the order; the first `done` of them are finished: all their half-edges have been followed; the others are of the tree of r
 pub record Search (n m : ℕ) (mark to ord pos par te root : ℕ → ℕ) (done seen r : ℕ) : Type 0 where
   pub some : done ≤ seen
   pub count : countNonzero pos n ≡ seen
@@ -53,7 +55,7 @@ pub record Search (n m : ℕ) (mark to ord pos par te root : ℕ → ℕ) (done 
 abbrev pub SearchAt : ℕ → ℕ → List ℕ → ℕ → ℕ → ℕ → Type 0
 SearchAt n m w = Search n m (node 0 w) (half n 0 w) (node 3 w) (node 4 w) (node 5 w) (node 13 w) (node 12 w)
 
--- a new node v: a root, or hung on p by an edge
+-- the tree edge of a new node v to its parent p
 pub record TreeEdge (n m : ℕ) (to pos root : ℕ → ℕ) (v p t r : ℕ) : Type 0 where
   pub edge : ℕ
   pub is : t ≡ edge + 1
@@ -63,7 +65,7 @@ pub record TreeEdge (n m : ℕ) (to pos root : ℕ → ℕ) (v p t r : ℕ) : Ty
   pub seen : 0 < pos p
   pub same : root p ≡ r
 
--- v, at place done, is left: its half-edges from k on lead to seen nodes of the tree
+-- v, at place `done`, is being followed: its half-edges from k on lead to seen nodes of the tree
 pub record Scanning (n m : ℕ) (w : List ℕ) (done seen r v k : ℕ) : Type 0 where
   pub lists : AdjacencyLists n m w
   pub search : SearchAt n m w done seen r
@@ -73,7 +75,7 @@ pub record Scanning (n m : ℕ) (w : List ℕ) (done seen r v k : ℕ) : Type 0 
   pub at : node 4 w v ≡ done + 1
   pub part : (h : ℕ) → k ≤ h → h < 2 * m → origin (half n 0 w) h ≡ v → (0 < node 4 w (half n 0 w h)) × (node 12 w (half n 0 w h) ≡ r)
 
--- what the search keeps: fields and half-edges, and that a node was seen
+-- what the search keeps: the other fields, the half-edges, and that a node was seen
 pub record SearchKeeps (n : ℕ) (a b : List ℕ) : Type 0 where
   pub rest : Searched n a b
   pub more : (u : ℕ) → u < n → 0 < node 4 a u → 0 < node 4 b u
@@ -86,7 +88,7 @@ pub record CanVisit (n m : ℕ) (w : List ℕ) (done seen r v h : ℕ) : Type 0 
   pub less : h < 2 * m
   pub leaves : origin (half n 0 w) h ≡ v
 
--- a search in the tree of r
+-- the tree of r is searched
 pub record Growing (n m : ℕ) (w : List ℕ) (done seen r : ℕ) : Type 0 where
   pub lists : AdjacencyLists n m w
   pub search : SearchAt n m w done seen r

@@ -1,3 +1,5 @@
+-- `core::class_number` meets its contract.
+-- Assumes nothing.
 use mathlib.Core.Path.{ap}
 use Prim.Native.Nat.{_-_}
 use Rattle.core.proofs.NumberLaws.{number-is}

@@ -1,6 +1,7 @@
+-- `core::clear_node` meets its contract.
+-- Assumes nothing.
 use Rattle.core.proofs.ClearLaws.{clear-none, clear-put}
 use mathlib.Core.Path.{refl}
-use native.Mathlib.Omega.{arith}
 use borrow.Author.Needs.{needs}
 use Rattle.core.proofs.clear_node.Statement.{statement}
 use Rattle.core.proofs.clear_node.Tie as tie

@@ -1,9 +1,10 @@
+-- `core::clear_nodes` meets its contract. The loop's invariant: the first v nodes are cleared.
+-- Assumes nothing.
 use Rattle.core.proofs.ClearLaws.{cleared-none, cleared-more}
 use Rattle.core.specs.Clearing.{Cleared}
 use mathlib.Core.List.{[], _∷_}
 use mathlib.Core.Path.{_≡_}
 use Prim.Native.Nat.{_-_, _≤_}
-use borrow.Author.Needs.{needs}
 use native.Mathlib.Omega.{arith}
 use Rattle.core.proofs.clear_nodes.Statement.{statement}
 use Rattle.core.proofs.clear_nodes.Tie as tie

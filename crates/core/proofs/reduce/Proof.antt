@@ -1,3 +1,5 @@
+-- `core::reduce` meets its contract.
+-- Assumes nothing.
 use Rattle.core.proofs.ReduceLaws.{can-clear, can-link, can-list, can-number-classes, can-search, can-write, reduced}
 use borrow.Author.Needs.{needs}
 use Rattle.core.proofs.reduce.Statement.{statement}

@@ -1,8 +1,9 @@
+-- `core::write_numbers` meets its contract. The loop's invariant: the first i active nodes have their numbers.
+-- Assumes nothing.
 use Rattle.core.proofs.NumberLaws.{writing-can, writing-more, writing-none}
 use Rattle.core.specs.Numbers.{WritingNumbers}
 use mathlib.Core.Path.{_≡_}
 use Prim.Native.Nat.{_-_, _≤_}
-use borrow.Author.Needs.{needs}
 use native.Mathlib.Omega.{arith}
 use Rattle.core.proofs.write_numbers.Statement.{statement}
 use Rattle.core.proofs.write_numbers.Tie as tie

@@ -1,9 +1,10 @@
+-- `core::edge_list::clear_lists` meets its contract. The loop's invariant: the first s numbers have empty lists.
+-- Assumes nothing.
 use Rattle.core.proofs.ClearLaws.{clear-none, clear-put, cleared-none, cleared-more}
 use Rattle.core.specs.Clearing.{Cleared}
 use mathlib.Core.List.{[], _∷_}
 use mathlib.Core.Path.{_≡_, refl}
 use Prim.Native.Nat.{_-_, _<_, _≤_}
-use borrow.Author.Needs.{needs}
 use native.Mathlib.Omega.{arith}
 use Rattle.core.proofs.edge_list.clear_lists.Statement.{statement}
 use Rattle.core.proofs.edge_list.clear_lists.Tie as tie

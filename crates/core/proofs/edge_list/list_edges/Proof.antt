@@ -1,3 +1,5 @@
+-- `core::edge_list::list_edges` meets its contract.
+-- Assumes nothing.
 use Rattle.core.proofs.ListingLaws.{all-listed, pushing-cleared, pushing-self, pushing-then}
 use borrow.Author.Needs.{needs}
 use Rattle.core.proofs.edge_list.list_edges.Statement.{statement}
