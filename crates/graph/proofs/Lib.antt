@@ -27,3 +27,6 @@ pub mod Canonical
 pub mod CanonicalContraction
 pub mod EdgeCount
 pub mod Reading
+pub mod SpanningForest
+pub mod ComponentMerging
+pub mod ActiveLists

@@ -21,7 +21,7 @@ use Rattle.graph.specs.Graph.{Edge}
 use Rattle.graph.specs.Lists.{filter, firsts, table}
 use Rattle.graph.specs.SmallGraph.{Ascends, EdgeLess, different, inOrder, mostNodes}
 
-kept-sub : (E : List Edge) (S T : List ℕ) (z : ℕ) → ((a : ℕ) → List·Memᴰ a S → List·Memᴰ a T) → Kept E S z → Kept E T z
+pub kept-sub : (E : List Edge) (S T : List ℕ) (z : ℕ) → ((a : ℕ) → List·Memᴰ a S → List·Memᴰ a T) → Kept E S z → Kept E T z
 kept-sub E S T z f k =
     record { a = k .a; b = k .b; c = k .c; in-a = f _ (k .in-a); in-b = f _ (k .in-b); in-c = f _ (k .in-c); to-a = k .to-a; to-b = k .to-b; to-c = k .to-c; mid = k .mid }
 

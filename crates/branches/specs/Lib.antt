@@ -1,0 +1,4 @@
+pub mod BranchCounts
+pub mod SmallForest
+pub mod Numbers
+pub mod Classes

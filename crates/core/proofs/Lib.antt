@@ -1,0 +1,6 @@
+pub mod ClearLaws
+pub mod EdgeListLaws
+pub mod ListingLaws
+pub mod NumberLaws
+pub mod EdgeOrder
+pub mod ReduceLaws

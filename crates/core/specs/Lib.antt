@@ -1,0 +1,4 @@
+pub mod Core
+pub mod Clearing
+pub mod Numbers
+pub mod EdgeList

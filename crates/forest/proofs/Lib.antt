@@ -1,0 +1,4 @@
+pub mod Counting
+pub mod HalfEdges
+pub mod AdjacencyLaws
+pub mod SearchLaws

@@ -1,0 +1,3 @@
+pub mod Forest
+pub mod AdjacencyLists
+pub mod Search
