@@ -1,1 +1,3 @@
 pub mod Call
+pub mod Reply
+pub mod Loading

@@ -1,0 +1,5 @@
+pub mod FaultLaws
+pub mod LoadLaws
+pub mod Repeats
+pub mod ResultLaws
+pub mod TableLaws

@@ -1,0 +1,63 @@
+use Prim.Native.Nat.{_-_, _≤_}
+use mathlib.Core.Path.{_∙_, _≡_, sym}
+use lib.ListN.{getD}
+use native.Mathlib.Omega.{arith}
+use borrow.Author.Needs.{needs}
+use borrow.Author.Tests.{le-leb, lt-leb}
+use Rattle.contraction.proofs.FaultLaws.{seek-here, seek-more, seek-past, seek-start}
+use Rattle.contraction.proofs.checks.first_bad_entry.Statement.{statement}
+use Rattle.contraction.specs.Call.{badEntry}
+use Rattle.tables.specs.Refusal.{seek}
+use Rattle.contraction.proofs.checks.first_bad_entry.Tie as tie
+
+abbrev Inv-loop : tie.InvT-loop
+Inv-loop n k active i₀ i = (i ≤ k) × (seek (badEntry n active) 0 k ≡ seek (badEntry n active) i (k - i))
+
+abbrev μ-loop : tie.MeasureT-loop
+μ-loop n k active i₀ i = k - i
+
+loop-holds : tie.Need-loop-holds Inv-loop μ-loop
+loop-holds c = (omega arith, seek-start (badEntry (c .args .n) (c .args .active .now)) (c .args .k))
+
+mul-if1 : tie.Need-mul-if1 Inv-loop μ-loop
+mul-if1 c = search needs
+
+shared-slice-read-if1 : tie.Need-shared-slice-read-if1 Inv-loop μ-loop
+shared-slice-read-if1 c = search needs
+
+cast-if1 : tie.Need-cast-if1 Inv-loop μ-loop
+cast-if1 c = omega (arith, c .shared-slice-known .given (c .before .before .loop .i))
+
+returns : tie.Need-returns Inv-loop μ-loop
+returns c = let a = c .before .before .before .before .args in
+    sym (c .before .before .before .loop .inv .1 ∙ seek-here (badEntry (a .n) (a .active .now)) (c .before .before .before .loop .i) (a .k) (omega arith) (le-leb (a .n) (getD (a .active .now) (c .before .before .before .loop .i) 0) (c .if1 .taken)))
+
+add-i : tie.Need-add-i Inv-loop μ-loop
+add-i c = search needs
+
+loop-less : tie.Need-loop-less Inv-loop μ-loop
+loop-less c = search needs
+
+loop-again : tie.Need-loop-again Inv-loop μ-loop
+loop-again c = let a = c .before .before .before .before .args in
+    (omega arith, c .before .before .before .loop .inv .1 ∙ seek-more (badEntry (a .n) (a .active .now)) (c .before .before .before .loop .i) (a .k) (omega arith) (lt-leb (a .n) (getD (a .active .now) (c .before .before .before .loop .i) 0) (c .if1 .left)))
+
+returns-2 : tie.Need-returns-2 Inv-loop μ-loop
+returns-2 c = let a = c .before .before .args in
+    sym (c .before .loop .inv .1 ∙ seek-past (badEntry (a .n) (a .active .now)) (c .before .loop .i) (a .k) (omega arith))
+
+pub first-bad-entry-spec : {M : Type 1} → statement M
+first-bad-entry-spec =
+    tie.close
+    (tie.spec
+    Inv-loop
+    μ-loop
+    loop-holds
+    mul-if1
+    shared-slice-read-if1
+    cast-if1
+    returns
+    add-i
+    loop-less
+    loop-again
+    returns-2)

@@ -1,0 +1,145 @@
+// The faults of an input, in document 01's order: sizes, lengths, ends of edges, active entries.
+use tables::Sizes;
+use tables::SizesReply;
+ghost use mathlib.Core.Path.{_≡_};
+ghost use Prim.Native.Nat.{_≤_};
+ghost use lib.ListN.{length};
+ghost use Rattle.tables.specs.Refusal.{firstFault, seek};
+ghost use Rattle.tables.specs.Sizes.{sizeFaults};
+ghost use Rattle.contraction.specs.Call.{required, badEdge, badEntry, shortTables, fault};
+ghost use Rattle.contraction.specs.Reply.{lent};
+
+// A refusal's number and its place; 0 and 0 where nothing is refused.
+pub(crate) struct Fault {
+    pub(crate) code: usize,
+    pub(crate) place: usize,
+}
+
+// Refusal 1: sizes past their limits.
+fn size_fault(n: usize, m: usize, k: usize) -> Fault
+    ensures { λ r. ⌜ (r .code, r .place) ≡ firstFault (sizeFaults n m 0 k) ⌝ }
+{
+    let sizes = Sizes::check(n, m, 0, k);
+    match sizes {
+        SizesReply::Within(_) => Fault { code: 0, place: 0 },
+        SizesReply::Refused(code, place) => Fault {
+            code: code,
+            place: place,
+        },
+    }
+}
+
+// The words that a contraction of n nodes and m edges needs.
+pub(crate) fn required(n: usize, m: usize) -> usize
+    requires { ⌜ (n ≤ 4096) × (m ≤ 8192) ⌝ }
+    ensures { λ r. ⌜ r ≡ required n m ⌝ }
+{
+    16 * n + 8 * m + 512
+}
+
+// Refusal 2: a table shorter than its least length.
+fn length_fault(
+    n: usize,
+    m: usize,
+    k: usize,
+    from: &[u16],
+    to: &[u16],
+    active: &[u16],
+    map: &[u16],
+    out_from: &[u16],
+    out_to: &[u16],
+    work: &[u32],
+) -> Fault
+    requires { ⌜ (n ≤ 4096) × (m ≤ 8192) × (k ≤ 8192) ⌝ }
+    ensures { λ r. ⌜ (r .code, r .place) ≡ firstFault (shortTables (lent n m k (now (from .entry)) (now (to .entry)) (now (active .entry)) (now (map .entry)) (now («out_from» .entry)) (now («out_to» .entry)) (now (work .entry)))) ⌝ }
+{
+    if from.len() < m {
+        return Fault { code: 2, place: 0 };
+    }
+    if to.len() < m {
+        return Fault { code: 2, place: 0 };
+    }
+    if active.len() < k {
+        return Fault { code: 2, place: 0 };
+    }
+    if map.len() < k {
+        return Fault { code: 2, place: 0 };
+    }
+    if out_from.len() < 2 * k {
+        return Fault { code: 2, place: 0 };
+    }
+    if out_to.len() < 2 * k {
+        return Fault { code: 2, place: 0 };
+    }
+    if work.len() < required(n, m) {
+        return Fault { code: 2, place: 0 };
+    }
+    Fault { code: 0, place: 0 }
+}
+
+// The first edge with an end not below n, or m.
+fn first_bad_edge(n: usize, m: usize, from: &[u16], to: &[u16]) -> usize
+    requires { ⌜ (m ≤ length (now from)) × (m ≤ length (now to)) ⌝ }
+    ensures { λ r. ⌜ r ≡ seek (badEdge n (now (from .entry)) (now (to .entry))) 0 m ⌝ }
+{
+    let mut s: usize = 0;
+    while s < m {
+        if n <= from[s] as usize {
+            return s;
+        }
+        if n <= to[s] as usize {
+            return s;
+        }
+        s += 1;
+    }
+    s
+}
+
+// The first active entry not below n, or k.
+fn first_bad_entry(n: usize, k: usize, active: &[u16]) -> usize
+    requires { ⌜ k ≤ length (now active) ⌝ }
+    ensures { λ r. ⌜ r ≡ seek (badEntry n (now (active .entry))) 0 k ⌝ }
+{
+    let mut i: usize = 0;
+    while i < k {
+        if n <= active[i] as usize {
+            return i;
+        }
+        i += 1;
+    }
+    i
+}
+
+// The first fault.
+pub(crate) fn first_fault(
+    n: usize,
+    m: usize,
+    k: usize,
+    from: &[u16],
+    to: &[u16],
+    active: &[u16],
+    map: &[u16],
+    out_from: &[u16],
+    out_to: &[u16],
+    work: &[u32],
+) -> Fault
+    ensures { λ r. ⌜ (r .code, r .place) ≡ fault (lent n m k (now (from .entry)) (now (to .entry)) (now (active .entry)) (now (map .entry)) (now («out_from» .entry)) (now («out_to» .entry)) (now (work .entry))) ⌝ }
+{
+    let sizes = size_fault(n, m, k);
+    if sizes.code != 0 {
+        return sizes;
+    }
+    let lengths = length_fault(n, m, k, from, to, active, map, out_from, out_to, work);
+    if lengths.code != 0 {
+        return lengths;
+    }
+    let e = first_bad_edge(n, m, from, to);
+    if e < m {
+        return Fault { code: 4, place: e };
+    }
+    let a = first_bad_entry(n, k, active);
+    if a < k {
+        return Fault { code: 8, place: a };
+    }
+    Fault { code: 0, place: 0 }
+}
