@@ -1,5 +1,4 @@
 pub mod FaultLaws
 pub mod LoadLaws
-pub mod Repeats
 pub mod ResultLaws
 pub mod TableLaws

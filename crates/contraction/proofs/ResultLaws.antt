@@ -11,7 +11,7 @@ use native.Mathlib.Omega.{arith}
 use borrow.Author.Tests.{eqb-false, eqb-true, lt-ltb}
 use Rattle.contraction.proofs.FaultLaws.{Sound}
 use Rattle.contraction.proofs.LoadLaws.{firsts-mem}
-use Rattle.contraction.proofs.Repeats.{canonical-repeats, small-repeats}
+use Rattle.graph.proofs.ActiveLists.{canonical-repeats, small-repeats}
 use Rattle.contraction.proofs.TableLaws.{over-equal, pairs-table, table-map, table-size, take-table}
 use Rattle.contraction.specs.Call.{Lent, done, edges, entries, required}
 use Rattle.contraction.specs.Loading.{Loadable, Prepared}
