@@ -27,3 +27,4 @@ pub mod Canonical
 pub mod CanonicalContraction
 pub mod EdgeCount
 pub mod Reading
+pub mod Repeats

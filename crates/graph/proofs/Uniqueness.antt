@@ -21,7 +21,7 @@ use Rattle.graph.specs.Graph.{Edge}
 use Rattle.graph.specs.Lists.{filter, firsts, table}
 use Rattle.graph.specs.SmallGraph.{Ascends, EdgeLess, different, inOrder, mostNodes}
 
-kept-sub : (E : List Edge) (S T : List ℕ) (z : ℕ) → ((a : ℕ) → List·Memᴰ a S → List·Memᴰ a T) → Kept E S z → Kept E T z
+pub kept-sub : (E : List Edge) (S T : List ℕ) (z : ℕ) → ((a : ℕ) → List·Memᴰ a S → List·Memᴰ a T) → Kept E S z → Kept E T z
 kept-sub E S T z f k =
     record { a = k .a; b = k .b; c = k .c; in-a = f _ (k .in-a); in-b = f _ (k .in-b); in-c = f _ (k .in-c); to-a = k .to-a; to-b = k .to-b; to-c = k .to-c; mid = k .mid }
 
@@ -66,7 +66,7 @@ pigeons E L (y ∷ M) a f =
         go {x} z (List·Memᴰ·head r) t h = let s = cutOff-sound E x y y h in absurd (subst (λ (v : ℕ). TwoEdgeConnected E x v) r t (s .0, s .1, s .2, s .4))
         go z (List·Memᴰ·tail k) t h = (z, k, t)
 
-order-out : {A : Type 0} (n x : ℕ) (xs : List ℕ) → inOrder n (x ∷ xs) ≡ true → (x < n → inOrder n xs ≡ true → A) → (x ≡ n → inOrder (suc n) xs ≡ true → A) → A
+pub order-out : {A : Type 0} (n x : ℕ) (xs : List ℕ) → inOrder n (x ∷ xs) ≡ true → (x < n → inOrder n xs ≡ true → A) → (x ≡ n → inOrder (suc n) xs ≡ true → A) → A
 order-out n x xs h f k =
     or-elim (ltb x n && inOrder n xs) (eqb x n && inOrder (suc n) xs) h
     (λ p. and-elim (ltb x n) (inOrder n xs) p λ a b. f (ltb-true x n a) b) (λ p. and-elim (eqb x n) (inOrder (suc n) xs) p λ a b. k (eqb-true x n a) b)

@@ -5,3 +5,9 @@ pub mod Acceptance
 pub mod DemandThree
 pub mod Steps
 pub mod Leaves
+pub mod WordLaws
+pub mod EdgeLaws
+pub mod EnterLaws
+pub mod SegmentLaws
+pub mod AddingLaws
+pub mod StepLaws

@@ -2,20 +2,22 @@
 -- The area of a window of n events is 10n words: for each event the nodes of its two junctions (2n words), the smaller ends of the edges (4n), the larger ends (4n).
 -- The statements hold for every list of events without a fault whose events are those of the tables X and Y, so that the network's tables need not go through the recursion.
 -- Assumes nothing: these are definitions.
-use Prim.Native.Nat.{ℕ, _+_, _*_, _≤_, _<_}
-use mathlib.Core.Path.{_≡_}
+use Prim.Native.Nat.{_*_, _+_, _<_, _≤_, ℕ}
 use mathlib.Core.Bool.{true}
 use mathlib.Core.List.{List, map}
+use mathlib.Core.Path.{_≡_}
 use lib.Dec.{ltb}
-use lib.ListN.{length, take, drop}
+use lib.ListN.{drop, length, take}
 use lib.Seq.{sets}
-use Rattle.graph.specs.Lists.{pairs, sum, table}
-use Rattle.graph.specs.Graph.{Edge}
-use Rattle.graph.specs.SmallGraph.{IsSmallGraph, Carries, endsIn}
-use Rattle.tables.specs.OpenSet.{isOpen}
-use Rattle.timeline.specs.Windows.{Timeline, Window, size, event, openBefore, network, active, small, windowsFrom}
-use Rattle.timeline.specs.Replay.{byte, eventFault}
 use Rattle.core.specs.declared.Counts.{Counts}
+use Rattle.graph.proofs.ContractionIsSmall.{ρ, σ}
+use Rattle.graph.specs.Graph.{Edge}
+use Rattle.graph.specs.Lists.{pairs, sum, table}
+use Rattle.graph.specs.SmallGraph.{Carries, IsSmallGraph, endsIn}
+use Rattle.tables.specs.OpenSet.{isOpen}
+use Rattle.timeline.specs.Events.{ends}
+use Rattle.timeline.specs.Replay.{byte, eventFault}
+use Rattle.timeline.specs.Windows.{Timeline, Window, active, event, kept, network, openBefore, size, small, windowsFrom}
 use Rattle.timeline.specs.declared.Sum.{Sum}
 
 -- a list without a fault
@@ -90,3 +92,8 @@ pub record Replied (g : Timeline) (at n p : ℕ) (before after : List ℕ) (r : 
 pub record WindowDone (x y : List ℕ) (at n p nodes edges : ℕ) (v before after : List ℕ) (r : Sum) : Type 0 where
   pub few : r .kept + 16384 ≤ 32768 * n
   pub replied : (g : Timeline) → g .events ≡ pairs x y → Sound g → SmallArea g (at, n) nodes edges v → Replied g at n p before after r
+
+-- ---- a window of one event
+pub record OneDone (x y : List ℕ) (at nodes edges : ℕ) (v before after held : List ℕ) : Type 0 where
+  pub held-open : (g : Timeline) → g .events ≡ pairs x y → Sound g → isOpen held ≡ openBefore g (at + 1)
+  pub answers : (g : Timeline) → g .events ≡ pairs x y → Sound g → SmallArea g (at, 1) nodes edges v → after ≡ sets before at (table (byte g) at 1)

@@ -1,4 +1,10 @@
 // The replay of a list of events over a network: definitions in specs/, their laws and demand 3 in proofs/.
+mod added;
+mod load;
+mod segments;
+mod standin;
+mod step;
+mod windows;
 ghost use mathlib.Core.Path.{_≡_};
 ghost use Rattle.timeline.specs.Events.{kindOf};
 
@@ -24,4 +30,10 @@ pub fn kind_of(x: u16, n: usize) -> Kind
         return Kind::Closes;
     }
     Kind::Nothing
+}
+
+// The open segments after a window, and kept over it and all windows below it.
+pub struct Sum {
+    pub held: [u64; 128],
+    pub kept: usize,
 }
