@@ -82,4 +82,3 @@ small-repeats E T h H ρ σ g =
       edge = g .edge;
       linked = g .linked;
     }
-

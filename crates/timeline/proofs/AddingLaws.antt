@@ -105,7 +105,6 @@ module _ (segs : List Edge) (σ : ℕ → ℕ) (o : NodeSet) (U : NodeSet) where
           same-cases (opens e || closes e) (eqb s (e .1)) (named evs s) (o s) (seen s)
           (λ z. ap₂ (λ x y. (opens e || closes e) && (x && not y)) (is s z .0) (is s z .1) ∙ t)
 
-
 -- ---- one event
 module _ (x y : ℕ) (held seen : List ℕ) where
   pub not-named : (eqb x 65535 || eqb x 65534) ≡ false → isAdded (isOpen seen) (isOpen held) (x, y) ≡ false

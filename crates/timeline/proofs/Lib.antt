@@ -11,3 +11,4 @@ pub mod EnterLaws
 pub mod SegmentLaws
 pub mod AddingLaws
 pub mod StepLaws
+pub mod DescentLaws

@@ -161,8 +161,7 @@ module _ {x y : List ℕ} {at n lo c nodes edges₀ : ℕ} {held w : List ℕ} (
       let (p, q) = endsIn-at (λ v. ltb v nodes) (pairs A B) j (omega (arith, pairs-length A B (j + 1) (omega arith) (omega arith))) (a .carries .inside) in
       let e = pairs-at A B j la lb in
       let e1 : getD A j 0 ≡ getD w (2 * n + j) 0 = getD-take edges₀ (drop (2 * n) v) j 0 l ∙ getD-drop (2 * n) v j 0 ∙ getD-take (10 * n) w (2 * n + j) 0 (omega (arith, a .few)) in
-      let e2 : getD B j 0 ≡ getD w (6 * n + j) 0 = getD-take edges₀ (drop (6 * n) v) j 0 l ∙ getD-drop (6 * n) v j 0 ∙ getD-take (10 * n) w (6 * n + j) 0 (omega (arith, a .few)) in
-      (
+      let e2 : getD B j 0 ≡ getD w (6 * n + j) 0 = getD-take edges₀ (drop (6 * n) v) j 0 l ∙ getD-drop (6 * n) v j 0 ∙ getD-take (10 * n) w (6 * n + j) 0 (omega (arith, a .few)) in (
         subst (λ (k : ℕ). k < nodes) (ap (λ (k : Edge). k .0) e ∙ e1) (ltb-true _ nodes p),
         subst (λ (k : ℕ). k < nodes) (ap (λ (k : Edge). k .1) e ∙ e2) (ltb-true _ nodes q),
       )

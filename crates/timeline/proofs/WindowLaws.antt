@@ -39,11 +39,11 @@ Parts p w l = List·Memᴰ (w .0, firstPart p (w .1)) l × List·Memᴰ (w .0 + 
 
 module _ (p : ℕ) (a : Allowed p) where
   -- the list of windows from one down: itself, and, if it is cut, those of its parts
-  small-one : (k at n : ℕ) → n < 2 → windowsFrom p (suc k) at n ≡ (at, n) ∷ []
+  pub small-one : (k at n : ℕ) → n < 2 → windowsFrom p (suc k) at n ≡ (at, n) ∷ []
   unfolding windowsFrom
   small-one k at n h = ap (λ (b : Bool). elim b as (λ x. List Window) [ true ↦ (at, n) ∷ [] | false ↦ (at, n) ∷ windowsFrom p k at (firstPart p n) ++ windowsFrom p k (at + firstPart p n) (n - firstPart p n) ]) (lt-ltb n 2 h)
 
-  large-one : (k at n : ℕ) → 2 ≤ n → windowsFrom p (suc k) at n ≡ (at, n) ∷ windowsFrom p k at (firstPart p n) ++ windowsFrom p k (at + firstPart p n) (n - firstPart p n)
+  pub large-one : (k at n : ℕ) → 2 ≤ n → windowsFrom p (suc k) at n ≡ (at, n) ∷ windowsFrom p k at (firstPart p n) ++ windowsFrom p k (at + firstPart p n) (n - firstPart p n)
   unfolding windowsFrom
   large-one k at n h = ap (λ (b : Bool). elim b as (λ x. List Window) [ true ↦ (at, n) ∷ [] | false ↦ (at, n) ∷ windowsFrom p k at (firstPart p n) ++ windowsFrom p k (at + firstPart p n) (n - firstPart p n) ]) (le-ltb n 2 h)
 

@@ -105,9 +105,11 @@ pub map-step : (l w : List ℕ) (s q range i : ℕ) → w ≡ sets l q (table (�
 map-step l w s q range i e h b =
     let f : ℕ → ℕ = λ j. node 0 (drop s l) (getD l (range + j) 0) in
     let g : getD w (range + i) 0 ≡ getD l (range + i) 0 = ap (λ v. getD v (range + i) 0) e ∙ getD-sets-before (table f 0 i) l q (range + i) b in
-    let z : s + 16 * getD l (range + i) 0 ≡ s + 16 * getD l (range + i) 0 + 0 = omega arith in
-    (g, ap₂ (λ v j. set v (q + i) (getD v (s + 16 * j) 0)) e g ∙ ap (λ j. set (sets l q (table f 0 i)) (q + i) (getD (sets l q (table f 0 i)) j 0)) z
-    ∙ fill-more f l q i _ (field-after 0 s (getD l (range + i) 0) q (table f 0 i) l (omega (arith, table-length f 0 i))))
+    let z : s + 16 * getD l (range + i) 0 ≡ s + 16 * getD l (range + i) 0 + 0 = omega arith in (
+      g,
+      ap₂ (λ v j. set v (q + i) (getD v (s + 16 * j) 0)) e g ∙ ap (λ j. set (sets l q (table f 0 i)) (q + i) (getD (sets l q (table f 0 i)) j 0)) z
+          ∙ fill-more f l q i _ (field-after 0 s (getD l (range + i) 0) q (table f 0 i) l (omega (arith, table-length f 0 i))),
+    )
 
 pub table-ext : (f g : ℕ → ℕ) (i n : ℕ) → ((j : ℕ) → i ≤ j → j < i + n → f j ≡ g j) → table f i n ≡ table g i n
 table-ext f g i zero h = refl
@@ -151,7 +153,6 @@ pairs-mem (x ∷ a) (y ∷ b) (suc j) l m = List·Memᴰ·tail (pairs-mem a b j 
 
 pub front-get : (s j : ℕ) (w z : List ℕ) → take s z ≡ take s w → j < s → getD z j 0 ≡ getD w j 0
 front-get s j w z e l = sym (getD-take s z j 0 l) ∙ ap (λ k. getD k j 0) e ∙ getD-take s w j 0 l
-
 
 -- ---- two parallel lists
 pub pairs-length : (x y : List ℕ) (n : ℕ) → n ≤ length x → n ≤ length y → n ≤ length (pairs x y)

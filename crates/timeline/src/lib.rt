@@ -5,6 +5,7 @@ mod segments;
 mod standin;
 mod step;
 mod windows;
+
 ghost use mathlib.Core.Path.{_≡_};
 ghost use Rattle.timeline.specs.Events.{kindOf};
 

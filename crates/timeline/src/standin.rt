@@ -5,8 +5,5 @@ pub(crate) fn reduce(work: &mut [u32], n: usize, m: usize, k: usize) -> core::Co
     requires { ⌜ Loaded n m k (now work) ⌝ }
     ensures { λ r. ⌜ Reduced n m k (now (work .entry)) (now (work .exit)) (r .nodes) (r .edges) ⌝ }
 {
-    core::Counts {
-        nodes: n,
-        edges: m,
-    }
+    core::Counts { nodes: n, edges: m }
 }

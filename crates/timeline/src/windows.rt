@@ -76,10 +76,32 @@ pub(crate) fn window(
     let mid = at + c;
     let q = 10 * n;
     let a = crate::step::step(x, y, at, n, at, c, nodes, edges, held, work);
-    let b = window(x, y, at, c, p, a.nodes, a.edges, held, answers, &mut work[q..]);
+    let b = window(
+        x,
+        y,
+        at,
+        c,
+        p,
+        a.nodes,
+        a.edges,
+        held,
+        answers,
+        &mut work[q..],
+    );
     let middle = b.held;
     let d = crate::step::step(x, y, at, n, mid, rest, nodes, edges, middle, work);
-    let e = window(x, y, mid, rest, p, d.nodes, d.edges, middle, answers, &mut work[q..]);
+    let e = window(
+        x,
+        y,
+        mid,
+        rest,
+        p,
+        d.nodes,
+        d.edges,
+        middle,
+        answers,
+        &mut work[q..],
+    );
     let last = e.held;
     crate::Sum {
         held: last,

@@ -1,3 +1,7 @@
+use Rattle.timeline.proofs.DescentLaws.{one-asks, one-names, one-segment}
+use borrow.Author.Tests.{eq-eqb, ne-eqb}
+use mathlib.Core.Path.{_∙_, sym}
+use native.Mathlib.Omega.{arith}
 use borrow.Author.Needs.{needs}
 use Rattle.timeline.proofs.windows.one.Statement.{statement}
 use Rattle.timeline.proofs.windows.one.Tie as tie
@@ -24,7 +28,7 @@ shared-slice-read-s c = search needs
 
 -- src/windows.rt:33:13
 cast-s : tie.Need-cast-s
-cast-s c = ?
+cast-s c = omega (arith, c .shared-slice-known5 .given (c .before .before .before .before .before .before .args .at))
 
 -- src/windows.rt:34:9
 names-segment-requires : tie.Need-names-segment-requires
@@ -36,7 +40,7 @@ slice-write-answers c = search needs
 
 -- src/windows.rt:37:9
 after-event-requires : tie.Need-after-event-requires
-after-event-requires c κs = ?
+after-event-requires c κs = λ h. one-segment (c .before .before .before .before .before .before .before .before .pre) h
 
 -- src/windows.rt:37:9
 same-length : tie.Need-same-length
@@ -44,7 +48,7 @@ same-length c = search needs
 
 -- src/windows.rt:37:9
 returns : tie.Need-returns
-returns c = ?
+returns c = one-names (c .before .before .before .before .before .before .before .before .before .pre) (c .after-event .result) (sym (c .before .before .names-segment .ensures) ∙ c .before .if1 .taken) (c .after-event .ensures)
 
 -- src/windows.rt:40:9
 slice-write-answers-2 : tie.Need-slice-write-answers-2
@@ -56,7 +60,7 @@ same-length-2 c = search needs
 
 -- src/windows.rt:41:9
 returns-2 : tie.Need-returns-2
-returns-2 c = ?
+returns-2 c = one-asks (c .before .before .before .before .before .before .before .before .before .pre) 2 (sym (c .before .before .names-segment .ensures) ∙ c .before .if1 .left) (simp (eq-eqb _ _ (c .if2 .taken)))
 
 -- src/windows.rt:44:9
 slice-write-answers-3 : tie.Need-slice-write-answers-3
@@ -68,7 +72,7 @@ same-length-3 c = search needs
 
 -- src/windows.rt:45:9
 returns-3 : tie.Need-returns-3
-returns-3 c = ?
+returns-3 c = one-asks (c .before .before .before .before .before .before .before .before .before .before .pre) 0 (sym (c .before .before .before .names-segment .ensures) ∙ c .before .before .if1 .left) (simp (ne-eqb _ _ (c .before .if2 .left), eq-eqb _ _ (c .if3 .taken)))
 
 -- src/windows.rt:47:5
 slice-write-answers-4 : tie.Need-slice-write-answers-4
@@ -80,7 +84,7 @@ same-length-4 c = search needs
 
 -- src/windows.rt:18:1
 returns-4 : tie.Need-returns-4
-returns-4 c = ?
+returns-4 c = one-asks (c .before .before .before .before .before .before .before .before .before .before .pre) 1 (sym (c .before .before .before .names-segment .ensures) ∙ c .before .before .if1 .left) (simp (ne-eqb _ _ (c .before .if2 .left), ne-eqb _ _ (c .if3 .left)))
 
 pub one-spec : {M : Type 1} → statement M
 one-spec =
