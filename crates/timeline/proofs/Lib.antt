@@ -12,3 +12,4 @@ pub mod SegmentLaws
 pub mod AddingLaws
 pub mod StepLaws
 pub mod DescentLaws
+pub mod CheckLaws

@@ -31,6 +31,10 @@ unfolding bits
 bits-length [] = refl
 bits-length (w ∷ ws) = rw length-append (omega (arith, length-digits 64 w, bits-length ws))
 
+-- a store of a bit leaves the words as many as they are
+pub stored-length : (words words′ : List ℕ) (s v : ℕ) → length words ≡ 128 → bits words′ ≡ set (bits words) s v → length words′ ≡ 128
+stored-length words words′ s v l q = omega (arith, bits-length words, bits-length words′, ap length q, length-set (bits words) s v)
+
 -- ---- one segment
 module _ (words words′ : List ℕ) (s v : ℕ) (l : length words ≡ 128) (u : s < 8192) (q : bits words′ ≡ set (bits words) s v) where
   pub stored : (k : ℕ) → isOpen words′ k ≡ cond (eqb k s) (eqb v 1) (isOpen words k)

@@ -6,3 +6,4 @@ pub mod Area
 pub mod Load
 pub mod DemandTwo
 pub mod DemandThree
+pub mod Call

@@ -73,7 +73,7 @@ pub(crate) fn named_in(x: &[u16], y: &[u16], lo: usize, c: usize) -> [u64; 128]
 // The open segments after an event.
 pub(crate) fn after_event(held: [u64; 128], x: u16, y: usize) -> [u64; 128]
     requires { ⌜ ((eqb x 65535 || eqb x 65534) ≡ true → y < 8192) ⌝ }
-    ensures { λ r. ⌜ isOpen r ≡ after (x, y) (isOpen held) ⌝ }
+    ensures { λ r. ⌜ (length r ≡ 128) × (isOpen r ≡ after (x, y) (isOpen held)) ⌝ }
 {
     if x == 65535 {
         return tables::opened(held, y);

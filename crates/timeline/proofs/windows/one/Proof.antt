@@ -48,7 +48,7 @@ same-length c = search needs
 
 -- src/windows.rt:37:9
 returns : tie.Need-returns
-returns c = one-names (c .before .before .before .before .before .before .before .before .before .pre) (c .after-event .result) (sym (c .before .before .names-segment .ensures) ∙ c .before .if1 .taken) (c .after-event .ensures)
+returns c = one-names (c .before .before .before .before .before .before .before .before .before .pre) (c .after-event .result) (sym (c .before .before .names-segment .ensures) ∙ c .before .if1 .taken) (c .after-event .ensures .1)
 
 -- src/windows.rt:40:9
 slice-write-answers-2 : tie.Need-slice-write-answers-2
