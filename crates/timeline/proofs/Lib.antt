@@ -13,3 +13,4 @@ pub mod AddingLaws
 pub mod StepLaws
 pub mod DescentLaws
 pub mod CheckLaws
+pub mod CallLaws

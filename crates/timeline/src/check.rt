@@ -89,10 +89,7 @@ pub(crate) fn bad_event(n: usize, m: usize, t: usize, x: &[u16], y: &[u16]) -> c
         held = next;
         i += 1;
     }
-    crate::Fault {
-        code: 0,
-        place: 0,
-    }
+    crate::Fault { code: 0, place: 0 }
 }
 
 // The fault of the sizes.
@@ -108,10 +105,7 @@ pub(crate) fn size_fault(n: usize, m: usize, t: usize) -> crate::Fault
             };
         }
         tables::SizesReply::Within(_) => {
-            return crate::Fault {
-                code: 0,
-                place: 0,
-            };
+            return crate::Fault { code: 0, place: 0 };
         }
     }
 }

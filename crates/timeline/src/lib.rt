@@ -7,6 +7,7 @@ mod standin;
 mod step;
 mod whole;
 mod windows;
+
 ghost use mathlib.Core.Path.{_≡_};
 ghost use Rattle.timeline.specs.Call.{lent, outcome};
 ghost use Rattle.timeline.specs.Events.{kindOf};

@@ -101,7 +101,18 @@ pub(crate) fn replay_windows(
     let held = [0u64; 128];
     let r = crate::step::step(xs, ys, 0, t, 0, t, n, 0, held, work);
     let q = 10 * t;
-    crate::windows::window(xs, ys, 0, t, p, r.nodes, r.edges, held, answers, &mut work[q..])
+    crate::windows::window(
+        xs,
+        ys,
+        0,
+        t,
+        p,
+        r.nodes,
+        r.edges,
+        held,
+        answers,
+        &mut work[q..],
+    )
 }
 
 // The windows, where there are any.
@@ -130,7 +141,7 @@ pub(crate) fn replay_list(
     replay_windows(n, m, t, p, a, b, x, y, answers, work)
 }
 
-// An accepted replay.
+// An accepted replay: it works in the required length of the work table, which is cleared at the end.
 pub(crate) fn accepted(
     n: usize,
     m: usize,
@@ -146,11 +157,12 @@ pub(crate) fn accepted(
     requires { ⌜ fault (lent n m t (now a) (now b) (now x) (now y) (now answers) (now work)) p .0 ≡ 0 ⌝ }
     ensures { λ r. ⌜ outcome (Done r) (now (answers .exit)) (now (work .exit)) ≡ done (lent n m t (now (a .entry)) (now (b .entry)) (now (x .entry)) (now (y .entry)) (now (answers .entry)) (now (work .entry))) p ⌝ }
 {
-    let sum = replay_list(n, m, t, p, a, b, x, y, answers, work);
+    let need = 256 * t + 32 * n + 2048;
+    let sum = replay_list(n, m, t, p, a, b, x, y, answers, &mut work[..need]);
     let last = sum.held;
     let opened = tables::count(last);
     let queries = count_queries(&x[..t]);
-    clear(work, 256 * t + 32 * n + 2048);
+    clear(work, need);
     crate::Totals {
         queries: queries,
         open: opened,

@@ -1,3 +1,7 @@
+use lib.ListN.{length-set}
+use native.Mathlib.Omega.{arith}
+use mathlib.Core.Path.{_∙_, sym}
+use Rattle.timeline.proofs.CallLaws.{ends-named, ends-put, ends-query}
 use borrow.Author.Needs.{needs}
 use Rattle.timeline.proofs.whole.put_ends.Statement.{statement}
 use Rattle.timeline.proofs.whole.put_ends.Tie as tie
@@ -15,11 +19,11 @@ mul-work c = search needs
 
 -- src/whole.rt:23:23
 shared-slice-read-work : tie.Need-shared-slice-read-work
-shared-slice-read-work c = ?
+shared-slice-read-work c = c .before .before .before .before .before .before .pre .1 (sym (c .before .before .names-segment .ensures) ∙ c .before .if1 .taken) .0
 
 -- src/whole.rt:23:23
 cast-work : tie.Need-cast-work
-cast-work c = ?
+cast-work c = omega (arith, c .shared-slice-known3 .given (c .before .before .before .before .before .before .args .y))
 
 -- src/whole.rt:23:14
 mul-work-2 : tie.Need-mul-work-2
@@ -39,11 +43,11 @@ mul-work-4 c = search needs
 
 -- src/whole.rt:24:27
 shared-slice-read-work-2 : tie.Need-shared-slice-read-work-2
-shared-slice-read-work-2 c = ?
+shared-slice-read-work-2 c = c .before .before .before .before .before .before .before .pre .1 (sym (c .before .before .before .names-segment .ensures) ∙ c .before .before .if1 .taken) .1
 
 -- src/whole.rt:24:27
 cast-work-2 : tie.Need-cast-work-2
-cast-work-2 c = ?
+cast-work-2 c = omega (arith, c .shared-slice-known4 .given (c .before .before .before .before .before .before .before .args .y))
 
 -- src/whole.rt:24:14
 mul-work-5 : tie.Need-mul-work-5
@@ -59,7 +63,7 @@ mul-work-6 c = search needs
 
 -- src/whole.rt:24:9
 slice-write-work-2 : tie.Need-slice-write-work-2
-slice-write-work-2 c = ?
+slice-write-work-2 c = rw length-set (omega arith)
 
 -- src/whole.rt:25:9
 same-length : tie.Need-same-length
@@ -67,7 +71,7 @@ same-length c = search needs
 
 -- src/whole.rt:25:9
 returns : tie.Need-returns
-returns c = ?
+returns c = ends-put (c .before .before .before .before .before .before .before .args .work .now) (c .before .before .before .before .before .before .before .args .i) _ _ _ (ends-named (c .before .before .before .before .before .before .before .args .a .now) (c .before .before .before .before .before .before .before .args .b .now) (c .before .before .before .before .before .before .before .args .x) (c .before .before .before .before .before .before .before .args .y) (sym (c .before .before .before .names-segment .ensures) ∙ c .before .before .if1 .taken) (c .before .before .before .before .before .before .before .pre .1 (sym (c .before .before .before .names-segment .ensures) ∙ c .before .before .if1 .taken) .0) (c .before .before .before .before .before .before .before .pre .1 (sym (c .before .before .before .names-segment .ensures) ∙ c .before .before .if1 .taken) .1))
 
 -- src/whole.rt:27:10
 mul-work-7 : tie.Need-mul-work-7
@@ -95,7 +99,7 @@ mul-work-10 c = search needs
 
 -- src/whole.rt:28:5
 slice-write-work-4 : tie.Need-slice-write-work-4
-slice-write-work-4 c = ?
+slice-write-work-4 c = rw length-set (omega arith)
 
 -- src/whole.rt:16:1
 same-length-2 : tie.Need-same-length-2
@@ -103,7 +107,7 @@ same-length-2 c = search needs
 
 -- src/whole.rt:16:1
 returns-2 : tie.Need-returns-2
-returns-2 c = ?
+returns-2 c = ends-put (c .before .before .before .before .before .args .work .now) (c .before .before .before .before .before .args .i) _ _ _ (ends-query (c .before .before .before .before .before .args .a .now) (c .before .before .before .before .before .args .b .now) (c .before .before .before .before .before .args .x) (c .before .before .before .before .before .args .y) (sym (c .before .names-segment .ensures) ∙ c .if1 .left))
 
 pub put-ends-spec : {M : Type 1} → statement M
 put-ends-spec =
