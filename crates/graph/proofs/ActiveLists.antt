@@ -22,7 +22,7 @@ order-old x b xs l h = rw (lt-ltb x b l, h) refl
 pub order-new : (x b : ℕ) (xs : List ℕ) → x ≡ b → inOrder (suc b) xs ≡ true → inOrder b (x ∷ xs) ≡ true
 order-new x b xs e h = rw (eq-eqb x b e, h) (or-true (ltb x b && inOrder b xs))
 
-filter-twice : (p q : ℕ → Bool) (xs : List ℕ) → filter p (filter q xs) ≡ filter (λ x. p x && q x) xs
+pub filter-twice : (p q : ℕ → Bool) (xs : List ℕ) → filter p (filter q xs) ≡ filter (λ x. p x && q x) xs
 filter-twice p q [] = refl
 filter-twice p q (x ∷ xs) = onBool (q x)
     (λ e. onBool (p x) (λ f. rw (e, f) (ap (λ l. x ∷ l) (filter-twice p q xs))) (λ f. rw (e, f) (filter-twice p q xs)))
@@ -47,7 +47,7 @@ order-filter σ (y ∷ K) p b h low =
     let g : inOrder b (map σ (filter q (firsts eqb K))) ≡ true = rw (e, filter-twice p (λ z. not (eqb y z)) (firsts eqb K)) at h in
     order-old (σ y) b (map σ K) (low y e) (order-filter σ K q b g (out b (omega arith) (low y e))))
 
-in-firsts : (K : List ℕ) (a : ℕ) → List·Memᴰ a K → List·Memᴰ a (firsts eqb K)
+pub in-firsts : (K : List ℕ) (a : ℕ) → List·Memᴰ a K → List·Memᴰ a (firsts eqb K)
 in-firsts K a m =
     let (c, n, e) = firsts-cover eqb (λ x. eq-eqb x x refl) (λ x y z p q. eq-eqb x z (eqb-true x y p ∙ eqb-true y z q)) a K m in
     subst (λ (v : ℕ). List·Memᴰ v (firsts eqb K)) (eqb-true c a e) n

@@ -254,7 +254,7 @@ module _ (l : Lent) (p : ℕ) (a : Accepted l p) where
 share-silent : (p : ℕ) → Allowed p → Silent (shareFaults p)
 share-silent p a = (le-ltb p 4 (a .0), (le-ltb 12 p (a .1), tt))
 
-skip-silent : (rs bs : List Row) → Silent rs → firstFault (rs ++ bs) ≡ firstFault bs
+pub skip-silent : (rs bs : List Row) → Silent rs → firstFault (rs ++ bs) ≡ firstFault bs
 skip-silent [] bs s = refl
 skip-silent (r ∷ rs) bs s = ap (λ (b : Bool). cond b (r .code, r .place) (firstFault (rs ++ bs))) (s .0) ∙ skip-silent rs bs (s .1)
 

@@ -103,7 +103,7 @@ module _ (g : Timeline) (w c : Window) (h : Part w c) where
   abbrev pub post : List Event
   post = drop (c .1) (drop k (take (w .1) (drop (w .0) (g .events))))
 
-  middle : take (c .1) (drop k (take (w .1) (drop (w .0) (g .events)))) ≡ during g c
+  pub middle : take (c .1) (drop k (take (w .1) (drop (w .0) (g .events)))) ≡ during g c
   unfolding during
   middle =
       let a = h .after in

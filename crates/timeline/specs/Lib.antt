@@ -3,6 +3,9 @@ pub mod Windows
 pub mod Replay
 pub mod Program
 pub mod Steps
+pub mod Area
+pub mod Load
 pub mod DemandTwo
 pub mod DemandThree
 pub mod Cases
+pub mod Call

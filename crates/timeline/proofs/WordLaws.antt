@@ -1,0 +1,168 @@
+-- Laws of words that are written in order, of a front that stays, and of parts of lists.
+-- In order: tables of values; runs of stores; fronts and backs of a list of words; fields written from behind the front.
+-- Assumes nothing.
+use Prim.Native.Nat.{_*_, _+_, _-_, _/_, _<_, _≤_, suc, zero, ℕ}
+use mathlib.Core.Bool.{Bool, _&&_, _||_, and-false, cond, false, not, or-true, true}
+use mathlib.Core.List.{List, List·Memᴰ, List·Memᴰ·head, List·Memᴰ·tail, [], _++_, _∷_, append-assoc, map}
+use mathlib.Core.Logic.{_⊎_, inl, inr}
+use mathlib.Core.Path.{_∙_, _≡_, ap, ap₂, fun-ext, refl, subst, sym}
+use lib.Dec.{eqb, leb, ltb}
+use lib.ListN.{drop, drop-of-length-le, getD, length, length-append, length-drop, length-map, length-set, length-take, set, take}
+use lib.Seq.{drop-append-le, drop-at, drop-cons, drop-drop, drop-set-lt, getD-drop, getD-set-other, getD-set-same, getD-take, length-sets, length-take-le, sets, sets-eq, take-add, take-all, take-append-le, take-at, take-set-le, take-suc, take-take}
+use native.Mathlib.Nat.{add-zero, mul-le-mul-left}
+use native.Mathlib.Numerals.{add-one}
+use native.Mathlib.Omega.{arith}
+use borrow.Author.Tests.{eq-eqb, eqb-false, eqb-true, le-ltb, lt-ltb, ltb-false, ltb-true, ne-eqb, not-false, not-true}
+use borrow.Rule.Slice.PartMut.{putMid, same-len-mid, take-put}
+use Rattle.graph.proofs.Booleans.{and-elim, contradict, onBool, or-elim}
+use Rattle.graph.specs.Cut.{crosses, cut}
+use Rattle.graph.specs.Graph.{Edge, NodeSet}
+use Rattle.words.specs.Fields.{half, node}
+use Rattle.graph.proofs.Lists.{table-length}
+use Rattle.graph.specs.Lists.{pairs, table}
+
+pub sets-append : (xs l : List ℕ) (i : ℕ) (ys : List ℕ) → sets l i (xs ++ ys) ≡ sets (sets l i xs) (i + length xs) ys
+sets-append [] l i ys = rw add-zero refl
+sets-append (x ∷ xs) l i ys = sets-append xs (set l i x) (suc i) ys ∙ ap (λ (k : ℕ). sets (sets (set l i x) (suc i) xs) k ys) (omega arith)
+
+pub table-append : (f : ℕ → ℕ) (i m n : ℕ) → table f i (m + n) ≡ table f i m ++ table f (i + m) n
+table-append f i zero n = let a : 0 + n ≡ n = omega arith in let b : i + 0 ≡ i = omega arith in rw (a, b) refl
+table-append f i (suc m) n =
+    let a : suc m + n ≡ suc (m + n) = omega arith in
+    let b : i + suc m ≡ suc i + m = omega arith in
+    rw (a, b) (ap (λ l. f i ∷ l) (table-append f (suc i) m n))
+
+-- the table of a window is that of its parts
+pub sets-two : (f : ℕ → ℕ) (l : List ℕ) (i n c : ℕ) → c ≤ n → sets l i (table f i n) ≡ sets (sets l i (table f i c)) (i + c) (table f (i + c) (n - c))
+sets-two f l i n c h =
+    let e : n ≡ c + (n - c) = omega arith in
+    ap (λ k. sets l i (table f i k)) e ∙ ap (sets l i) (table-append f i c (n - c)) ∙ sets-append (table f i c) l i (table f (i + c) (n - c))
+    ∙ ap (λ k. sets (sets l i (table f i c)) (i + k) (table f (i + c) (n - c))) (table-length f i c)
+
+pub fill-more : (f : ℕ → ℕ) (l : List ℕ) (q i x : ℕ) → x ≡ f i → set (sets l q (table f 0 i)) (q + i) x ≡ sets l q (table f 0 (i + 1))
+fill-more f l q i x e =
+    let z : 0 + i ≡ i = omega arith in
+    ap₂ (λ k y. set (sets l q (table f 0 i)) (q + k) y) (sym (table-length f 0 i)) e
+    ∙ sym (ap (sets l q) (table-append f 0 i 1) ∙ sets-append (table f 0 i) l q (table f (0 + i) 1) ∙ ap (λ k. set (sets l q (table f 0 i)) (q + length (table f 0 i)) (f k)) z)
+
+pub getD-sets-after : (vs l : List ℕ) (q j : ℕ) → q + length vs ≤ j → getD (sets l q vs) j 0 ≡ getD l j 0
+getD-sets-after [] l q j h = refl
+getD-sets-after (v ∷ vs) l q j h = getD-sets-after vs (set l q v) (suc q) j (omega arith) ∙ getD-set-other l q j v 0 (λ e. omega arith)
+
+pub getD-sets-before : (vs l : List ℕ) (q j : ℕ) → j < q → getD (sets l q vs) j 0 ≡ getD l j 0
+getD-sets-before [] l q j h = refl
+getD-sets-before (v ∷ vs) l q j h = getD-sets-before vs (set l q v) (suc q) j (omega arith) ∙ getD-set-other l q j v 0 (λ e. omega arith)
+
+pub take-sets : (vs l : List ℕ) (q k : ℕ) → k ≤ q → take k (sets l q vs) ≡ take k l
+take-sets [] l q k h = refl
+take-sets (v ∷ vs) l q k h = take-sets vs (set l q v) (suc q) k (omega arith) ∙ take-set-le k l q v h
+
+pub drop-sets : (vs l : List ℕ) (q k : ℕ) → q + length vs ≤ k → drop k (sets l q vs) ≡ drop k l
+drop-sets [] l q k h = refl
+drop-sets (v ∷ vs) l q k h = drop-sets vs (set l q v) (suc q) k (omega arith) ∙ drop-set-lt k l q v (omega arith)
+
+-- what was written
+pub mid-sets : (vs l : List ℕ) (q : ℕ) → q + length vs ≤ length l → take (length vs) (drop q (sets l q vs)) ≡ vs
+mid-sets vs l q h =
+    ap (λ k. take (length vs) (drop q k)) (sets-eq vs l q h ∙ append-assoc (take q l) vs (drop (q + length vs) l)) ∙ ap (take (length vs)) (drop-at (take q l) (vs ++ drop (q + length vs) l) q (length-take-le q l (omega arith)))
+    ∙ take-at vs (drop (q + length vs) l) (length vs) refl
+
+-- what lies between is as it was
+pub middle : (i k : ℕ) (l : List ℕ) → i ≤ length l → take k (drop i l) ≡ drop i (take (i + k) l)
+middle i k l h = sym (ap (drop i) (take-add i k l) ∙ drop-at (take i l) (take k (drop i l)) i (length-take-le i l h))
+
+pub mid-before : (vs l : List ℕ) (q i k : ℕ) → i + k ≤ q → i ≤ length l → take k (drop i (sets l q vs)) ≡ take k (drop i l)
+mid-before vs l q i k h b = middle i k (sets l q vs) (rw length-sets b) ∙ ap (drop i) (take-sets vs l q (i + k) h) ∙ sym (middle i k l b)
+
+-- a field read behind the front, when words of the front were written
+pub field-after : (k s i q : ℕ) (vs l : List ℕ) → q + length vs ≤ s → getD (sets l q vs) (s + 16 * i + k) 0 ≡ node k (drop s l) i
+unfolding node
+field-after k s i q vs l h =
+    let e : s + (16 * i + k) ≡ s + 16 * i + k = omega arith in
+    getD-sets-after vs l q (s + 16 * i + k) (omega arith) ∙ sym (getD-drop s l (16 * i + k) 0 ∙ ap (λ j. getD l j 0) e)
+
+pub fill-length : (l : List ℕ) {w : List ℕ} (q : ℕ) (vs : List ℕ) → w ≡ sets l q vs → length w ≡ length l
+fill-length l q vs e = ap length e ∙ length-sets l q vs
+
+pub fill-step : (l w : List ℕ) (k s q i : ℕ) → w ≡ sets l q (table (node k (drop s l)) 0 i) → q + i ≤ s
+    → set w (q + i) (getD w (s + 16 * i + k) 0) ≡ sets l q (table (node k (drop s l)) 0 (i + 1))
+fill-step l w k s q i e h =
+    let f = node k (drop s l) in
+    ap (λ v. set v (q + i) (getD v (s + 16 * i + k) 0)) e ∙ fill-more f l q i _ (field-after k s i q (table f 0 i) l (omega (arith, table-length f 0 i)))
+
+-- ---- numbers of listed nodes
+pub map-table : (g : ℕ → ℕ) (w : List ℕ) (range count : ℕ) → range + count ≤ length w → map g (take count (drop range w)) ≡ table (λ j. g (getD w (range + j) 0)) 0 count
+map-table g w range count h = let z : range ≡ range + 0 = omega arith in ap (λ j. map g (take count (drop j w))) z ∙ go count 0 (omega arith)
+  where
+    go : (count i : ℕ) → range + i + count ≤ length w → map g (take count (drop (range + i) w)) ≡ table (λ j. g (getD w (range + j) 0)) i count
+    go zero i h = refl
+    go (suc k) i h =
+        let z : suc (range + i) ≡ range + suc i = omega arith in
+        ap (λ l. map g (take (suc k) l)) (drop-cons w (range + i) 0 (omega arith)) ∙ ap (λ l. g (getD w (range + i) 0) ∷ l) (ap (λ j. map g (take k (drop j w))) z ∙ go k (suc i) (omega arith))
+
+pub map-step : (l w : List ℕ) (s q range i : ℕ) → w ≡ sets l q (table (λ j. node 0 (drop s l) (getD l (range + j) 0)) 0 i) → q + i ≤ s → range + i < q
+    → (getD w (range + i) 0 ≡ getD l (range + i) 0) × (set w (q + i) (getD w (s + 16 * getD w (range + i) 0) 0) ≡ sets l q (table (λ j. node 0 (drop s l) (getD l (range + j) 0)) 0 (i + 1)))
+map-step l w s q range i e h b =
+    let f : ℕ → ℕ = λ j. node 0 (drop s l) (getD l (range + j) 0) in
+    let g : getD w (range + i) 0 ≡ getD l (range + i) 0 = ap (λ v. getD v (range + i) 0) e ∙ getD-sets-before (table f 0 i) l q (range + i) b in
+    let z : s + 16 * getD l (range + i) 0 ≡ s + 16 * getD l (range + i) 0 + 0 = omega arith in (
+      g,
+      ap₂ (λ v j. set v (q + i) (getD v (s + 16 * j) 0)) e g ∙ ap (λ j. set (sets l q (table f 0 i)) (q + i) (getD (sets l q (table f 0 i)) j 0)) z
+          ∙ fill-more f l q i _ (field-after 0 s (getD l (range + i) 0) q (table f 0 i) l (omega (arith, table-length f 0 i))),
+    )
+
+pub table-ext : (f g : ℕ → ℕ) (i n : ℕ) → ((j : ℕ) → i ≤ j → j < i + n → f j ≡ g j) → table f i n ≡ table g i n
+table-ext f g i zero h = refl
+table-ext f g i (suc n) h = ap₂ _∷_ (h i (omega arith) (omega arith)) (table-ext f g (suc i) n (λ j a b. h j (omega arith) (omega arith)))
+
+pub map-ext : (f g : ℕ → ℕ) (xs : List ℕ) → ((x : ℕ) → List·Memᴰ x xs → f x ≡ g x) → map f xs ≡ map g xs
+map-ext f g [] h = refl
+map-ext f g (x ∷ xs) h = ap₂ _∷_ (h x (List·Memᴰ·head refl)) (map-ext f g xs (λ y m. h y (List·Memᴰ·tail m)))
+
+pub take-less : (k s : ℕ) (w z : List ℕ) → k ≤ s → take s z ≡ take s w → take k z ≡ take k w
+take-less k s w z l e = sym (take-take k s z l) ∙ ap (take k) e ∙ take-take k s w l
+
+pub mid-less : (i k s : ℕ) (w z : List ℕ) → i + k ≤ s → i ≤ length z → i ≤ length w → take s z ≡ take s w → take k (drop i z) ≡ take k (drop i w)
+mid-less i k s w z l a b e = middle i k z a ∙ ap (drop i) (take-less (i + k) s w z l e) ∙ sym (middle i k w b)
+
+pub take-whole : (s : ℕ) (w : List ℕ) → take (length w - s) (drop s w) ≡ drop s w
+take-whole s w = take-all (length w - s) (drop s w) (rw length-drop (omega arith))
+
+pub drop-back : (s : ℕ) (w z : List ℕ) → s ≤ length w → drop s (putMid s (length w - s) w z) ≡ z
+drop-back s w z l =
+    drop-at (take s w) (z ++ drop (length w - s) (drop s w)) s (length-take-le s w l)
+    ∙ ap (λ k. z ++ k) (drop-of-length-le (drop s w) {i = length w - s} (rw length-drop (omega arith))) ∙ append-nil z
+  where
+    append-nil : (z : List ℕ) → z ++ [] ≡ z
+    append-nil [] = refl
+    append-nil (x ∷ z) = ap (λ l. x ∷ l) (append-nil z)
+
+pub sub : (i k j : ℕ) (l : List ℕ) → i + k ≤ j → j ≤ length l → take k (drop i (take j l)) ≡ take k (drop i l)
+sub i k j l h b = middle i k (take j l) (rw length-take (omega arith)) ∙ ap (drop i) (take-take (i + k) j l h) ∙ sym (middle i k l (omega arith))
+
+pub low-map : (b : ℕ) (σ : ℕ → ℕ) (A : List ℕ) (i : ℕ) → ((a : ℕ) → List·Memᴰ a A → σ a < b) → i < length A → getD (map σ A) i 0 < b
+low-map b σ [] i f l = absurd (omega arith)
+low-map b σ (a ∷ A) zero f l = f a (List·Memᴰ·head refl)
+low-map b σ (a ∷ A) (suc i) f l = low-map b σ A i (λ x m. f x (List·Memᴰ·tail m)) (omega arith)
+
+pub pairs-mem : (a b : List ℕ) (j : ℕ) → j < length a → j < length b → List·Memᴰ (getD a j 0, getD b j 0) (pairs a b)
+pairs-mem [] b j l m = absurd (omega arith)
+pairs-mem (x ∷ a) [] j l m = absurd (omega arith)
+pairs-mem (x ∷ a) (y ∷ b) zero l m = List·Memᴰ·head refl
+pairs-mem (x ∷ a) (y ∷ b) (suc j) l m = List·Memᴰ·tail (pairs-mem a b j (omega arith) (omega arith))
+
+pub front-get : (s j : ℕ) (w z : List ℕ) → take s z ≡ take s w → j < s → getD z j 0 ≡ getD w j 0
+front-get s j w z e l = sym (getD-take s z j 0 l) ∙ ap (λ k. getD k j 0) e ∙ getD-take s w j 0 l
+
+-- ---- two parallel lists
+pub pairs-length : (x y : List ℕ) (n : ℕ) → n ≤ length x → n ≤ length y → n ≤ length (pairs x y)
+pairs-length [] y n a b = a
+pairs-length (x ∷ xs) [] n a b = b
+pairs-length (x ∷ xs) (y ∷ ys) zero a b = omega arith
+pairs-length (x ∷ xs) (y ∷ ys) (suc n) a b = omega (arith, pairs-length xs ys n (omega arith) (omega arith))
+
+pub pairs-at : (x y : List ℕ) (i : ℕ) → i < length x → i < length y → getD (pairs x y) i (0, 0) ≡ (getD x i 0, getD y i 0)
+pairs-at [] y i a b = absurd (omega arith)
+pairs-at (x ∷ xs) [] i a b = absurd (omega arith)
+pairs-at (x ∷ xs) (y ∷ ys) zero a b = refl
+pairs-at (x ∷ xs) (y ∷ ys) (suc i) a b = pairs-at xs ys i (omega arith) (omega arith)

@@ -1,0 +1,46 @@
+-- Two half-edges.
+use mathlib.Core.Path.{_≡_, refl, ap, _∙_}
+use Prim.Native.Nat.{_≤_, _+_, _*_, _-_}
+use native.Mathlib.Omega.{arith}
+use lib.ListN.{length, drop, getD}
+use lib.Seq.{sets}
+use borrow.Author.Needs.{needs}
+use Rattle.timeline.proofs.EdgeLaws.{put-edge}
+use Rattle.timeline.proofs.load.put_edge.Statement.{statement}
+use Rattle.timeline.proofs.load.put_edge.Tie as tie
+use Rattle.timeline.proofs.load.put_edge.Reads as reads
+use Rattle.timeline.proofs.load.put_edge.Lts as lts
+use Rattle.words.proofs.put_half.Reads as put-half-reads
+
+mul-put-half : tie.Need-mul-put-half
+mul-put-half c = search needs
+
+put-half-requires : tie.Need-put-half-requires
+put-half-requires c κs = search needs
+
+mul-put-half-2 : tie.Need-mul-put-half-2
+mul-put-half-2 c = search needs
+
+add-put-half : tie.Need-add-put-half
+add-put-half c = search needs
+
+put-half-requires-2 : tie.Need-put-half-requires-2
+put-half-requires-2 c κs = search needs
+
+same-length : tie.Need-same-length
+same-length c = search needs
+
+returns : tie.Need-returns
+returns c = put-edge (c .before .before .before .before .before .before .before .before .before .args .n) (c .before .before .before .before .before .before .before .before .before .args .j) (c .before .before .before .before .before .before .before .before .before .args .a) (c .before .before .before .before .before .before .before .before .before .args .b) (c .before .before .before .before .before .before .put-half .ensures) (c .before .before .put-half2 .ensures)
+
+pub put-edge-spec : {M : Type 1} → statement M
+put-edge-spec =
+    tie.close
+    (tie.spec
+    mul-put-half
+    put-half-requires
+    mul-put-half-2
+    add-put-half
+    put-half-requires-2
+    same-length
+    returns)
