@@ -11,7 +11,7 @@ use borrow.Author.Tests.{eqb-false, eqb-true, ltb-false, ltb-true}
 use Rattle.branches.proofs.SmallForestOf.{small-canonical, small-forest}
 use Rattle.branches.specs.BranchCounts.{Branches, CanCount, Counting, TreeOrderAt}
 use Rattle.branches.specs.Classes.{CanNumberClasses, ClassNumbers, classFields}
-use Rattle.branches.specs.Numbers.{CanNearestAll, CanNumberActives, CanNumberOthers, CanParents, NearestLoop, NearestNumbers, NumberingActives, NumberingOthers, OtherNumbers, ParentLoop, ParentNumbers}
+use Rattle.branches.specs.Numbers.{CanFindNearest, CanNumberActives, CanNumberOthers, CanSetParents, NearestLoop, NearestNumbers, NumberingActives, NumberingOthers, OtherNumbers, ParentLoop, ParentNumbers}
 use Rattle.forest.proofs.Counting.{count-le}
 use Rattle.forest.proofs.SearchLaws.{seen-less}
 use Rattle.graph.proofs.Booleans.{onBool}
@@ -95,7 +95,7 @@ module _ {n m k seen : ℕ} {w₀ : List ℕ} (s : CanNumberClasses n m k seen w
         others : OtherNumbers n g n h (node 4 w₀) (node 6 w₀) (node 9 w₂) (node 10 w₁) (node 10 w₃) (node 11 w₁) (node 11 w₃)
         others = rw (rest₂ .nodes 4 (omega arith) refl, e6, e10, e11) at (r .others)
 
-        pub can-nearest : CanNearestAll n seen w₃
+        pub can-nearest : CanFindNearest n seen w₃
         can-nearest = record { few = few; room = rw (rest₃ .same) room; tree = tree-order-at w₃ rest₃ }
 
         rep-seen : (x : ℕ) → x < h → 0 < node 4 w₀ (node 11 w₃ x)
@@ -125,7 +125,7 @@ module _ {n m k seen : ℕ} {w₀ : List ℕ} (s : CanNumberClasses n m k seen w
           room₄ : 16 * n ≤ length w₄
           room₄ = rw (rest₄ .same) room
 
-          pub can-parents : CanParents n h w₄
+          pub can-parents : CanSetParents n h w₄
           can-parents = record {
             few = few;
             room = room₄;

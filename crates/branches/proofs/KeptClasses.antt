@@ -188,10 +188,6 @@ module _ (E : List Edge) (S : List ℕ) (T : ClassForest E S) where
           (l, insep-trans E (subst (λ (v : ℕ). TwoEdgeConnected E a v) (sym e) (T .top-two a (T .active a m))) (insep-sym E (to-top (σ a) l)));
       order = N .order;
       up-fit = λ i l. onEq (up i) 0 (λ z. omega arith) (λ z. omega (arith, N .some i l z .0));
-      way = λ i j p q e o.
-          let a = up-at i j p e in
-          let b = up-at j i q o in
-          a .other (below-antisym E S T (top (ρ j)) (top (ρ i)) (main j q .on) (main i p .on) (a .over) (b .over));
       link = λ i j p q e. to-link i j p q (above-linked E S T (top (ρ i)) (top (ρ j)) (main i p) (main j q) (up-at i j p e));
       back = λ i j p q ne l.
           let (c, n) = from-link i j p q l in

@@ -7,7 +7,7 @@ use mathlib.Core.Logic.{inr, ⊎-elim}
 use mathlib.Core.Path.{_∙_, _≡_, ap, refl, sym}
 use native.Mathlib.Omega.{arith}
 use Rattle.branches.specs.BranchCounts.{TreeOrder}
-use Rattle.branches.specs.Numbers.{CanNearest, CanNearestAll, CanParent, CanParents, NearestLoop, NearestNumbers, NearestStep, ParentLoop, SetParent}
+use Rattle.branches.specs.Numbers.{CanSetNearest, CanFindNearest, CanSetParent, CanSetParents, NearestLoop, NearestNumbers, NearestStep, ParentLoop, SetParent}
 use Rattle.graph.specs.Lists.{member}
 use Rattle.words.proofs.ChangeLaws.{only-none, only-put, only-then}
 use Rattle.words.proofs.FieldLaws.{update-at, update-other}
@@ -41,7 +41,7 @@ module _ {n seen i v : ℕ} {ord pos par te top nr near : ℕ → ℕ} (g : Tree
       stays c l p b h = update-other near v y (top (par c)) (λ e. let x : pos (top (par c)) ≡ pos v = ap pos e in omega (arith, g .up c l p h))
 
 -- ---- at the words
-module _ {n v : ℕ} {a : List ℕ} (g : CanNearest n a v) where
+module _ {n v : ℕ} {a : List ℕ} (g : CanSetNearest n a v) where
   pub nearest-number : {x : ℕ} {b : List ℕ} → x ≡ node 10 a v → ¬ (x ≡ 0) → Put 7 v x a b → NearestStep n v a b
   nearest-number {x} ex ne p = inr (record {
     value = x;
@@ -63,13 +63,13 @@ module _ {n v : ℕ} {a : List ℕ} (g : CanNearest n a v) where
   pub q-fits : {p q : ℕ} → p ≡ node 5 a v → q ≡ node 6 a p → q < n
   q-fits ep eq = rw (eq, ep) (g .top-fit)
 
-pub nearest-none : {n seen : ℕ} {a : List ℕ} → CanNearestAll n seen a → NearestLoop n a 0 a
+pub nearest-none : {n seen : ℕ} {a : List ℕ} → CanFindNearest n seen a → NearestLoop n a 0 a
 nearest-none {n} {a = a} g = record {
   rest = only-none n a;
   nearest = record { numbered = λ c l p b. absurd (omega arith); up = λ c l p b. absurd (omega arith) };
 }
 
-module _ {n seen i v : ℕ} {a w : List ℕ} (g : CanNearestAll n seen a) (s : NearestLoop n a i w) (l : i < seen) (ev : v ≡ node 3 w i) where
+module _ {n seen i v : ℕ} {a w : List ℕ} (g : CanFindNearest n seen a) (s : NearestLoop n a i w) (l : i < seen) (ev : v ≡ node 3 w i) where
   keep : (j : ℕ) → j < 16 → member (7 ∷ []) j ≡ false → node j w ≡ node j a
   keep = s .rest .nodes
 
@@ -79,7 +79,7 @@ module _ {n seen i v : ℕ} {a w : List ℕ} (g : CanNearestAll n seen a) (s : N
   v-at : node 4 a v ≡ i + 1
   v-at = rw (ev, keep 3 (omega arith) refl) (g .tree .place i l .1)
 
-  pub nearest-can : CanNearest n w v
+  pub nearest-can : CanSetNearest n w v
   nearest-can = record {
     few = g .few;
     room = rw (s .rest .same) (g .room);
@@ -98,7 +98,7 @@ module _ {n seen i v : ℕ} {a w : List ℕ} (g : CanNearestAll n seen a) (s : N
       })
 
 -- ---- above each number
-module _ {n x : ℕ} {a : List ℕ} (g : CanParent n a x) {v t e : ℕ} (ev : v ≡ node 11 a x) (et : t ≡ node 6 a v) (ee : e ≡ node 13 a t) where
+module _ {n x : ℕ} {a : List ℕ} (g : CanSetParent n a x) {v t e : ℕ} (ev : v ≡ node 11 a x) (et : t ≡ node 6 a v) (ee : e ≡ node 13 a t) where
   t-is : t ≡ node 6 a (node 11 a x)
   t-is = et ∙ ap (node 6 a) ev
 
@@ -133,10 +133,10 @@ module _ {n x : ℕ} {a : List ℕ} (g : CanParent n a x) {v t e : ℕ} (ev : v 
   pub p-fits : {p : ℕ} → p ≡ node 5 a t → p < n
   p-fits ep = rw (ep, t-is) (g .par-fit)
 
-pub parents-none : {n h : ℕ} {a : List ℕ} → CanParents n h a → ParentLoop n a 0 a
+pub parents-none : {n h : ℕ} {a : List ℕ} → CanSetParents n h a → ParentLoop n a 0 a
 parents-none {n} {a = a} g = record { rest = only-none n a; parents = record { none = λ x l. absurd (omega arith); some = λ x l. absurd (omega arith) } }
 
-module _ {n h x : ℕ} {a w : List ℕ} (g : CanParents n h a) (s : ParentLoop n a x w) (l : x < h) where
+module _ {n h x : ℕ} {a w : List ℕ} (g : CanSetParents n h a) (s : ParentLoop n a x w) (l : x < h) where
   hold : (j : ℕ) → j < 16 → member (9 ∷ []) j ≡ false → node j w ≡ node j a
   hold = s .rest .nodes
 
@@ -149,7 +149,7 @@ module _ {n h x : ℕ} {a w : List ℕ} (g : CanParents n h a) (s : ParentLoop n
   h11 : node 11 w ≡ node 11 a
   h11 = hold 11 (omega arith) refl
 
-  pub parents-can : CanParent n w x
+  pub parents-can : CanSetParent n w x
   parents-can = let q = g .each x l in record {
     few = g .few;
     room = rw (s .rest .same) (g .room);

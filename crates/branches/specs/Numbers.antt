@@ -110,7 +110,7 @@ pub record CanNumberOthers (n h : ℕ) (w : List ℕ) : Type 0 where
   pub top-fit : (v : ℕ) → v < n → node 6 w v < n
 
 -- ---- the nearest kept class above
-pub record CanNearest (n : ℕ) (w : List ℕ) (v : ℕ) : Type 0 where
+pub record CanSetNearest (n : ℕ) (w : List ℕ) (v : ℕ) : Type 0 where
   pub few : n ≤ 65536
   pub room : 16 * n ≤ length w
   pub fit : v < n
@@ -128,6 +128,7 @@ pub record SetNearest (n v : ℕ) (a b : List ℕ) : Type 0 where
 abbrev pub NearestStep : ℕ → ℕ → List ℕ → List ℕ → Type 0
 NearestStep n v a b = ((b ≡ a) × ¬ (node 6 a v ≡ v)) ⊎ SetNearest n v a b
 
+-- the same of the tops up to place i
 pub record NearestNumbers (n i : ℕ) (pos par te top nr near : ℕ → ℕ) : Type 0 where
   pub numbered : (c : ℕ) → c < n → 0 < pos c → pos c ≤ i → top c ≡ c → ¬ (nr c ≡ 0) → near c ≡ nr c
   pub up : (c : ℕ) → c < n → 0 < pos c → pos c ≤ i → top c ≡ c → ¬ (te c ≡ 0) → nr c ≡ 0 → near c ≡ near (top (par c))
@@ -136,13 +137,12 @@ pub record NearestLoop (n : ℕ) (a : List ℕ) (i : ℕ) (w : List ℕ) : Type 
   pub rest : OnlyFields (7 ∷ []) n a w
   pub nearest : NearestNumbers n i (node 4 a) (node 5 a) (node 13 a) (node 6 a) (node 10 a) (node 7 w)
 
-pub record CanNearestAll (n seen : ℕ) (w : List ℕ) : Type 0 where
+pub record CanFindNearest (n seen : ℕ) (w : List ℕ) : Type 0 where
   pub few : n ≤ 65536
   pub room : 16 * n ≤ length w
   pub tree : TreeOrderAt n seen w
 
--- number x gets what the class above its class has; a root's class gets 0
-pub record CanParent (n : ℕ) (w : List ℕ) (x : ℕ) : Type 0 where
+pub record CanSetParent (n : ℕ) (w : List ℕ) (x : ℕ) : Type 0 where
   pub few : n ≤ 65536
   pub room : 16 * n ≤ length w
   pub fit : x < n
@@ -151,6 +151,7 @@ pub record CanParent (n : ℕ) (w : List ℕ) (x : ℕ) : Type 0 where
   pub par-fit : node 5 w (node 6 w (node 11 w x)) < n
   pub over-fit : node 6 w (node 5 w (node 6 w (node 11 w x))) < n
 
+-- number x gets what the class above its class has; a root's class gets 0
 pub record SetParent (n x : ℕ) (a b : List ℕ) : Type 0 where
   pub value : ℕ
   pub none : node 13 a (node 6 a (node 11 a x)) ≡ 0 → value ≡ 0
@@ -158,6 +159,7 @@ pub record SetParent (n x : ℕ) (a b : List ℕ) : Type 0 where
   pub rest : OnlyFields (9 ∷ []) n a b
   pub parents : node 9 b ≡ update (node 9 a) x value
 
+-- the same of the first i numbers
 pub record ParentNumbers (i : ℕ) (par te top near rep up : ℕ → ℕ) : Type 0 where
   pub none : (x : ℕ) → x < i → te (top (rep x)) ≡ 0 → up x ≡ 0
   pub some : (x : ℕ) → x < i → ¬ (te (top (rep x)) ≡ 0) → up x ≡ near (top (par (top (rep x))))
@@ -166,8 +168,8 @@ pub record ParentLoop (n : ℕ) (a : List ℕ) (i : ℕ) (w : List ℕ) : Type 0
   pub rest : OnlyFields (9 ∷ []) n a w
   pub parents : ParentNumbers i (node 5 a) (node 13 a) (node 6 a) (node 7 a) (node 11 a) (node 9 w)
 
-pub record CanParents (n h : ℕ) (w : List ℕ) : Type 0 where
+pub record CanSetParents (n h : ℕ) (w : List ℕ) : Type 0 where
   pub few : n ≤ 65536
   pub room : 16 * n ≤ length w
   pub less : h ≤ n
-  pub each : (x : ℕ) → x < h → CanParent n w x
+  pub each : (x : ℕ) → x < h → CanSetParent n w x

@@ -23,7 +23,6 @@ pub record SmallForest (E : List Edge) (S : List ℕ) (h : ℕ) (ρ σ up : ℕ 
   pub place : (a : ℕ) → List·Memᴰ a S → (σ a < h) × TwoEdgeConnected E a (ρ (σ a))
   pub order : inOrder 0 (map σ S) ≡ true
   pub up-fit : (i : ℕ) → i < h → up i ≤ h
-  pub way : (i j : ℕ) → i < h → j < h → up i ≡ j + 1 → ¬ (up j ≡ i + 1)
   pub link : (i j : ℕ) → i < h → j < h → up i ≡ j + 1 → Linked E h ρ i j
   pub back : (i j : ℕ) → i < h → j < h → ¬ (i ≡ j) → Linked E h ρ i j → ParentPair up i j
 

@@ -1,7 +1,7 @@
 ghost use mathlib.Core.Path.{_≡_};
 ghost use Prim.Native.Nat.{ℕ, _+_, _*_, _<_, _≤_};
 ghost use Rattle.branches.specs.BranchCounts.{CanReport, Report, CanCount, Counting};
-ghost use Rattle.branches.specs.Numbers.{CanAssign, Assigned, CanNumber, ActiveStep, CanNumberActives, NumberingActives, OtherStep, CanNumberOthers, NumberingOthers, CanNearest, NearestStep, CanNearestAll, NearestLoop, CanParent, SetParent, CanParents, ParentLoop};
+ghost use Rattle.branches.specs.Numbers.{CanAssign, Assigned, CanNumber, ActiveStep, CanNumberActives, NumberingActives, OtherStep, CanNumberOthers, NumberingOthers, CanSetNearest, NearestStep, CanFindNearest, NearestLoop, CanSetParent, SetParent, CanSetParents, ParentLoop};
 ghost use Rattle.branches.specs.Classes.{CanNumberClasses, ClassNumbers};
 
 // The class with the top t, which has no number, gets the number h, by its node v.
@@ -115,7 +115,7 @@ fn number_others(work: &mut [u32], n: usize, h: usize) -> usize
 
 // The top v gets the number of its class, or where it has none what the class above has.
 fn nearest_at(work: &mut [u32], n: usize, v: usize)
-    requires { ⌜ CanNearest n (now work) v ⌝ }
+    requires { ⌜ CanSetNearest n (now work) v ⌝ }
     ensures { λ _. ⌜ NearestStep n v (now (work .entry)) (now (work .exit)) ⌝ }
 {
     let t = words::get(work, v, 6);
@@ -135,7 +135,7 @@ fn nearest_at(work: &mut [u32], n: usize, v: usize)
 
 // The nearest kept class at or above each class, by its number: in order, so that the class above has it already.
 fn nearest_kept(work: &mut [u32], n: usize, seen: usize)
-    requires { ⌜ CanNearestAll n seen (now work) ⌝ }
+    requires { ⌜ CanFindNearest n seen (now work) ⌝ }
     ensures { λ _. ⌜ NearestLoop n (now (work .entry)) seen (now (work .exit)) ⌝ }
 {
     for i in 0..seen {
@@ -146,7 +146,7 @@ fn nearest_kept(work: &mut [u32], n: usize, seen: usize)
 
 // The number of the nearest kept class above the class with the number x.
 fn parent_number(work: &mut [u32], n: usize, x: usize)
-    requires { ⌜ CanParent n (now work) x ⌝ }
+    requires { ⌜ CanSetParent n (now work) x ⌝ }
     ensures { λ _. ⌜ SetParent n x (now (work .entry)) (now (work .exit)) ⌝ }
 {
     let v = words::get(work, x, 11);
@@ -164,7 +164,7 @@ fn parent_number(work: &mut [u32], n: usize, x: usize)
 
 // The same for each of the h numbers.
 fn parent_numbers(work: &mut [u32], n: usize, h: usize)
-    requires { ⌜ CanParents n h (now work) ⌝ }
+    requires { ⌜ CanSetParents n h (now work) ⌝ }
     ensures { λ _. ⌜ ParentLoop n (now (work .entry)) h (now (work .exit)) ⌝ }
 {
     for x in 0..h {

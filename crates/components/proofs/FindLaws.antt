@@ -65,7 +65,7 @@ module _ (n : ℕ) (pos : ℕ → ℕ) where
 -- the loop of `find`
 pub record Finding (n v₀ : ℕ) (a : List ℕ) (v u : ℕ) (b : List ℕ) : Type 0 where
   pub rest : OnlyTops n a b
-  pub walk : FindPath n (node 4 a) (node 6 a) (node 6 b) v₀ v
+  pub path : FindPath n (node 4 a) (node 6 a) (node 6 b) v₀ v
   pub next : u ≡ node 6 b v
   pub fit : u < n
   pub room : 16 * n ≤ length b
@@ -73,7 +73,7 @@ pub record Finding (n v₀ : ℕ) (a : List ℕ) (v u : ℕ) (b : List ℕ) : Ty
 pub finding-none : {n v u : ℕ} {a : List ℕ} → Tops n (node 4 a) (node 6 a) → v < n → 16 * n ≤ length a → u ≡ node 6 a v → Finding n v a v u a
 finding-none {n} {v} {u} {a} h l r e = record {
   rest = only-none n a;
-  walk = path-none n (node 4 a) (node 6 a) v h l;
+  path = path-none n (node 4 a) (node 6 a) v h l;
   next = e;
   fit = rw e (h .fit v l);
   room = r;
@@ -83,12 +83,12 @@ pub finding-more : {n v₀ v u x y : ℕ} {a b c : List ℕ} → Finding n v₀ 
     → Finding n v₀ a x y c × (node 4 a x < node 4 a v)
 finding-more {n} {v₀} {v} {u} {x} {y} {a} {b} {c} f ne ex p ey =
     let e : x ≡ node 6 b (node 6 b v) = rw ex (ap (node 6 b) (f .next)) in
-    let m = path-halve n (node 4 a) (node 6 a) (node 6 b) v₀ v (f .walk) (λ z. ne (f .next ∙ z)) in
+    let m = path-halve n (node 4 a) (node 6 a) (node 6 b) v₀ v (f .path) (λ z. ne (f .next ∙ z)) in
     let q : node 6 c ≡ update (node 6 b) v (node 6 b (node 6 b v)) = p .here ∙ ap (update (node 6 b) v) e in
     let w : FindPath n (node 4 a) (node 6 a) (node 6 c) v₀ x = rw (q, e) (m .0) in (
       record {
-        rest = only-then-put refl (f .walk .fit) (f .rest) p;
-        walk = w;
+        rest = only-then-put refl (f .path .fit) (f .rest) p;
+        path = w;
         next = ey;
         fit = rw ey (w .tops .fit x (w .fit));
         room = rw (p .same) (f .room);

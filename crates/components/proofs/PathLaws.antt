@@ -41,7 +41,7 @@ merged-up n pos par t t₁ a q l w tq ta up = record {
 pub merged-up-at : {n a q p : ℕ} {w w₁ w₂ : List ℕ} → CanMergeUp n w a → p ≡ node 5 w a → Found n w p q w₁ → Put 6 a q w₁ w₂ → MergedUpAt n w a q w₂
 merged-up-at {n} {a} {q} {p} {w} {w₁} {w₂} r e f k = record {
   rest = only-then-put refl (r .fit) (f .rest) k;
-  is = rw (k .here) (merged-up n (node 4 w) (node 5 w) (node 6 w) (node 6 w₁) a q (r .fit) (rw e at (f .walk)) (f .top) (r .top) (r .up));
+  is = rw (k .here) (merged-up n (node 4 w) (node 5 w) (node 6 w) (node 6 w₁) a q (r .fit) (rw e at (f .path)) (f .top) (r .top) (r .up));
 }
 
 pub record PathStep (n : ℕ) (pos par root : ℕ → ℕ) (x y : ℕ) (t₀ t : ℕ → ℕ) (a b : ℕ) : Type 0 where
@@ -211,24 +211,24 @@ module _ {n v r : ℕ} {w w₁ : List ℕ} (g : CanMergePath n w) (f : Found n w
   s12 = f .rest .nodes 12 (omega arith) refl
 
   stable : (D : ℕ → Bool) → FollowsParents n (node 5 w) (node 6 w₁) D → Stable n (node 6 w) D
-  stable D h = g .full D (λ u i ne. h u i (λ e. ne (f .walk .back u i e)))
+  stable D h = g .full D (λ u i ne. h u i (λ e. ne (f .path .back u i e)))
 
   pub ready-after : CanMergePath n w₁
   ready-after = record {
     few = g .few;
     room = rw (f .rest .same) (g .room);
-    tops = rw s4 (f .walk .tops);
+    tops = rw s4 (f .path .tops);
     order = rw (s4, s5, s12) (g .order);
-    full = λ D h. f .walk .keep D (stable D (rw s5 at h)) .0;
+    full = λ D h. f .path .keep D (stable D (rw s5 at h)) .0;
   }
 
   at-r : (D : ℕ → Bool) → FollowsParents n (node 5 w) (node 6 w) D → D r ≡ D v
-  at-r D h = f .walk .keep D (g .full D h) .1
+  at-r D h = f .path .keep D (g .full D h) .1
 
   pub top-after : 0 < node 4 w v → SeenTop n w₁ r × (node 12 w₁ r ≡ node 12 w v)
   top-after l = (
     record {
-      fit = f .walk .fit;
+      fit = f .path .fit;
       seen = rw s4 (ltb-true 0 (node 4 w r) (at-r (λ u. ltb 0 (node 4 w u)) (seen-follows n _ _ _ (g .order) 0 0 (node 6 w) (node 6 w) (g .tops)) ∙ lt-ltb 0 (node 4 w v) l));
       top = f .top;
     },
@@ -236,19 +236,19 @@ module _ {n v r : ℕ} {w w₁ : List ℕ} (g : CanMergePath n w) (f : Found n w
   )
 
   pub top-still : {a : ℕ} → SeenTop n w a → SeenTop n w₁ a
-  top-still {a} s = record { fit = s .fit; seen = rw s4 (s .seen); top = f .walk .still a (s .fit) (s .top) }
+  top-still {a} s = record { fit = s .fit; seen = rw s4 (s .seen); top = f .path .still a (s .fit) (s .top) }
 
   pub merged-first : {y : ℕ} {w₂ : List ℕ} → MergedPath n w₁ r y w₂ → MergedPath n w v y w₂
   merged-first {y} {w₂} j = record {
     rest = only-then (f .rest) (j .rest);
     tops = rw s4 at (j .tops);
-    back = λ u i e. f .walk .back u i (j .back u i e);
+    back = λ u i e. f .path .back u i (j .back u i e);
     full = λ D h.
         let k = j .full D (rw s5 h) in
-        let c : FollowsParents n (node 5 w) (node 6 w) D = λ u i ne. h u i (λ e. ne (f .walk .back u i (j .back u i e))) in
+        let c : FollowsParents n (node 5 w) (node 6 w) D = λ u i ne. h u i (λ e. ne (f .path .back u i (j .back u i e))) in
         (k .0, sym (at-r D c) ∙ k .1);
     keep = λ D h s.
-        let k = f .walk .keep D s in
+        let k = f .path .keep D s in
         let l : AllowsMerge n (node 4 w) (node 5 w) (node 12 w) r y D = λ a b i m p q e z. h a b i m p q e (λ x. z (k .1 ∙ x)) in
         j .keep D (rw (s4, s5, s12) l) (k .0);
   }

@@ -39,7 +39,7 @@ pub record CanFind (n : ℕ) (w : List ℕ) (v : ℕ) : Type 0 where
 
 pub record Found (n : ℕ) (w : List ℕ) (v r : ℕ) (w′ : List ℕ) : Type 0 where
   pub rest : OnlyTops n w w′
-  pub walk : FindPath n (node 4 w) (node 6 w) (node 6 w′) v r
+  pub path : FindPath n (node 4 w) (node 6 w) (node 6 w′) v r
   pub top : node 6 w′ r ≡ r
 
 -- the top a is merged into q, its parent's top

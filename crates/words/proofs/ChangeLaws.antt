@@ -1,7 +1,7 @@
 -- Laws of OnlyFields: nothing changes, one store, one change after another, more fields, and the words behind the nodes.
 -- Assumes nothing.
 use Prim.Native.Nat.{ℕ, _+_, _-_, _*_, _<_, _≤_}
-use mathlib.Core.Bool.{Bool, _&&_, _||_, true, false, true≢false}
+use mathlib.Core.Bool.{_||_, true, false, true≢false}
 use mathlib.Core.List.{List, [], _∷_}
 use mathlib.Core.Path.{_≡_, _∙_, ap, ap₂, refl, sym}
 use lib.Dec.{eqb}

@@ -29,7 +29,7 @@ put-requires c κs = search needs
 get-requires-3 : tie.Need-get-requires-3 Inv-loop μ-loop
 get-requires-3 c κs = let l = c .before .before .before .before .before .before .before .before .loop .inv in
     let m = finding-more l (c .before .before .before .before .before .before .before .loop-test .taken) (c .before .before .before .before .before .get2 .ensures .0) (c .before .before .before .put .ensures) refl in
-    omega (arith, m .0 .walk .fit, m .0 .room)
+    omega (arith, m .0 .path .fit, m .0 .room)
 
 loop-less : tie.Need-loop-less Inv-loop μ-loop
 loop-less c = let l = c .before .before .before .before .before .before .before .before .before .loop .inv in
@@ -43,7 +43,7 @@ same-length : tie.Need-same-length Inv-loop μ-loop
 same-length c = c .before .loop .inv .rest .same
 
 returns : tie.Need-returns Inv-loop μ-loop
-returns c = record { rest = c .before .loop .inv .rest; walk = c .before .loop .inv .walk; top = omega arith }
+returns c = record { rest = c .before .loop .inv .rest; path = c .before .loop .inv .path; top = omega arith }
 
 pub find-spec : {M : Type 1} → statement M
 find-spec =
