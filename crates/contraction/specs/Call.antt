@@ -67,6 +67,8 @@ fault l = firstFault (faults l)
 
 -- ---- what is returned, and what the tables hold afterwards
 pub record Outcome : Type 0 where
+  -- whether the reply is the one of an accepted call: with the numbers alone, a refusal with the number 0 could pass for an empty result
+  pub accepted : Bool
   -- 0, or the refusal's number; and its place
   pub code : ℕ
   pub place : ℕ
@@ -82,6 +84,7 @@ unfoldable pub done : Lent → Outcome
 done l =
     let c : Contracted = contract (l .n) (edges l) (entries l) in
     record {
+      accepted = true;
       code = 0;
       place = 0;
       nodes = c .nodes;
@@ -93,7 +96,7 @@ done l =
     }
 
 unfoldable pub refused : Lent → Refusal → Outcome
-refused l f = record { code = f .0; place = f .1; nodes = 0; edges = 0; map = l .map; outFrom = l .outFrom; outTo = l .outTo; work = l .work }
+refused l f = record { accepted = false; code = f .0; place = f .1; nodes = 0; edges = 0; map = l .map; outFrom = l .outFrom; outTo = l .outTo; work = l .work }
 
 -- the outcome that a call with these sizes and tables must have
 unfoldable pub contraction : Lent → Outcome

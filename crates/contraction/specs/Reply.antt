@@ -1,6 +1,7 @@
 -- The reply of the call in document 01's numbers, and what the call was lent as one record.
 -- Assumes nothing: these are definitions.
 use Prim.Native.Nat.{ℕ}
+use mathlib.Core.Bool.{false, true}
 use mathlib.Core.List.{List}
 use Rattle.contraction.specs.Call.{Lent, Outcome}
 use Rattle.contraction.specs.declared.ContractReply.{ContractReply}
@@ -13,6 +14,6 @@ lent n m k from to active map outFrom outTo work =
 -- what each case of the reply says, with the tables as they are then: a contraction is returned as 0 at place 0 with its nodes and edges, a refusal with its number and place
 abbrev pub outcome : ContractReply → List ℕ → List ℕ → List ℕ → List ℕ → Outcome
 outcome (Done nodes edges) map outFrom outTo work =
-    record { code = 0; place = 0; nodes = nodes; edges = edges; map = map; outFrom = outFrom; outTo = outTo; work = work }
+    record { accepted = true; code = 0; place = 0; nodes = nodes; edges = edges; map = map; outFrom = outFrom; outTo = outTo; work = work }
 outcome (Refused code place) map outFrom outTo work =
-    record { code = code; place = place; nodes = 0; edges = 0; map = map; outFrom = outFrom; outTo = outTo; work = work }
+    record { accepted = false; code = code; place = place; nodes = 0; edges = 0; map = map; outFrom = outFrom; outTo = outTo; work = work }

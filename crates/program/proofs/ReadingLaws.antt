@@ -1,6 +1,7 @@
 -- Laws of reading: a table filled number by number, and what the checks of the header say.
 -- Assumes nothing.
 use Prim.Native.Nat.{_*_, _+_, _<_, _≤_, suc, zero, ℕ}
+use mathlib.Core.Bool.{false, true}
 use mathlib.Core.List.{List, [], _∷_}
 use mathlib.Core.Path.{_∙_, _≡_, ap, ap₂, refl, sym}
 use lib.Dec.{eqb}
@@ -48,7 +49,7 @@ words16-length (a ∷ b ∷ bs) (suc k) h = ap suc (words16-length bs k (omega a
 
 -- ---- the header's checks, in their order
 abbrev refusedBy : ℕ → HeaderOutcome
-refusedBy c = record { code = c; place = 0; n = 0; m = 0; t = 0; p = 0 }
+refusedBy c = record { accepted = false; code = c; place = 0; n = 0; m = 0; t = 0; p = 0 }
 
 module _ (I : List ℕ) where
   abbrev N : ℕ
@@ -80,12 +81,12 @@ module _ (I : List ℕ) where
   unfolding inputFault inputFaults
   other-length a b c e f = simp (le-ltb (length I) 8 a, le-ltb 192 N b, le-ltb 64 M c, le-ltb 32 T e, ne-eqb (length I) (2 * inputLength M T) f)
 
-  pub input-right : 8 ≤ length I → N ≤ 192 → M ≤ 64 → T ≤ 32 → length I ≡ 2 * inputLength M T → record { code = 0; place = 0; n = N; m = M; t = T; p = shareOf (words16 I) } ≡ checkInput I
+  pub input-right : 8 ≤ length I → N ≤ 192 → M ≤ 64 → T ≤ 32 → length I ≡ 2 * inputLength M T → record { accepted = true; code = 0; place = 0; n = N; m = M; t = T; p = shareOf (words16 I) } ≡ checkInput I
   unfolding inputFault inputFaults
   input-right a b c e f = simp (le-ltb (length I) 8 a, le-ltb 192 N b, le-ltb 64 M c, le-ltb 32 T e, eq-eqb (length I) (2 * inputLength M T) f)
 
   -- the same for numbers that were read
   pub input-read : {n m t p : ℕ} → n ≡ N → m ≡ M → t ≡ T → p ≡ shareOf (words16 I) → 8 ≤ length I → n ≤ 192 → m ≤ 64 → t ≤ 32 → length I ≡ 2 * inputLength m t
-      → record { code = 0; place = 0; n = n; m = m; t = t; p = p } ≡ checkInput I
+      → record { accepted = true; code = 0; place = 0; n = n; m = m; t = t; p = p } ≡ checkInput I
   input-read {n} {m} {t} {p} e f g h a b c d k =
-      (λ i. record { code = 0; place = 0; n = e i; m = f i; t = g i; p = h i }) ∙ input-right a (omega arith) (omega arith) (omega arith) (k ∙ ap₂ (λ (x y : ℕ). 2 * inputLength x y) f g)
+      (λ i. record { accepted = true; code = 0; place = 0; n = e i; m = f i; t = g i; p = h i }) ∙ input-right a (omega arith) (omega arith) (omega arith) (k ∙ ap₂ (λ (x y : ℕ). 2 * inputLength x y) f g)

@@ -1,19 +1,18 @@
 -- What reading the input gives. Assumes nothing: these are definitions.
-use Prim.Native.Nat.{_+_, _<_, _≤_, ℕ}
-use mathlib.Core.Bool.{cond}
+use Prim.Native.Nat.{_*_, _+_, _<_, _≤_, ℕ}
+use mathlib.Core.Bool.{Bool, cond, false, true}
 use mathlib.Core.List.{List}
 use mathlib.Core.Path.{_≡_}
 use lib.Dec.{eqb}
 use lib.ListN.{getD, length}
-use Rattle.graph.proofs.Links.{inside}
-use Rattle.graph.proofs.Published.{same}
 use Rattle.program.specs.declared.reading.Header.{Header}
 use Rattle.program.specs.declared.reading.Header.the-variants.{Refused, Sizes}
 use Rattle.tables.specs.Refusal.{Refusal}
-use Rattle.timeline.specs.Program.{eventsOf, inputFault, junctionsOf, segmentsOf, shareOf, words16}
+use Rattle.timeline.specs.Program.{eventsOf, inputFault, inputLength, junctionsOf, segmentsOf, shareOf, words16}
 
 -- the refusal's number and place, and the sizes and the share where there is none
 pub record HeaderOutcome : Type 0 where
+  pub accepted : Bool
   pub code : ℕ
   pub place : ℕ
   pub n : ℕ
@@ -23,21 +22,30 @@ pub record HeaderOutcome : Type 0 where
 
 -- what each case of the header says
 abbrev pub headerOutcome : Header → HeaderOutcome
-headerOutcome (Sizes n m t p) = record { code = 0; place = 0; n = n; m = m; t = t; p = p }
-headerOutcome (Refused c) = record { code = c; place = 0; n = 0; m = 0; t = 0; p = 0 }
+headerOutcome (Sizes n m t p) = record { accepted = true; code = 0; place = 0; n = n; m = m; t = t; p = p }
+headerOutcome (Refused c) = record { accepted = false; code = c; place = 0; n = 0; m = 0; t = 0; p = 0 }
 
-abbrev pub accepted : Refusal → ℕ → ℕ
-accepted f x = cond (eqb (f .0) 0) x 0
+abbrev pub ifAccepted : Refusal → ℕ → ℕ
+ifAccepted f x = cond (eqb (f .0) 0) x 0
 
 -- the outcome that an input must have
 abbrev pub checkInput : List ℕ → HeaderOutcome
 checkInput bytes =
     let ws : List ℕ = words16 bytes in
     let f : Refusal = inputFault bytes in
-    record { code = f .0; place = f .1; n = accepted f (junctionsOf ws); m = accepted f (segmentsOf ws); t = accepted f (eventsOf ws); p = accepted f (shareOf ws) }
+    record { accepted = eqb (f .0) 0; code = f .0; place = f .1; n = ifAccepted f (junctionsOf ws); m = ifAccepted f (segmentsOf ws); t = ifAccepted f (eventsOf ws); p = ifAccepted f (shareOf ws) }
 
 -- the first k entries of the table are the numbers ws from i on, and the others stay
 pub record Filled (ws : List ℕ) (i k : ℕ) (a b : List ℕ) : Type 0 where
   pub same : length b ≡ length a
   pub inside : (j : ℕ) → j < k → getD b j 0 ≡ getD ws (i + j) 0
   pub above : (j : ℕ) → k ≤ j → getD b j 0 ≡ getD a j 0
+
+-- the input is as long as its sizes n, m and t say, which are within the program's limits
+pub record Read (n m t : ℕ) (bytes : List ℕ) : Type 0 where
+  pub junctions : n ≡ junctionsOf (words16 bytes)
+  pub segments : m ≡ segmentsOf (words16 bytes)
+  pub events : t ≡ eventsOf (words16 bytes)
+  pub few-segments : m ≤ 64
+  pub few-events : t ≤ 32
+  pub long : length bytes ≡ 2 * inputLength m t

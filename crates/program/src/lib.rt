@@ -1,3 +1,25 @@
-// The program's reading and printing as functions on slices; the program `replay` itself only reads, calls and writes.
+// The program's reading, printing and response as functions on slices; the program `replay` itself only reads, calls and writes.
 mod printing;
 mod reading;
+mod response;
+
+ghost use Prim.Native.Nat.{_≤_};
+ghost use lib.ListN.{length};
+ghost use Rattle.timeline.specs.Program.{outputWith};
+ghost use Rattle.program.specs.Printing.{Wrote};
+
+// Internal: writes the program's output for its input at the front of `out`, with the work table that it lends, and answers the output's length.
+pub fn respond(input: &[u8], work: &mut [u32], out: &mut [u8]) -> usize
+    requires { ⌜ 2048 ≤ length (now out) ⌝ }
+    ensures { λ r. ⌜ Wrote 0 (outputWith (now (work .entry)) (now (input .entry))) (now (out .entry)) (now (out .exit)) r × (r ≤ 2048) ⌝ }
+{
+    let header = reading::read_header(input);
+    match header {
+        reading::Header::Sizes(n, m, t, p) => {
+            return response::replay_input(input, n, m, t, p, work, out);
+        }
+        reading::Header::Refused(code) => {
+            return printing::put_refused(out, 0, code, 0);
+        }
+    }
+}

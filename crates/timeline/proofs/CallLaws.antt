@@ -409,7 +409,7 @@ module _ (n m t p : ℕ) (a b x y answers work : List ℕ) (h : fault (lent n m 
       let e2 = eo ∙ opened-is d in
       let e3 = kept-is d in
       let e4 = answers-is d in
-      λ i. record { code = 0; place = 0; queries = e1 i; opened = e2 i; kept = e3 i; answers = e4 i; work = ew i }
+      λ i. record { accepted = true; code = 0; place = 0; queries = e1 i; opened = e2 i; kept = e3 i; answers = e4 i; work = ew i }
 
 -- the outcome of a refusal
 pub refused-is : (l : Lent) (p c i : ℕ) → (c, i) ≡ fault l p → 0 < c → outcome (Refused c i) (l .answers) (l .work) ≡ replay l p

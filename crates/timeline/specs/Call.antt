@@ -1,7 +1,7 @@
 -- The replay as it is called: what it is lent, what each case of its reply says in document 01's numbers, and the parts of a check.
 -- Assumes nothing: these are definitions.
 use Prim.Native.Nat.{ℕ}
-use mathlib.Core.Bool.{Bool, cond, not}
+use mathlib.Core.Bool.{Bool, cond, false, not, true}
 use mathlib.Core.List.{List}
 use lib.Dec.{eqb, ltb}
 use lib.ListN.{getD, take}
@@ -19,8 +19,8 @@ lent n m t a b x y answers work = record { n = n; m = m; t = t; a = a; b = b; x 
 
 -- what a reply says, with the two tables that may be written as they are afterwards
 abbrev pub outcome : ReplayReply → List ℕ → List ℕ → Outcome
-outcome (Done r) answers work = record { code = 0; place = 0; queries = r .queries; opened = r .«open»; kept = r .kept; answers = answers; work = work }
-outcome (Refused c i) answers work = record { code = c; place = i; queries = 0; opened = 0; kept = 0; answers = answers; work = work }
+outcome (Done r) answers work = record { accepted = true; code = 0; place = 0; queries = r .queries; opened = r .«open»; kept = r .kept; answers = answers; work = work }
+outcome (Refused c i) answers work = record { accepted = false; code = c; place = i; queries = 0; opened = 0; kept = 0; answers = answers; work = work }
 
 -- ---- the parts of a check
 -- a fault as a refusal: its number and its place

@@ -100,7 +100,7 @@ refusedLine c i = 114 ∷ 101 ∷ 102 ∷ 117 ∷ 115 ∷ 101 ∷ 100 ∷ 32 ∷
 -- what is printed of a replay
 unfoldable pub printed : Lent → Outcome → List ℕ
 printed l r =
-    elim (eqb (r .code) 0) [
+    elim (r .accepted) [
       | true ↦ queryLines (event (given l)) (λ i. getD (r .answers) i 0) 0 (l .t) ++ totalsLine (r .queries) (r .opened) (r .kept)
       | false ↦ refusedLine (r .code) (r .place)
     ]

@@ -100,6 +100,8 @@ fault l p = firstFault (faults l p)
 
 -- ---- what is returned, and what the tables hold afterwards
 pub record Outcome : Type 0 where
+  -- whether the reply is the one of an accepted call: with the numbers alone, a refusal with the number 0 could pass for an empty result
+  pub accepted : Bool
   -- 0, or the refusal's number; and its place
   pub code : ℕ
   pub place : ℕ
@@ -112,6 +114,7 @@ pub record Outcome : Type 0 where
 
 unfoldable pub done : Lent → ℕ → Outcome
 done l p = record {
+  accepted = true;
   code = 0;
   place = 0;
   queries = queries (given l);
@@ -122,7 +125,7 @@ done l p = record {
 }
 
 unfoldable pub refused : Lent → Refusal → Outcome
-refused l f = record { code = f .0; place = f .1; queries = 0; opened = 0; kept = 0; answers = l .answers; work = l .work }
+refused l f = record { accepted = false; code = f .0; place = f .1; queries = 0; opened = 0; kept = 0; answers = l .answers; work = l .work }
 
 -- the outcome that a call with these sizes, tables and share must have
 unfoldable pub replay : Lent → ℕ → Outcome
