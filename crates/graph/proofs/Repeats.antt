@@ -1,24 +1,18 @@
 -- Repeats in an active list change nothing: a small graph for the different entries, in order of first appearance, is one for the whole list.
 -- In order: filters of filters; numbers in order of first appearance; the law.
 -- Assumes nothing.
-use Prim.Native.Nat.{_*_, _+_, _-_, _/_, _<_, _≤_, suc, zero, ℕ}
-use mathlib.Core.Bool.{Bool, _&&_, _||_, and-false, cond, false, not, or-true, true}
-use mathlib.Core.List.{List, List·Memᴰ, List·Memᴰ·head, List·Memᴰ·tail, [], _++_, _∷_, append-assoc, map}
-use mathlib.Core.Logic.{_⊎_, inl, inr}
-use mathlib.Core.Path.{_∙_, _≡_, ap, ap₂, fun-ext, refl, subst, sym}
-use lib.Dec.{eqb, leb, ltb}
-use lib.ListN.{drop, drop-of-length-le, getD, length, length-append, length-drop, length-map, length-set, length-take, set, take}
-use lib.Seq.{drop-append-le, drop-at, drop-cons, drop-drop, drop-set-lt, getD-drop, getD-set-other, getD-set-same, getD-take, length-sets, length-take-le, sets, sets-eq, take-add, take-all, take-append-le, take-at, take-set-le, take-suc, take-take}
-use native.Mathlib.Nat.{add-zero, mul-le-mul-left}
-use native.Mathlib.Numerals.{add-one}
+use Prim.Native.Nat.{_-_, _<_, suc, ℕ}
+use mathlib.Core.Bool.{Bool, _&&_, _||_, cond, false, not, or-true, true}
+use mathlib.Core.List.{List, List·Memᴰ, [], _∷_, map}
+use mathlib.Core.Path.{_∙_, _≡_, ap, ap₂, refl, subst, sym}
+use lib.Dec.{eqb, ltb}
 use native.Mathlib.Omega.{arith}
-use borrow.Author.Tests.{eq-eqb, eqb-false, eqb-true, le-ltb, lt-ltb, ltb-false, ltb-true, ne-eqb, not-false, not-true}
-use Rattle.graph.proofs.Booleans.{and-elim, contradict, onBool, or-elim}
-use Rattle.graph.specs.Cut.{crosses, cut}
-use Rattle.graph.specs.Graph.{Edge, NodeSet}
-use Rattle.graph.proofs.Uniqueness.{kept-sub, order-out}
+use borrow.Author.Tests.{eq-eqb, eqb-true, lt-ltb}
+use Rattle.graph.proofs.Booleans.{contradict, onBool, or-elim}
 use Rattle.graph.proofs.Lists.{filter-true, firsts-cover, firsts-in}
 use Rattle.graph.proofs.SmallGraphs.{SmallGraph}
+use Rattle.graph.proofs.Uniqueness.{kept-sub, order-out}
+use Rattle.graph.specs.Graph.{Edge}
 use Rattle.graph.specs.Lists.{filter, firsts}
 use Rattle.graph.specs.SmallGraph.{inOrder}
 

@@ -1,33 +1,32 @@
 -- The segments that a step adds: what crosses them, by the events with their nodes and by the segments' own ends; one event, and the loop over the events of a window.
 -- Assumes nothing.
-use Prim.Native.Nat.{_*_, _+_, _-_, _/_, _<_, _≤_, suc, zero, ℕ}
-use mathlib.Core.Bool.{Bool, _&&_, _||_, and-false, cond, false, not, or-true, true}
-use mathlib.Core.List.{List, List·Memᴰ, List·Memᴰ·head, List·Memᴰ·tail, [], _++_, _∷_, append-assoc, map}
+use Prim.Native.Nat.{_*_, _+_, _-_, _<_, _≤_, suc, ℕ}
+use mathlib.Core.Bool.{Bool, _&&_, _||_, and-false, cond, false, not, true}
+use mathlib.Core.List.{List, [], _∷_, map}
 use mathlib.Core.Logic.{_⊎_, inl, inr}
-use mathlib.Core.Path.{_∙_, _≡_, ap, ap₂, fun-ext, refl, subst, sym}
-use lib.Dec.{eqb, leb, ltb}
-use lib.ListN.{drop, drop-of-length-le, getD, length, length-append, length-drop, length-map, length-set, length-take, set, take}
-use lib.Seq.{drop-append-le, drop-at, drop-cons, drop-drop, drop-set-lt, getD-drop, getD-set-other, getD-set-same, getD-take, length-sets, length-take-le, sets, sets-eq, take-add, take-all, take-append-le, take-at, take-set-le, take-suc, take-take}
-use native.Mathlib.Nat.{add-zero, mul-le-mul-left}
+use mathlib.Core.Path.{_∙_, _≡_, ap, ap₂, refl, subst, sym}
+use lib.Dec.{eqb}
+use lib.ListN.{drop, drop-of-length-le, getD, length, length-drop, length-take, set, take}
+use lib.Seq.{drop-cons, getD-drop, getD-take}
 use native.Mathlib.Numerals.{add-one}
 use native.Mathlib.Omega.{arith}
-use borrow.Author.Tests.{eq-eqb, eqb-false, eqb-true, le-ltb, lt-ltb, ltb-false, ltb-true, ne-eqb, not-false, not-true}
+use borrow.Author.Tests.{eqb-false, eqb-true, ne-eqb}
 use borrow.Rule.Slice.PartMut.{putMid, same-len-mid, take-put}
-use Rattle.graph.proofs.Booleans.{and-elim, contradict, onBool, or-elim}
+use Rattle.core.specs.Core.{edgesIn}
+use Rattle.graph.proofs.Booleans.{and-elim, contradict, onBool}
+use Rattle.graph.proofs.Cuts.{cut-image}
 use Rattle.graph.specs.Cut.{crosses, cut}
 use Rattle.graph.specs.Graph.{Edge, NodeSet}
-use Rattle.words.specs.Fields.{half, node}
-use Rattle.graph.proofs.Cuts.{cut-image}
-use Rattle.graph.specs.SmallGraph.{_∘_, image}
 use Rattle.graph.specs.Lists.{pairs}
-use Rattle.core.specs.Core.{edgesIn}
+use Rattle.graph.specs.SmallGraph.{_∘_, image}
 use Rattle.tables.specs.OpenSet.{bits, isOpen}
-use Rattle.timeline.specs.Events.{Event, SegmentSet, activeOf, closes, ends, named, opens, pick}
-use Rattle.timeline.specs.Load.{Added, AddedOne, Edged, PutEdge, adds, isAdded, more}
-use Rattle.timeline.proofs.EventLaws.{pick-ext, pick-sum}
 use Rattle.timeline.proofs.EdgeLaws.{edged-more, edges-more}
+use Rattle.timeline.proofs.EventLaws.{pick-ext, pick-sum}
 use Rattle.timeline.proofs.SegmentLaws.{insert-more}
 use Rattle.timeline.proofs.WordLaws.{drop-back, front-get, pairs-at, pairs-length, take-whole}
+use Rattle.timeline.specs.Events.{Event, SegmentSet, activeOf, closes, ends, named, opens, pick}
+use Rattle.timeline.specs.Load.{Added, AddedOne, Edged, PutEdge, adds, isAdded, more}
+use Rattle.words.specs.Fields.{half, node}
 
 -- ---- the added segments, by what crosses
 -- one segment alone

@@ -1,45 +1,41 @@
 -- The recursion over windows: what a window's area says of its counts, how a step and the two parts join to a window, and a window of one event.
 -- In order: lists of events; the counts of an area; the windows of a share; what a step and a part need; a window of two parts; a window of one event.
 -- Assumes nothing.
-use Prim.Native.Nat.{_*_, _+_, _-_, _/_, _<_, _≤_, suc, zero, ℕ}
-use mathlib.Core.Bool.{Bool, _&&_, _||_, and-false, cond, false, not, or-true, true}
-use mathlib.Core.List.{List, List·Memᴰ, List·Memᴰ·head, List·Memᴰ·tail, [], _++_, _∷_, append-assoc, map}
-use mathlib.Core.Logic.{_⊎_, inl, inr}
-use mathlib.Core.Path.{_∙_, _≡_, ap, ap₂, fun-ext, refl, subst, sym}
-use lib.Dec.{eqb, leb, ltb}
-use lib.ListN.{drop, drop-of-length-le, getD, length, length-append, length-drop, length-map, length-set, length-take, set, take}
-use lib.Seq.{drop-append-le, drop-at, drop-cons, drop-drop, drop-set-lt, getD-drop, getD-set-other, getD-set-same, getD-take, length-sets, length-take-le, sets, sets-eq, take-add, take-all, take-append-le, take-at, take-set-le, take-suc, take-take}
-use native.Mathlib.Nat.{add-zero, mul-le-mul-left}
+use Prim.Native.Nat.{_*_, _+_, _-_, _<_, _≤_, suc, zero, ℕ}
+use mathlib.Core.Bool.{_&&_, _||_, cond, false, not, true}
+use mathlib.Core.List.{List, [], _++_, _∷_, map}
+use mathlib.Core.Path.{_∙_, _≡_, ap, ap₂, fun-ext, refl, sym}
+use lib.Dec.{eqb, ltb}
+use lib.ListN.{drop, getD, length, length-drop, length-take, set, take}
+use lib.Seq.{sets, take-suc, take-take}
+use native.Mathlib.Nat.{mul-le-mul-left}
 use native.Mathlib.Numerals.{add-one}
 use native.Mathlib.Omega.{arith}
-use borrow.Author.Tests.{eq-eqb, eqb-false, eqb-true, le-ltb, lt-ltb, ltb-false, ltb-true, ne-eqb, not-false, not-true}
-use borrow.Rule.Slice.PartMut.{putMid, same-len-mid, take-put}
-use Rattle.graph.proofs.Booleans.{and-elim, contradict, onBool, or-elim}
-use Rattle.graph.specs.Cut.{crosses, cut}
-use Rattle.graph.specs.Graph.{Edge, NodeSet, answer}
-use Rattle.words.specs.Fields.{half, node}
+use borrow.Author.Tests.{eq-eqb, ltb-false, ltb-true, ne-eqb}
+use Rattle.core.specs.declared.Counts.{Counts}
+use Rattle.graph.proofs.Booleans.{onBool}
 use Rattle.graph.proofs.EdgeCount.{firsts-most, small-edges, small-edges-most}
 use Rattle.graph.proofs.SmallGraphDefinition.{definition-small}
 use Rattle.graph.proofs.SmallGraphs.{SmallGraph}
 use Rattle.graph.proofs.Transfer.{small-carries}
 use Rattle.graph.proofs.Uniqueness.{nodes-same, small-bound}
-use Rattle.graph.specs.Lists.{firsts, pairs, sum, table}
-use Rattle.graph.specs.SmallGraph.{different, mostNodes, noEdge, readOff}
-use Rattle.core.specs.declared.Counts.{Counts}
+use Rattle.graph.specs.Graph.{Edge, answer}
+use Rattle.graph.specs.Lists.{pairs, sum, table}
+use Rattle.graph.specs.SmallGraph.{different, mostNodes, noEdge}
 use Rattle.tables.specs.OpenSet.{isOpen}
-use Rattle.timeline.specs.Area.{Area, OneDone, Replied, SmallArea, Sound, StepReady, Stepped, WindowDone, WindowReady, areaEdges}
-use Rattle.timeline.specs.declared.Sum.{Sum}
-use Rattle.timeline.specs.DemandThree.{Allowed}
-use Rattle.timeline.specs.Events.{Event, activeOf, after, afterAll, asks, closes, opens}
-use Rattle.timeline.specs.Replay.{byte}
-use Rattle.timeline.specs.Windows.{Timeline, Window, active, atStart, during, edgesOf, event, firstPart, network, openBefore, size, small, windowsFrom}
 use Rattle.timeline.proofs.Acceptance.{Good, fine-good, length-pairs}
 use Rattle.timeline.proofs.DemandThree.{small-is}
 use Rattle.timeline.proofs.Leaves.{alone, during-one}
 use Rattle.timeline.proofs.Networks.{after-append}
-use Rattle.timeline.proofs.StepLaws.{sound-fine, window-length}
-use Rattle.timeline.proofs.WindowLaws.{first-part, large-one, small-one}
+use Rattle.timeline.proofs.StepLaws.{sound-fine}
+use Rattle.timeline.proofs.WindowLaws.{large-one, small-one}
 use Rattle.timeline.proofs.WordLaws.{pairs-at, pairs-length, sets-two}
+use Rattle.timeline.specs.Area.{Area, OneDone, SmallArea, Sound, StepReady, Stepped, WindowDone, WindowReady, areaEdges}
+use Rattle.timeline.specs.DemandThree.{Allowed}
+use Rattle.timeline.specs.Events.{Event, activeOf, after, afterAll, closes, opens}
+use Rattle.timeline.specs.Replay.{byte}
+use Rattle.timeline.specs.Windows.{Timeline, Window, active, atStart, during, edgesOf, event, firstPart, network, openBefore, size, small, windowsFrom}
+use Rattle.timeline.specs.declared.Sum.{Sum}
 
 -- ---- lists of events
 pub sound-good : (g : Timeline) → Sound g → Good g

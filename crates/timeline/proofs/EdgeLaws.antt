@@ -1,31 +1,28 @@
 -- Edges written one after another into the half-edges behind a front: one edge, the edges of an area copied, and the loop that copies them.
 -- Assumes nothing.
-use Prim.Native.Nat.{_*_, _+_, _-_, _/_, _<_, _≤_, suc, zero, ℕ}
-use mathlib.Core.Bool.{Bool, _&&_, _||_, and-false, cond, false, not, or-true, true}
-use mathlib.Core.List.{List, List·Memᴰ, List·Memᴰ·head, List·Memᴰ·tail, [], _++_, _∷_, append-assoc, map}
-use mathlib.Core.Logic.{_⊎_, inl, inr}
-use mathlib.Core.Path.{_∙_, _≡_, ap, ap₂, fun-ext, refl, subst, sym}
-use lib.Dec.{eqb, leb, ltb}
-use lib.ListN.{drop, drop-of-length-le, getD, length, length-append, length-drop, length-map, length-set, length-take, set, take}
-use lib.Seq.{drop-append-le, drop-at, drop-cons, drop-drop, drop-set-lt, getD-drop, getD-set-other, getD-set-same, getD-take, length-sets, length-take-le, sets, sets-eq, take-add, take-all, take-append-le, take-at, take-set-le, take-suc, take-take}
-use native.Mathlib.Nat.{add-zero, mul-le-mul-left}
+use Prim.Native.Nat.{_*_, _+_, _-_, _<_, _≤_, suc, zero, ℕ}
+use mathlib.Core.List.{List, [], _++_, _∷_}
+use mathlib.Core.Path.{_∙_, _≡_, ap, ap₂, refl, sym}
+use lib.Dec.{eqb}
+use lib.ListN.{drop, getD, length, length-drop, length-take, take}
+use lib.Seq.{getD-drop, getD-take, length-take-le, take-suc}
 use native.Mathlib.Numerals.{add-one}
 use native.Mathlib.Omega.{arith}
-use borrow.Author.Tests.{eq-eqb, eqb-false, eqb-true, le-ltb, lt-ltb, ltb-false, ltb-true, ne-eqb, not-false, not-true}
+use borrow.Author.Tests.{eqb-false, eqb-true}
 use borrow.Rule.Slice.PartMut.{putMid, same-len-mid, take-put}
-use Rattle.graph.proofs.Booleans.{and-elim, contradict, onBool, or-elim}
-use Rattle.graph.specs.Cut.{crosses, cut}
-use Rattle.graph.specs.Graph.{Edge, NodeSet}
-use Rattle.words.specs.Fields.{PutHalf, half, node}
 use Rattle.core.specs.Core.{edgesIn}
+use Rattle.graph.proofs.Booleans.{onBool}
 use Rattle.graph.proofs.Cuts.{cut-append}
 use Rattle.graph.proofs.Published.{same}
 use Rattle.graph.proofs.SmallGraphs.{low}
+use Rattle.graph.specs.Cut.{crosses, cut}
+use Rattle.graph.specs.Graph.{Edge, NodeSet}
 use Rattle.graph.specs.Lists.{pairs, table}
 use Rattle.timeline.proofs.WordLaws.{drop-back, front-get, take-whole}
 use Rattle.timeline.specs.Area.{areaEdges}
 use Rattle.timeline.specs.Load.{Copied, Edged, PutEdge}
 use Rattle.words.proofs.FieldLaws.{update-other, update-same}
+use Rattle.words.specs.Fields.{PutHalf, half, node}
 
 pub put-edge : (n j a b : ℕ) {w w₁ w₂ : List ℕ} → PutHalf n 0 (2 * j) a w w₁ → PutHalf n 0 (2 * j + 1) b w₁ w₂ → PutEdge n j a b w w₂
 put-edge n j a b {w} {w₁} {w₂} p q =

@@ -1,25 +1,20 @@
 -- The step: from the contraction of a window's graph with the added segments to the small graph of the part, and what the pieces of a step leave in the words.
 -- In order: the words of a part; the small graph; what each piece needs; all pieces together.
 -- Assumes nothing.
-use Prim.Native.Nat.{_*_, _+_, _-_, _/_, _<_, _≤_, suc, zero, ℕ}
-use mathlib.Core.Bool.{Bool, _&&_, _||_, and-false, cond, false, not, or-true, true}
-use mathlib.Core.List.{List, List·Memᴰ, List·Memᴰ·head, List·Memᴰ·tail, [], _++_, _∷_, append-assoc, map}
-use mathlib.Core.Logic.{_⊎_, inl, inr}
-use mathlib.Core.Path.{_∙_, _≡_, ap, ap₂, fun-ext, refl, subst, sym}
-use lib.Dec.{eqb, leb, ltb}
-use lib.ListN.{drop, drop-of-length-le, getD, length, length-append, length-drop, length-map, length-set, length-take, set, take}
-use lib.Seq.{drop-append-le, drop-at, drop-cons, drop-drop, drop-set-lt, getD-drop, getD-set-other, getD-set-same, getD-take, length-sets, length-take-le, sets, sets-eq, take-add, take-all, take-append-le, take-at, take-set-le, take-suc, take-take}
-use native.Mathlib.Nat.{add-zero, mul-le-mul-left}
-use native.Mathlib.Numerals.{add-one}
+use Prim.Native.Nat.{_*_, _+_, _-_, _<_, _≤_, suc, zero, ℕ}
+use mathlib.Core.Bool.{Bool, _||_, true}
+use mathlib.Core.List.{List, List·Memᴰ, [], _++_, _∷_, map}
+use mathlib.Core.Path.{_∙_, _≡_, ap, ap₂, refl, subst, sym}
+use lib.Dec.{eqb, ltb}
+use lib.ListN.{drop, getD, length, length-drop, length-map, length-take, take}
+use lib.Seq.{drop-drop, getD-drop, getD-take, length-sets, length-take-le, sets, take-take}
 use native.Mathlib.Omega.{arith}
-use borrow.Author.Tests.{eq-eqb, eqb-false, eqb-true, le-ltb, lt-ltb, ltb-false, ltb-true, ne-eqb, not-false, not-true}
+use borrow.Author.Tests.{ltb-true}
 use borrow.Rule.Slice.PartMut.{putMid, same-len-mid, take-put}
-use Rattle.graph.proofs.Booleans.{and-elim, contradict, onBool, or-elim}
-use Rattle.graph.specs.Cut.{crosses, cut}
-use Rattle.graph.specs.Graph.{Edge, NodeSet}
-use Rattle.words.specs.Fields.{half, node}
-use Rattle.graph.proofs.Cuts.{cut-append}
+use Rattle.core.specs.Core.{Loaded, Reduced, activeIn, edgesIn, edgesOut}
+use Rattle.core.specs.declared.Counts.{Counts}
 use Rattle.graph.proofs.CutEquivalence.{small-cuts-equal}
+use Rattle.graph.proofs.Cuts.{cut-append}
 use Rattle.graph.proofs.EdgeCount.{firsts-most, mostNodes-double, small-edges-most}
 use Rattle.graph.proofs.Ends.{endsIn-at}
 use Rattle.graph.proofs.Lists.{map-twice, table-length, table-mem}
@@ -27,20 +22,21 @@ use Rattle.graph.proofs.Repeats.{in-firsts, small-repeats}
 use Rattle.graph.proofs.SmallGraphDefinition.{definition-small, small-definition}
 use Rattle.graph.proofs.SmallGraphs.{SmallGraph}
 use Rattle.graph.proofs.Uniqueness.{small-bound}
+use Rattle.graph.specs.Cut.{cut}
+use Rattle.graph.specs.Graph.{Edge, NodeSet}
 use Rattle.graph.specs.Lists.{firsts, pairs, table}
-use Rattle.graph.specs.SmallGraph.{IsSmallGraph, image}
-use Rattle.core.specs.Core.{Loaded, Reduced, activeIn, edgesIn, edgesOut}
-use Rattle.core.specs.declared.Counts.{Counts}
+use Rattle.graph.specs.SmallGraph.{image}
 use Rattle.tables.specs.OpenSet.{isOpen}
-use Rattle.timeline.specs.Area.{Area, SmallArea, Sound, StepReady, Stepped, areaEdges}
-use Rattle.timeline.specs.Events.{Event, activeOf, afterAll, closes, ends, named, opens}
-use Rattle.timeline.specs.Load.{Actives, Added, Copied, Edged, Entered, adds}
-use Rattle.timeline.specs.Steps.{Part, added}
-use Rattle.timeline.specs.Windows.{Timeline, active, atStart, during, event, openBefore, size}
 use Rattle.timeline.proofs.Acceptance.{Fine, fault-fine}
 use Rattle.timeline.proofs.AddingLaws.{adds-d}
 use Rattle.timeline.proofs.Networks.{middle, part-small}
-use Rattle.timeline.proofs.WordLaws.{drop-back, drop-sets, front-get, low-map, map-ext, mid-before, mid-less, mid-sets, pairs-at, pairs-length, pairs-mem, sub, table-ext, take-less, take-sets, take-whole}
+use Rattle.timeline.proofs.WordLaws.{drop-back, drop-sets, front-get, low-map, map-ext, mid-before, mid-less, mid-sets, pairs-at, pairs-length, sub, table-ext, take-less, take-sets, take-whole}
+use Rattle.timeline.specs.Area.{Area, SmallArea, Sound, StepReady, Stepped, areaEdges}
+use Rattle.timeline.specs.Events.{Event, activeOf, afterAll, closes, ends, named, opens}
+use Rattle.timeline.specs.Load.{Actives, Added, Copied, adds}
+use Rattle.timeline.specs.Steps.{Part, added}
+use Rattle.timeline.specs.Windows.{Timeline, active, atStart, during, event, openBefore, size}
+use Rattle.words.specs.Fields.{half, node}
 
 -- ---- the words of a part
 drop-active : (segs : List Edge) (σ : ℕ → ℕ) (k : ℕ) (evs : List Event) → drop (2 * k) (map σ (activeOf segs evs)) ≡ map σ (activeOf segs (drop k evs))

@@ -1,25 +1,17 @@
 -- Laws of words that are written in order, of a front that stays, and of parts of lists.
 -- In order: tables of values; runs of stores; fronts and backs of a list of words; fields written from behind the front.
 -- Assumes nothing.
-use Prim.Native.Nat.{_*_, _+_, _-_, _/_, _<_, _≤_, suc, zero, ℕ}
-use mathlib.Core.Bool.{Bool, _&&_, _||_, and-false, cond, false, not, or-true, true}
+use Prim.Native.Nat.{_*_, _+_, _-_, _<_, _≤_, suc, zero, ℕ}
 use mathlib.Core.List.{List, List·Memᴰ, List·Memᴰ·head, List·Memᴰ·tail, [], _++_, _∷_, append-assoc, map}
-use mathlib.Core.Logic.{_⊎_, inl, inr}
-use mathlib.Core.Path.{_∙_, _≡_, ap, ap₂, fun-ext, refl, subst, sym}
-use lib.Dec.{eqb, leb, ltb}
-use lib.ListN.{drop, drop-of-length-le, getD, length, length-append, length-drop, length-map, length-set, length-take, set, take}
-use lib.Seq.{drop-append-le, drop-at, drop-cons, drop-drop, drop-set-lt, getD-drop, getD-set-other, getD-set-same, getD-take, length-sets, length-take-le, sets, sets-eq, take-add, take-all, take-append-le, take-at, take-set-le, take-suc, take-take}
-use native.Mathlib.Nat.{add-zero, mul-le-mul-left}
-use native.Mathlib.Numerals.{add-one}
+use mathlib.Core.Path.{_∙_, _≡_, ap, ap₂, refl, sym}
+use lib.ListN.{drop, drop-of-length-le, getD, length, length-drop, length-take, set, take}
+use lib.Seq.{drop-at, drop-cons, drop-set-lt, getD-drop, getD-set-other, getD-take, length-sets, length-take-le, sets, sets-eq, take-add, take-all, take-at, take-set-le, take-take}
+use native.Mathlib.Nat.{add-zero}
 use native.Mathlib.Omega.{arith}
-use borrow.Author.Tests.{eq-eqb, eqb-false, eqb-true, le-ltb, lt-ltb, ltb-false, ltb-true, ne-eqb, not-false, not-true}
-use borrow.Rule.Slice.PartMut.{putMid, same-len-mid, take-put}
-use Rattle.graph.proofs.Booleans.{and-elim, contradict, onBool, or-elim}
-use Rattle.graph.specs.Cut.{crosses, cut}
-use Rattle.graph.specs.Graph.{Edge, NodeSet}
-use Rattle.words.specs.Fields.{half, node}
+use borrow.Rule.Slice.PartMut.{putMid}
 use Rattle.graph.proofs.Lists.{table-length}
 use Rattle.graph.specs.Lists.{pairs, table}
+use Rattle.words.specs.Fields.{node}
 
 pub sets-append : (xs l : List ℕ) (i : ℕ) (ys : List ℕ) → sets l i (xs ++ ys) ≡ sets (sets l i xs) (i + length xs) ys
 sets-append [] l i ys = rw add-zero refl

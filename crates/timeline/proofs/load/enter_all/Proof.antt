@@ -1,15 +1,9 @@
 -- Each word of the list is entered behind the front.
-use mathlib.Core.Path.{_≡_, refl, sym, ap, _∙_}
-use Prim.Native.Nat.{_≤_, _+_, _*_, _-_}
+use Prim.Native.Nat.{_-_}
 use native.Mathlib.Omega.{arith}
-use lib.ListN.{length, drop, getD}
-use borrow.Author.Needs.{needs}
-use Rattle.timeline.proofs.EnterLaws.{Entering, entering-none, reads, entering-need, entering-more, entering-all}
+use Rattle.timeline.proofs.EnterLaws.{Entering, entering-all, entering-more, entering-need, entering-none, reads}
 use Rattle.timeline.proofs.load.enter_all.Statement.{statement}
 use Rattle.timeline.proofs.load.enter_all.Tie as tie
-use Rattle.timeline.proofs.load.enter_all.Reads as reads
-use Rattle.timeline.proofs.load.enter_all.Lts as lts
-use Rattle.timeline.proofs.load.enter.Reads as enter-reads
 
 abbrev Inv-loop : tie.InvT-loop
 Inv-loop work₀ from count s n k₀ i₀ work k i = Entering from count s n work₀ work k i
