@@ -153,8 +153,8 @@ module _ (p : ℕ) (a : Allowed p) where
 
 -- ---- what a step needs, and what it leaves
 -- the part that is lent: all from k on
-pub lent : (k j : ℕ) (z : List ℕ) → k + j ≤ length z → take j (take (length z - k) (drop k z)) ≡ take j (drop k z)
-lent k j z l = take-take j (length z - k) (drop k z) (omega arith)
+pub lent-take : (k j : ℕ) (z : List ℕ) → k + j ≤ length z → take j (take (length z - k) (drop k z)) ≡ take j (drop k z)
+lent-take k j z l = take-take j (length z - k) (drop k z) (omega arith)
 
 module _ {x y : List ℕ} {at n p nodes edges : ℕ} {held answers w : List ℕ} (r : WindowReady x y at n p nodes edges held answers w) where
   long : 10 * n ≤ length (take (10 * n) w)
@@ -190,7 +190,7 @@ module _ {x y : List ℕ} {at n p nodes edges : ℕ} {held answers w : List ℕ}
         g = r .g;
         events = r .events;
         sound = r .sound;
-        area = rw (lent (10 * n) (10 * c) z (omega (arith, r .room))) (t .made (r .g) (r .events) (r .sound) (rw g own));
+        area = rw (lent-take (10 * n) (10 * c) z (omega (arith, r .room))) (t .made (r .g) (r .events) (r .sound) (rw g own));
         some = s;
         much = omega (arith, r .much);
         share = r .share;
@@ -205,7 +205,7 @@ module _ {x y : List ℕ} {at n p nodes edges : ℕ} {held answers w : List ℕ}
   pub first-open : (c : ℕ) (w₁ mid : List ℕ) {k : Counts} {b : Sum} → c ≤ n → length w₁ ≡ length w → Stepped x y at n at c nodes edges w w₁ k
       → WindowDone x y at c p (k .nodes) (k .edges) (take (10 * c) (take (length w₁ - 10 * n) (drop (10 * n) w₁))) answers mid b → isOpen (b .held) ≡ openBefore (r .g) (at + c)
   first-open c w₁ mid l e t d =
-      d .replied (r .g) (r .events) (r .sound) (rw (lent (10 * n) (10 * c) w₁ (omega (arith, r .room))) (t .made (r .g) (r .events) (r .sound) own)) .held-open
+      d .replied (r .g) (r .events) (r .sound) (rw (lent-take (10 * n) (10 * c) w₁ (omega (arith, r .room))) (t .made (r .g) (r .events) (r .sound) own)) .held-open
 
   -- ---- a window of two parts
   pub done-two : 2 ≤ n → {w₁ w₂ w₃ mid last : List ℕ} {a d : Counts} {b e : Sum} (c : ℕ) → c ≡ firstPart p n
@@ -223,8 +223,8 @@ module _ {x y : List ℕ} {at n p nodes edges : ℕ} {held answers w : List ℕ}
         few = omega (arith, area-nodes (r .area) (r .some), i .few, j .few);
         replied = λ g h o z.
             let A = area-of z (r .some) long in
-            let u = i .replied g h o (rw (lent (10 * n) (10 * c) w₁ l₁) (s .made g h o A)) in
-            let v = j .replied g h o (rw (lent (10 * n) (10 * (n - c)) w₃ l₃) (t .made g h o (rw f A))) in
+            let u = i .replied g h o (rw (lent-take (10 * n) (10 * c) w₁ l₁) (s .made g h o A)) in
+            let v = j .replied g h o (rw (lent-take (10 * n) (10 * (n - c)) w₃ l₃) (t .made g h o (rw f A))) in
             record {
               answers = v .answers ∙ ap (λ m. sets m (at + c) (table (byte g) (at + c) (n - c))) (u .answers) ∙ sym (sets-two (byte g) answers at n c cn);
               kept = ap₂ (λ (a b : ℕ). a + b) (ap₂ (λ (a b : ℕ). a + b) (area-small z (r .some) o) (u .kept)) (v .kept) ∙ sym (sum-two p (r .share) (λ w. (small g w) .nodes) at n c l q);

@@ -15,7 +15,7 @@ abbrev μ-loop : tie.MeasureT-loop
 μ-loop x y at e held seen₀ work₀ s n m k₀ i₀ seen work k i = e - i
 
 loop-holds : tie.Need-loop-holds Inv-loop μ-loop
-loop-holds c = adding-none _ _ _ _ _ _ _ _ (c .before .before .before .pre .8) (c .before .before .before .pre .10)
+loop-holds c = adding-none _ _ _ _ _ _ _ _ (c .before .before .before .pre .2) (c .before .before .before .pre .0 .ends)
 
 add-kind : tie.Need-add-kind Inv-loop μ-loop
 add-kind c = omega arith
@@ -48,7 +48,7 @@ slice-read-a : tie.Need-slice-read-a Inv-loop μ-loop
 slice-read-a c = omega (arith, c .before .before .before .before .loop .inv .long)
 
 cast-a : tie.Need-cast-a Inv-loop μ-loop
-cast-a c = omega (arith, adding-low (c .before .before .before .before .before .before .before .before .args .x .now) (c .before .before .before .before .before .before .before .before .args .y .now) (c .before .before .before .before .before .before .before .before .args .at) (c .before .before .before .before .loop .inv) (omega arith) (c .before .before .before .before .before .before .before .before .pre .1) (c .before .before .before .before .before .before .before .before .pre .0) (c .before .before .before .before .before .before .before .before .pre .5) (c .before .before .before .before .before .before .before .before .pre .6) (c .before .before .before .before .before .before .before .before .pre .9) (2 * c .before .before .before .before .loop .i) (omega arith))
+cast-a c = omega (arith, adding-low (c .before .before .before .before .before .before .before .before .pre .0) (c .before .before .before .before .loop .inv) (omega arith) (2 * c .before .before .before .before .loop .i) (omega arith))
 
 mul-b : tie.Need-mul-b Inv-loop μ-loop
 mul-b c = omega arith
@@ -63,7 +63,7 @@ slice-read-b : tie.Need-slice-read-b Inv-loop μ-loop
 slice-read-b c = omega (arith, c .before .before .before .before .before .loop .inv .long)
 
 cast-b : tie.Need-cast-b Inv-loop μ-loop
-cast-b c = omega (arith, adding-low (c .before .before .before .before .before .before .before .before .before .args .x .now) (c .before .before .before .before .before .before .before .before .before .args .y .now) (c .before .before .before .before .before .before .before .before .before .args .at) (c .before .before .before .before .before .loop .inv) (omega arith) (c .before .before .before .before .before .before .before .before .before .pre .1) (c .before .before .before .before .before .before .before .before .before .pre .0) (c .before .before .before .before .before .before .before .before .before .pre .5) (c .before .before .before .before .before .before .before .before .before .pre .6) (c .before .before .before .before .before .before .before .before .before .pre .9) (2 * c .before .before .before .before .before .loop .i + 1) (omega arith))
+cast-b c = omega (arith, adding-low (c .before .before .before .before .before .before .before .before .before .pre .0) (c .before .before .before .before .before .loop .inv) (omega arith) (2 * c .before .before .before .before .before .loop .i + 1) (omega arith))
 
 mul-add-event : tie.Need-mul-add-event Inv-loop μ-loop
 mul-add-event c = omega arith
@@ -78,7 +78,7 @@ part-add-event-end : tie.Need-part-add-event-end Inv-loop μ-loop
 part-add-event-end c = omega arith
 
 add-event-requires : tie.Need-add-event-requires Inv-loop μ-loop
-add-event-requires c κs = (rw (length-take, length-drop) (omega (arith, c .before .before .before .before .before .before .before .loop .inv .most, c .before .before .before .before .before .before .before .loop .inv .long)), adding-low (c .before .before .before .before .before .before .before .before .before .before .before .args .x .now) (c .before .before .before .before .before .before .before .before .before .before .before .args .y .now) (c .before .before .before .before .before .before .before .before .before .before .before .args .at) (c .before .before .before .before .before .before .before .loop .inv) (omega arith) (c .before .before .before .before .before .before .before .before .before .before .before .pre .1) (c .before .before .before .before .before .before .before .before .before .before .before .pre .0) (c .before .before .before .before .before .before .before .before .before .before .before .pre .5) (c .before .before .before .before .before .before .before .before .before .before .before .pre .6) (c .before .before .before .before .before .before .before .before .before .before .before .pre .9) (2 * c .before .before .before .before .before .before .before .loop .i) (omega arith), adding-low (c .before .before .before .before .before .before .before .before .before .before .before .args .x .now) (c .before .before .before .before .before .before .before .before .before .before .before .args .y .now) (c .before .before .before .before .before .before .before .before .before .before .before .args .at) (c .before .before .before .before .before .before .before .loop .inv) (omega arith) (c .before .before .before .before .before .before .before .before .before .before .before .pre .1) (c .before .before .before .before .before .before .before .before .before .before .before .pre .0) (c .before .before .before .before .before .before .before .before .before .before .before .pre .5) (c .before .before .before .before .before .before .before .before .before .before .before .pre .6) (c .before .before .before .before .before .before .before .before .before .before .before .pre .9) (2 * c .before .before .before .before .before .before .before .loop .i + 1) (omega arith), c .before .before .before .before .before .before .before .before .before .before .before .pre .4, omega (arith, c .before .before .before .before .before .before .before .loop .inv .most), c .before .before .before .before .before .before .before .before .before .before .before .pre .7, c .before .before .before .before .before .before .before .loop .inv .words, λ h. c .before .before .before .before .before .before .before .before .before .before .before .pre .11 (c .before .before .before .before .before .before .before .loop .i) (omega arith) h)
+add-event-requires c κs = (rw (length-take, length-drop) (omega (arith, c .before .before .before .before .before .before .before .loop .inv .most, c .before .before .before .before .before .before .before .loop .inv .long)), adding-low (c .before .before .before .before .before .before .before .before .before .before .before .pre .0) (c .before .before .before .before .before .before .before .loop .inv) (omega arith) (2 * c .before .before .before .before .before .before .before .loop .i) (omega arith), adding-low (c .before .before .before .before .before .before .before .before .before .before .before .pre .0) (c .before .before .before .before .before .before .before .loop .inv) (omega arith) (2 * c .before .before .before .before .before .before .before .loop .i + 1) (omega arith), c .before .before .before .before .before .before .before .before .before .before .before .pre .0 .many, omega (arith, c .before .before .before .before .before .before .before .loop .inv .most), c .before .before .before .before .before .before .before .before .before .before .before .pre .1, c .before .before .before .before .before .before .before .loop .inv .words, λ h. c .before .before .before .before .before .before .before .before .before .before .before .pre .0 .segments (c .before .before .before .before .before .before .before .loop .i) (omega arith) h)
 
 add-i : tie.Need-add-i Inv-loop μ-loop
 add-i c = omega arith
@@ -87,7 +87,7 @@ loop-less : tie.Need-loop-less Inv-loop μ-loop
 loop-less c = omega arith
 
 loop-again : tie.Need-loop-again Inv-loop μ-loop
-loop-again c = adding-more (c .before .before .before .before .before .before .before .before .before .before .before .before .before .before .args .x .now) (c .before .before .before .before .before .before .before .before .before .before .before .before .before .before .args .y .now) (c .before .before .before .before .before .before .before .before .before .before .before .before .before .before .args .at) (c .before .before .before .before .before .before .before .before .before .before .loop .inv) (omega arith) (c .before .before .before .before .before .before .before .before .before .before .before .before .before .before .pre .1) (c .before .before .before .before .before .before .before .before .before .before .before .before .before .before .pre .0) (c .before .before .before .before .before .before .before .before .before .before .before .before .before .before .pre .5) (c .before .before .before .before .before .before .before .before .before .before .before .before .before .before .pre .6) (c .before .before .before .before .before .before .before .before .before .before .before .before .before .before .pre .9) (c .before .before .before .before .before .before .before .before .before .before .before .before .before .before .args .held .now) refl _ _ _ (omega arith) (c .before .before .add-event .ensures)
+loop-again c = adding-more (c .before .before .before .before .before .before .before .before .before .before .before .before .before .before .pre .0) (c .before .before .before .before .before .before .before .before .before .before .loop .inv) (omega arith) (c .before .before .before .before .before .before .before .before .before .before .before .before .before .before .args .held .now) refl _ _ _ (omega arith) (c .before .before .add-event .ensures)
 
 same-length : tie.Need-same-length Inv-loop μ-loop
 same-length c = c .before .loop .inv .long

@@ -24,7 +24,7 @@ slice-read-v : tie.Need-slice-read-v Inv-loop μ-loop
 slice-read-v c = omega (arith, c .before .before .loop .inv .long)
 
 cast-v : tie.Need-cast-v Inv-loop μ-loop
-cast-v c = omega (arith, reads (c .before .before .before .before .pre) (c .before .before .loop .inv) (omega arith), c .before .before .before .before .pre .3 (c .before .before .loop .i) (omega arith))
+cast-v c = omega (arith, reads (c .before .before .before .before .pre) (c .before .before .loop .inv) (omega arith), c .before .before .before .before .pre .0 .nodes (c .before .before .loop .i) (omega arith))
 
 mul-enter : tie.Need-mul-enter Inv-loop μ-loop
 mul-enter c = omega arith

@@ -29,7 +29,7 @@ same-length : tie.Need-same-length
 same-length c = search needs
 
 returns : tie.Need-returns
-returns c = after-clear (c .before .before .before .before .before .before .before .before .before .args .work .now) (c .before .before .before .before .before .before .clear-marks .last .0) (omega arith) (omega arith) (c .before .before .before .before .before .before .before .before .before .pre .0) (c .before .before .enter-all .ensures)
+returns c = after-clear (c .before .before .before .before .before .before .before .before .before .args .work .now) (c .before .before .before .before .before .before .clear-marks .last .0) (omega arith) (omega arith) (c .before .before .before .before .before .before .before .before .before .pre .front) (c .before .before .enter-all .ensures)
 
 pub load-active-spec : {M : Type 1} → statement M
 load-active-spec =
