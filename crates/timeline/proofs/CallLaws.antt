@@ -25,7 +25,7 @@ use Rattle.timeline.proofs.DemandThree.{accepted-done, bytes-length}
 use Rattle.timeline.proofs.DescentLaws.{open-one, sound-good}
 use Rattle.timeline.proofs.Networks.{network-start}
 use Rattle.timeline.proofs.SegmentLaws.{none-open}
-use Rattle.timeline.proofs.StepLaws.{sound-fine}
+use Rattle.timeline.proofs.StepLaws.{active-length, sound-fine}
 use Rattle.timeline.proofs.WordLaws.{fill-more, mid-sets, pairs-at, pairs-length, sets-append}
 use Rattle.timeline.specs.Area.{Area, Replied, SmallArea, Sound, StepReady, Stepped, WindowDone, WindowReady}
 use Rattle.timeline.specs.Call.{lent, outcome}
@@ -49,11 +49,6 @@ active-snoc : (segs : List Edge) (evs : List Event) (e : Event) → activeOf seg
 unfolding activeOf
 active-snoc segs [] e = refl
 active-snoc segs (d ∷ evs) e = ap (λ l. ends segs d .0 ∷ ends segs d .1 ∷ l) (active-snoc segs evs e)
-
-active-length : (segs : List Edge) (evs : List Event) → length (activeOf segs evs) ≡ 2 * length evs
-unfolding activeOf
-active-length segs [] = refl
-active-length segs (e ∷ evs) = omega (arith, active-length segs evs)
 
 pub junctions-none : (segs : List Edge) (evs : List Event) (w : List ℕ) → w ≡ sets w 0 (activeOf segs (take 0 evs))
 unfolding activeOf

@@ -27,7 +27,7 @@ use Rattle.timeline.proofs.Acceptance.{Good, fine-good, length-pairs}
 use Rattle.timeline.proofs.DemandThree.{small-is}
 use Rattle.timeline.proofs.Leaves.{alone, during-one}
 use Rattle.timeline.proofs.Networks.{after-append}
-use Rattle.timeline.proofs.StepLaws.{sound-fine}
+use Rattle.timeline.proofs.StepLaws.{active-length, sound-fine}
 use Rattle.timeline.proofs.WindowLaws.{large-one, small-one}
 use Rattle.timeline.proofs.WordLaws.{pairs-at, pairs-length, sets-two}
 use Rattle.timeline.specs.Area.{Area, OneDone, SmallArea, Sound, StepReady, Stepped, WindowDone, WindowReady, areaEdges}
@@ -57,14 +57,9 @@ open-one g i l =
 most-less : (k n : ℕ) → k ≤ 2 * n → 0 < n → mostNodes k + 2 ≤ 4 * n
 most-less k n l p = onBool (ltb k 2) (λ t. let z = ltb-true k 2 t in rw t (omega arith)) (λ t. let z = ltb-false k 2 t in rw t (omega arith))
 
-active-few : (segs : List Edge) (evs : List Event) → length (activeOf segs evs) ≡ 2 * length evs
-unfolding activeOf
-active-few segs [] = refl
-active-few segs (e ∷ evs) = omega (arith, active-few segs evs)
-
 active-short : (g : Timeline) (at n : ℕ) → length (active g (at, n)) ≤ 2 * n
 unfolding active during
-active-short g at n = omega (arith, active-few (g .segments) (take n (drop at (g .events))), length-take n (drop at (g .events)))
+active-short g at n = omega (arith, active-length (g .segments) (take n (drop at (g .events))), length-take n (drop at (g .events)))
 
 module _ {g : Timeline} {at n nodes edges : ℕ} {v : List ℕ} (a : SmallArea g (at, n) nodes edges v) (some : 0 < n) where
   graph : SmallGraph (network g (at, n)) (active g (at, n)) nodes (areaEdges n edges v) (a .ρ) (a .σ)

@@ -51,7 +51,7 @@ take-active segs σ zero evs = refl
 take-active segs σ (suc k) [] = let q : 2 * suc k ≡ suc (suc (2 * k)) = omega arith in rw q refl
 take-active segs σ (suc k) (e ∷ evs) = let q : 2 * suc k ≡ suc (suc (2 * k)) = omega arith in rw q (ap (λ l. σ (ends segs e .0) ∷ σ (ends segs e .1) ∷ l) (take-active segs σ k evs))
 
-active-length : (segs : List Edge) (evs : List Event) → length (activeOf segs evs) ≡ 2 * length evs
+pub active-length : (segs : List Edge) (evs : List Event) → length (activeOf segs evs) ≡ 2 * length evs
 unfolding activeOf
 active-length segs [] = refl
 active-length segs (e ∷ evs) = omega (arith, active-length segs evs)
