@@ -59,6 +59,7 @@ pub(crate) fn add_all(
 {
     let mut k = m;
     let mut i: usize = 0;
+    // The k edges that are loaded, and what the events from i on would add to the segments seen, are all that there is to load.
     while i < e {
         let kind = x[at + i];
         let segment = y[at + i] as usize;

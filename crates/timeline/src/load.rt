@@ -10,6 +10,7 @@ pub(crate) fn clear_marks(work: &mut [u32], n: usize)
     requires { ⌜ (16 * n ≤ length (now work)) × (n ≤ 65536) ⌝ }
     ensures { λ _. ⌜ Cleared n (now (work .exit)) ⌝ }
 {
+    // Field 0 of the nodes below v is 0.
     for v in 0..n {
         words::put(work, v, 0, 0);
     }
@@ -36,6 +37,7 @@ pub(crate) fn enter_all(work: &mut [u32], from: usize, count: usize, s: usize, n
 {
     let mut k: usize = 0;
     let mut i: usize = 0;
+    // The k nodes that are entered are those of the first i words, each once.
     while i < count {
         let v = work[from + i] as usize;
         k = enter(&mut work[s..], n, k, v);
@@ -68,6 +70,7 @@ pub(crate) fn load_edges(work: &mut [u32], e: usize, m: usize, s: usize, n: usiz
     ensures { λ _. ⌜ Copied e m s n (now (work .entry)) (now (work .exit)) ⌝ }
 {
     let mut j: usize = 0;
+    // The first j edges are loaded; the front and the nodes' fields are as they were.
     while j < m {
         let a = work[2 * e + j] as usize;
         let b = work[6 * e + j] as usize;

@@ -62,6 +62,7 @@ pub(crate) fn named_in(x: &[u16], y: &[u16], lo: usize, c: usize) -> [u64; 128]
 {
     let mut set = [0u64; 128];
     let mut i: usize = 0;
+    // The set has what the first i events name.
     while i < c {
         let kind = x[lo + i];
         let segment = y[lo + i] as usize;

@@ -1,3 +1,4 @@
+-- A refusal changes nothing; an accepted list is replayed.
 use native.Mathlib.Omega.{arith}
 use borrow.Author.Needs.{needs}
 use Rattle.timeline.proofs.CallLaws.{done-replay, fault-zero, refused-is}

@@ -1,3 +1,4 @@
+-- Event by event: what is loaded, and what is left to add, stay all that there is to load.
 use Prim.Native.Nat.{_*_, _+_, _-_}
 use mathlib.Core.Path.{refl}
 use lib.ListN.{drop, length-drop, length-take, take}

@@ -1,3 +1,4 @@
+-- Each of three tests leaves the edges as they are; past them the segment is seen and its edge written.
 use mathlib.Core.Path.{_∙_, sym}
 use native.Mathlib.Omega.{arith}
 use borrow.Author.Needs.{needs}

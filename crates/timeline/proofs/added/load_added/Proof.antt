@@ -1,3 +1,4 @@
+-- The segments seen at the start are those that the part names.
 use native.Mathlib.Omega.{arith}
 use borrow.Author.Needs.{needs}
 use Rattle.timeline.proofs.AddingLaws.{part-names}

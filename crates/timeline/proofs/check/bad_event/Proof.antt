@@ -1,3 +1,4 @@
+-- Events without a fault so far, with the set open before the next one.
 use Prim.Native.Nat.{_-_}
 use mathlib.Core.Path.{refl}
 use native.Mathlib.Omega.{arith}

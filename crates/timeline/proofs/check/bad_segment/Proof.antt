@@ -1,3 +1,4 @@
+-- No segment so far has an end that is not below n.
 use Prim.Native.Nat.{_-_, _<_, _≤_, ℕ}
 use mathlib.Core.Bool.{false}
 use mathlib.Core.Path.{_≡_}

@@ -1,3 +1,4 @@
+-- The sizes first, then the rest.
 use native.Mathlib.Omega.{arith}
 use borrow.Author.Needs.{needs}
 use Rattle.timeline.proofs.CheckLaws.{size-refused, size-within}

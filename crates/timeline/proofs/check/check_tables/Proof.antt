@@ -1,3 +1,4 @@
+-- Each test in its order; past all of them the first segment and the first event with a fault.
 use mathlib.Core.Path.{_∙_, sym}
 use borrow.Author.Needs.{needs}
 use borrow.Author.Tests.{le-ltb, lt-ltb}

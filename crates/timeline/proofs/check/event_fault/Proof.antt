@@ -1,3 +1,4 @@
+-- The fault of an event, by its kind.
 use mathlib.Core.Path.{_∙_, sym}
 use borrow.Author.Needs.{needs}
 use Rattle.tables.specs.OpenSet.{isOpen}

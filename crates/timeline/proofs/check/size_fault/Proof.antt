@@ -1,3 +1,4 @@
+-- Both cases of the sizes' reply as a fault.
 use borrow.Author.Needs.{needs}
 use Rattle.timeline.proofs.CheckLaws.{sizes-refused, sizes-within}
 use Rattle.timeline.proofs.check.size_fault.Statement.{statement}

@@ -1,3 +1,4 @@
+-- One segment is entered, taken out, or none.
 use borrow.Author.Needs.{needs}
 use borrow.Author.Tests.{eq-eqb, ne-eqb}
 use Rattle.timeline.proofs.SegmentLaws.{event-stays, event-stored, stored-length}

@@ -1,3 +1,4 @@
+-- A segment is in the set where its bit is 1.
 use borrow.Author.Needs.{needs}
 use Rattle.tables.proofs.OpenSetLaws.{bit-open, bit-past}
 use Rattle.timeline.proofs.segments.contains.Statement.{statement}

@@ -1,3 +1,4 @@
+-- One bit of one word is set.
 use Prim.Native.Nat.{_%_, _/_}
 use mathlib.Core.Path.{_∙_}
 use lib.ListN.{getD, length-set}

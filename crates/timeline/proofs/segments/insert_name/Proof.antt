@@ -1,3 +1,4 @@
+-- An event enters the segment that it names.
 use mathlib.Core.Path.{_∙_, sym}
 use borrow.Author.Needs.{needs}
 use borrow.Author.Tests.{not-false, not-true}

@@ -1,3 +1,4 @@
+-- The names of the events so far are in the set.
 use Prim.Native.Nat.{_+_, _-_, _≤_}
 use mathlib.Core.Path.{_≡_, refl}
 use lib.ListN.{drop, length, take}

@@ -1,3 +1,4 @@
+-- The two numbers that tell an opening and a closing.
 use borrow.Author.Tests.{eq-eqb, ne-eqb}
 use Rattle.timeline.proofs.segments.names_segment.Statement.{statement}
 use Rattle.timeline.proofs.segments.names_segment.Tie as tie

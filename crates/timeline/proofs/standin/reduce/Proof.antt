@@ -1,3 +1,4 @@
+-- The one hole: core::reduce takes this function's place.
 use Rattle.timeline.proofs.standin.reduce.Statement.{statement}
 use Rattle.timeline.proofs.standin.reduce.Tie as tie
 

@@ -1,3 +1,4 @@
+-- The numbers and tables of an accepted replay are those of the definition.
 use mathlib.Core.Path.{sym}
 use lib.ListN.{length-append, length-drop}
 use lib.Seq.{length-take-le}

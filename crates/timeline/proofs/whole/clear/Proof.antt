@@ -1,3 +1,4 @@
+-- The words are set to 0 in order.
 use Prim.Native.Nat.{_-_, _≤_, ℕ}
 use mathlib.Core.Path.{_≡_, refl}
 use lib.Seq.{sets}

@@ -1,3 +1,4 @@
+-- The queries so far, and those that are left, are all queries.
 use Prim.Native.Nat.{_+_, _-_, _≤_}
 use mathlib.Core.Bool.{_||_, not}
 use mathlib.Core.Path.{_≡_}

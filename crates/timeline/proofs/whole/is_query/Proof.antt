@@ -1,3 +1,4 @@
+-- A query is an event that names no segment.
 use mathlib.Core.Path.{_∙_, sym}
 use borrow.Author.Needs.{needs}
 use Rattle.timeline.proofs.CallLaws.{query-none, query-one}

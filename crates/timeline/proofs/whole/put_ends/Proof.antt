@@ -1,3 +1,4 @@
+-- An event's two junctions are written: a segment's ends, or those of a query.
 use mathlib.Core.Path.{_∙_, sym}
 use lib.ListN.{length-set}
 use native.Mathlib.Omega.{arith}

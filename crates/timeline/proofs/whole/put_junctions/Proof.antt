@@ -1,3 +1,4 @@
+-- The junctions of the events are written in order.
 use Prim.Native.Nat.{_-_, _≤_}
 use mathlib.Core.Path.{_∙_, _≡_}
 use lib.ListN.{length, take}

@@ -1,3 +1,4 @@
+-- A list without events has no window.
 use borrow.Author.Needs.{needs}
 use Rattle.timeline.proofs.CallLaws.{empty-replied}
 use Rattle.timeline.proofs.whole.replay_list.Statement.{statement}

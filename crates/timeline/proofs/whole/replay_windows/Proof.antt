@@ -1,3 +1,4 @@
+-- The window above the whole list, the step to the whole list, and its windows.
 use mathlib.Core.Path.{sym}
 use lib.Seq.{length-take-le}
 use native.Mathlib.Omega.{arith}

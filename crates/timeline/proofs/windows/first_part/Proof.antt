@@ -1,3 +1,4 @@
+-- The share of a window, at least one event.
 use native.Mathlib.Nat.{mul-le-mul-left}
 use native.Mathlib.Omega.{arith}
 use borrow.Author.Needs.{needs}

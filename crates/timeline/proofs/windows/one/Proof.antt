@@ -1,3 +1,4 @@
+-- An event that opens or closes, and each reply to a query.
 use mathlib.Core.Path.{_∙_, sym}
 use native.Mathlib.Omega.{arith}
 use borrow.Author.Needs.{needs}
