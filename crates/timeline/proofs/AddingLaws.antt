@@ -1,33 +1,32 @@
 -- The segments that a step adds: what crosses them, by the events with their nodes and by the segments' own ends; one event, and the loop over the events of a window.
 -- Assumes nothing.
-use Prim.Native.Nat.{_*_, _+_, _-_, _/_, _<_, _≤_, suc, zero, ℕ}
-use mathlib.Core.Bool.{Bool, _&&_, _||_, and-false, cond, false, not, or-true, true}
-use mathlib.Core.List.{List, List·Memᴰ, List·Memᴰ·head, List·Memᴰ·tail, [], _++_, _∷_, append-assoc, map}
+use Prim.Native.Nat.{_*_, _+_, _-_, _<_, _≤_, suc, ℕ}
+use mathlib.Core.Bool.{Bool, _&&_, _||_, and-false, cond, false, not, true}
+use mathlib.Core.List.{List, [], _∷_, map}
 use mathlib.Core.Logic.{_⊎_, inl, inr}
-use mathlib.Core.Path.{_∙_, _≡_, ap, ap₂, fun-ext, refl, subst, sym}
-use lib.Dec.{eqb, leb, ltb}
-use lib.ListN.{drop, drop-of-length-le, getD, length, length-append, length-drop, length-map, length-set, length-take, set, take}
-use lib.Seq.{drop-append-le, drop-at, drop-cons, drop-drop, drop-set-lt, getD-drop, getD-set-other, getD-set-same, getD-take, length-sets, length-take-le, sets, sets-eq, take-add, take-all, take-append-le, take-at, take-set-le, take-suc, take-take}
-use native.Mathlib.Nat.{add-zero, mul-le-mul-left}
+use mathlib.Core.Path.{_∙_, _≡_, ap, ap₂, refl, subst, sym}
+use lib.Dec.{eqb}
+use lib.ListN.{drop, drop-of-length-le, getD, length, length-drop, length-take, set, take}
+use lib.Seq.{drop-cons, getD-drop, getD-take}
 use native.Mathlib.Numerals.{add-one}
 use native.Mathlib.Omega.{arith}
-use borrow.Author.Tests.{eq-eqb, eqb-false, eqb-true, le-ltb, lt-ltb, ltb-false, ltb-true, ne-eqb, not-false, not-true}
+use borrow.Author.Tests.{eqb-false, eqb-true, ne-eqb}
 use borrow.Rule.Slice.PartMut.{putMid, same-len-mid, take-put}
-use Rattle.graph.proofs.Booleans.{and-elim, contradict, onBool, or-elim}
+use Rattle.core.specs.Core.{edgesIn}
+use Rattle.graph.proofs.Booleans.{and-elim, contradict, onBool}
+use Rattle.graph.proofs.Cuts.{cut-image}
 use Rattle.graph.specs.Cut.{crosses, cut}
 use Rattle.graph.specs.Graph.{Edge, NodeSet}
-use Rattle.words.specs.Fields.{half, node}
-use Rattle.graph.proofs.Cuts.{cut-image}
-use Rattle.graph.specs.SmallGraph.{_∘_, image}
 use Rattle.graph.specs.Lists.{pairs}
-use Rattle.core.specs.Core.{edgesIn}
+use Rattle.graph.specs.SmallGraph.{_∘_, image}
 use Rattle.tables.specs.OpenSet.{bits, isOpen}
-use Rattle.timeline.specs.Events.{Event, SegmentSet, activeOf, closes, ends, named, opens, pick}
-use Rattle.timeline.specs.Load.{Added, AddedOne, Edged, PutEdge, adds, isAdded, more}
-use Rattle.timeline.proofs.EventLaws.{pick-ext, pick-sum}
 use Rattle.timeline.proofs.EdgeLaws.{edged-more, edges-more}
+use Rattle.timeline.proofs.EventLaws.{pick-ext, pick-sum}
 use Rattle.timeline.proofs.SegmentLaws.{insert-more}
 use Rattle.timeline.proofs.WordLaws.{drop-back, front-get, pairs-at, pairs-length, take-whole}
+use Rattle.timeline.specs.Events.{Event, SegmentSet, activeOf, closes, ends, named, opens, pick}
+use Rattle.timeline.specs.Load.{AddReady, Added, AddedOne, Edged, NamesSegments, PutEdge, adds, isAdded, more}
+use Rattle.words.specs.Fields.{half, node}
 
 -- ---- the added segments, by what crosses
 -- one segment alone
@@ -72,14 +71,14 @@ module _ (segs : List Edge) (σ : ℕ → ℕ) (o : NodeSet) (U : NodeSet) where
   abbrev pub left : NodeSet → List Event → NodeSet
   left seen evs s = o s && (named evs s && not (seen s))
 
-  pub adds-d : (evs : List Event) (seen : NodeSet) → ((i : ℕ) → i < length evs → (opens (getD evs i (0, 0)) || closes (getD evs i (0, 0))) ≡ true → getD evs i (0, 0) .1 < length segs)
+  pub adds-cut : (evs : List Event) (seen : NodeSet) → ((i : ℕ) → i < length evs → (opens (getD evs i (0, 0)) || closes (getD evs i (0, 0))) ≡ true → getD evs i (0, 0) .1 < length segs)
       → cut U (adds seen o evs (map σ (activeOf segs evs))) ≡ cut U (image σ (pick (left seen evs) 0 segs))
   unfolding activeOf
-  adds-d [] seen f = rw (cut-image U σ (pick (left seen []) 0 segs)) (sym (pick-none (U ∘ σ) (left seen []) 0 segs (λ k l. and-false (o (0 + k)))))
-  adds-d (e ∷ evs) seen f =
+  adds-cut [] seen f = rw (cut-image U σ (pick (left seen []) 0 segs)) (sym (pick-none (U ∘ σ) (left seen []) 0 segs (λ k l. and-false (o (0 + k)))))
+  adds-cut (e ∷ evs) seen f =
       onBool ((opens e || closes e) && (o (e .1) && not (seen (e .1))))
       (λ t.
-      let ih = adds-d evs (more seen (e .1)) (λ i l. f (suc i) (omega arith)) in
+      let ih = adds-cut evs (more seen (e .1)) (λ i l. f (suc i) (omega arith)) in
       let al : (opens e || closes e) ≡ true = and-left (opens e || closes e) (o (e .1) && not (seen (e .1))) t in
       let ee : ends segs e ≡ getD segs (e .1) (0, 0) = ap (λ c. cond c (getD segs (e .1) (0, 0)) e) al in
       let z : e .1 - 0 ≡ e .1 = omega arith in
@@ -88,7 +87,7 @@ module _ (segs : List Edge) (σ : ℕ → ℕ) (o : NodeSet) (U : NodeSet) where
       let q1 : crosses (U (σ (ends segs e .0))) (U (σ (ends segs e .1))) ≡ crosses (U (σ (getD segs (e .1) (0, 0) .0))) (U (σ (getD segs (e .1) (0, 0) .1))) = ap (λ (k : Edge). crosses (U (σ (k .0))) (U (σ (k .1)))) ee in
       ap (λ b. cut U (cond b ((σ (ends segs e .0), σ (ends segs e .1)) ∷ adds (more seen (e .1)) o evs (map σ (activeOf segs evs))) (adds seen o evs (map σ (activeOf segs evs))))) t ∙ (omega (arith, ih, p1, ps, q1, cut-image U σ (pick (left seen (e ∷ evs)) 0 segs), cut-image U σ (pick (left (more seen (e .1)) evs) 0 segs))))
       (λ t.
-      let ih = adds-d evs seen (λ i l. f (suc i) (omega arith)) in
+      let ih = adds-cut evs seen (λ i l. f (suc i) (omega arith)) in
       ap (λ b. cut U (cond b ((σ (ends segs e .0), σ (ends segs e .1)) ∷ adds (more seen (e .1)) o evs (map σ (activeOf segs evs))) (adds seen o evs (map σ (activeOf segs evs))))) t ∙ (ih ∙ ap (λ k. cut U (image σ k)) (pick-ext (left seen evs) (left seen (e ∷ evs)) (same t) 0 segs)))
     where
       is : (s : ℕ) → eqb s (e .1) ≡ true → (o s ≡ o (e .1)) × (seen s ≡ seen (e .1))
@@ -107,17 +106,17 @@ module _ (segs : List Edge) (σ : ℕ → ℕ) (o : NodeSet) (U : NodeSet) where
 
 -- ---- one event
 module _ (x y : ℕ) (held seen : List ℕ) where
-  pub not-named : (eqb x 65535 || eqb x 65534) ≡ false → isAdded (isOpen seen) (isOpen held) (x, y) ≡ false
-  not-named n = ap (λ b. b && (isOpen held y && not (isOpen seen y))) n
+  pub unnamed-not-added : (eqb x 65535 || eqb x 65534) ≡ false → isAdded (isOpen seen) (isOpen held) (x, y) ≡ false
+  unnamed-not-added n = ap (λ b. b && (isOpen held y && not (isOpen seen y))) n
 
-  pub not-open : isOpen held y ≡ false → isAdded (isOpen seen) (isOpen held) (x, y) ≡ false
-  not-open o = ap (λ b. (eqb x 65535 || eqb x 65534) && (b && not (isOpen seen y))) o ∙ and-false (eqb x 65535 || eqb x 65534)
+  pub closed-not-added : isOpen held y ≡ false → isAdded (isOpen seen) (isOpen held) (x, y) ≡ false
+  closed-not-added o = ap (λ b. (eqb x 65535 || eqb x 65534) && (b && not (isOpen seen y))) o ∙ and-false (eqb x 65535 || eqb x 65534)
 
-  pub old : isOpen seen y ≡ true → isAdded (isOpen seen) (isOpen held) (x, y) ≡ false
-  old s = ap (λ b. (eqb x 65535 || eqb x 65534) && (isOpen held y && not b)) s ∙ ap (λ b. (eqb x 65535 || eqb x 65534) && b) (and-false (isOpen held y)) ∙ and-false (eqb x 65535 || eqb x 65534)
+  pub seen-not-added : isOpen seen y ≡ true → isAdded (isOpen seen) (isOpen held) (x, y) ≡ false
+  seen-not-added s = ap (λ b. (eqb x 65535 || eqb x 65534) && (isOpen held y && not b)) s ∙ ap (λ b. (eqb x 65535 || eqb x 65534) && b) (and-false (isOpen held y)) ∙ and-false (eqb x 65535 || eqb x 65534)
 
-  pub new : (eqb x 65535 || eqb x 65534) ≡ true → isOpen held y ≡ true → isOpen seen y ≡ false → isAdded (isOpen seen) (isOpen held) (x, y) ≡ true
-  new n o s = ap₂ _&&_ n (ap₂ (λ a b. a && not b) o s)
+  pub is-added : (eqb x 65535 || eqb x 65534) ≡ true → isOpen held y ≡ true → isOpen seen y ≡ false → isAdded (isOpen seen) (isOpen held) (x, y) ≡ true
+  is-added n o s = ap₂ _&&_ n (ap₂ (λ a b. a && not b) o s)
 
 module _ (x y a b : ℕ) (held seen : List ℕ) (n m : ℕ) (w : List ℕ) (l : length seen ≡ 128) where
   pub added-none : isAdded (isOpen seen) (isOpen held) (x, y) ≡ false → AddedOne x y a b held seen seen n m w w m
@@ -155,11 +154,10 @@ drop-two l i h =
     let b : 2 * (i + 1) ≡ suc (suc (2 * i)) = omega arith in
     drop-cons l (2 * i) 0 (omega arith) ∙ rw (a, b) (ap (λ k. getD l (2 * i) 0 ∷ k) (drop-cons l (suc (2 * i)) 0 (omega arith)))
 
-module _ (x y : List ℕ) (at : ℕ) {o : SegmentSet} {seen₀ : SegmentSet} {e s n m : ℕ} {w seen z : List ℕ} {k i : ℕ}
-    (a : Adding seen₀ o (take e (drop at (pairs x y))) e s n m w seen z k i) (l : i < e) (room : s + 16 * n + 4 * (m + e) ≤ length w) (front : 2 * e ≤ s)
-    (lx : at + e ≤ length x) (ly : at + e ≤ length y) (low : (i : ℕ) → i < 2 * e → getD w i 0 < n) where
+module _ {x y : List ℕ} {at e s n m : ℕ} {o seen₀ : SegmentSet} {w seen z : List ℕ} {k i : ℕ}
+    (q : AddReady x y at e s n m w) (a : Adding seen₀ o (take e (drop at (pairs x y))) e s n m w seen z k i) (l : i < e) where
   pub adding-low : (j : ℕ) → j < 2 * e → getD z j 0 < n
-  adding-low j u = omega (arith, low j u, front-get s j w z (a .edged .front) (omega arith))
+  adding-low j u = omega (arith, q .nodes j u, front-get s j w z (a .edged .front) (omega arith))
 
   abbrev evs : List Event
   evs = take e (drop at (pairs x y))
@@ -169,7 +167,7 @@ module _ (x y : List ℕ) (at : ℕ) {o : SegmentSet} {seen₀ : SegmentSet} {e 
 
   events : drop i evs ≡ ev ∷ drop (i + 1) evs
   events =
-      let p = pairs-length x y (at + e) lx ly in
+      let p = pairs-length x y (at + e) (q .long-x) (q .long-y) in
       drop-cons evs i (0, 0) (rw (length-take, length-drop) (omega arith))
       ∙ ap₂ (λ u v. u ∷ v) (getD-take e (drop at (pairs x y)) i (0, 0) l ∙ getD-drop at (pairs x y) i (0, 0) ∙ pairs-at x y (at + i) (omega arith) (omega arith)) (ap (λ j. drop j evs) (sym (add-one i)))
 
@@ -199,16 +197,16 @@ module _ (x y : List ℕ) (at : ℕ) {o : SegmentSet} {seen₀ : SegmentSet} {e 
             rw (er, es) (omega (arith, a .left U, c, h));
       })
       (λ t. let (er, es, p) = d .stays t in
-      let q : drop s (putMid s (length z - s) z zs) ≡ drop s z = drop-back s z zs f ∙ p ∙ take-whole s z in
+      let same : drop s (putMid s (length z - s) z zs) ≡ drop s z = drop-back s z zs f ∙ p ∙ take-whole s z in
       record {
         low = omega arith;
         long = long;
         words = d .long;
         most = omega (arith, a .most);
-        edged = rw er (record { front = take-put s (length z - s) z zs f ∙ a .edged .front; nodes = λ j b v u. ap (λ (g : List ℕ). node j g v) q ∙ a .edged .nodes j b v u; ends = rw q (a .edged .ends) });
+        edged = rw er (record { front = take-put s (length z - s) z zs f ∙ a .edged .front; nodes = λ j b v u. ap (λ (g : List ℕ). node j g v) same ∙ a .edged .nodes j b v u; ends = rw same (a .edged .ends) });
         left = λ U.
             let c = adds-cons U (isOpen seen) o (drop i evs) (drop (i + 1) evs) ev (drop (2 * i) (take (2 * e) w)) (drop (2 * (i + 1)) (take (2 * e) w)) (getD z (2 * i) 0) (getD z (2 * i + 1) 0) events nodes false (ap (λ h. isAdded (isOpen seen) h ev) (sym ho) ∙ t) in
-            rw (er, es, q) (omega (arith, a .left U, c));
+            rw (er, es, same) (omega (arith, a .left U, c));
       })
 
 pub adding-all : {seen₀ o : SegmentSet} {evs : List Event} {e s n m : ℕ} {w seen z : List ℕ} {k i : ℕ} → Adding seen₀ o evs e s n m w seen z k i → i ≡ e → length evs ≤ e → Added seen₀ o evs e s n m w z k
@@ -223,9 +221,7 @@ adding-all {seen₀} {o} {evs} {e} {s} {n} {m} {w} {seen} {z} {k} {i} a q l =
     }
 
 -- ---- what the events of a window name, its part's name
-pub part-names : (x y : List ℕ) (at e lo c : ℕ) → at ≤ lo → lo + c ≤ at + e
-    → ((i : ℕ) → i < e → (eqb (getD x (at + i) 0) 65535 || eqb (getD x (at + i) 0) 65534) ≡ true → getD y (at + i) 0 < 8192)
-    → (i : ℕ) → i < c → (eqb (getD x (lo + i) 0) 65535 || eqb (getD x (lo + i) 0) 65534) ≡ true → getD y (lo + i) 0 < 8192
+pub part-names : (x y : List ℕ) (at e lo c : ℕ) → at ≤ lo → lo + c ≤ at + e → NamesSegments x y at e → NamesSegments x y lo c
 part-names x y at e lo c a b f i l =
     let q : at + (lo - at + i) ≡ lo + i = omega arith in
     subst (λ (k : ℕ). (eqb (getD x k 0) 65535 || eqb (getD x k 0) 65534) ≡ true → getD y k 0 < 8192) q (f (lo - at + i) (omega arith))

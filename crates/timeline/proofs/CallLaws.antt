@@ -1,46 +1,39 @@
 -- The whole list and the public call: the junctions of all events written, the queries counted, words cleared, the window above the whole list,
 -- and the numbers and tables of an accepted replay. In order of the code. Assumes nothing.
 use Prim.Native.Nat.{_*_, _+_, _-_, _/_, _<_, _≤_, suc, zero, ℕ}
-use mathlib.Core.Bool.{Bool, _&&_, _||_, and-false, cond, false, not, or-true, true}
-use mathlib.Core.List.{List, List·Memᴰ, List·Memᴰ·head, List·Memᴰ·tail, [], _++_, _∷_, append-assoc, map}
-use mathlib.Core.Logic.{_⊎_, inl, inr}
-use mathlib.Core.Path.{_∙_, _≡_, ap, ap₂, fun-ext, refl, subst, sym}
-use lib.Dec.{eqb, leb, ltb}
-use lib.ListN.{List·getD-eq-default, drop, drop-of-length-le, getD, length, length-append, length-drop, length-map, length-replicate, length-set, length-take, replicate, set, take}
-use lib.Seq.{drop-append-le, drop-at, drop-cons, drop-drop, drop-set-lt, getD-drop, getD-set-other, getD-set-same, getD-take, length-sets, length-take-le, sets, sets-eq, take-add, take-all, take-append-le, take-at, take-set-le, take-suc, take-take}
-use native.Mathlib.Nat.{add-zero, mul-le-mul-left}
+use mathlib.Core.Bool.{Bool, _||_, cond, false, not, true}
+use mathlib.Core.List.{List, [], _++_, _∷_, map}
+use mathlib.Core.Path.{_∙_, _≡_, ap, ap₂, refl, subst, sym}
+use lib.Dec.{eqb, ltb}
+use lib.ListN.{List·getD-eq-default, drop, getD, length, length-drop, length-replicate, length-take, replicate, set, take}
+use lib.Seq.{drop-at, getD-take, length-sets, length-take-le, sets, sets-eq, take-all, take-suc, take-take}
 use native.Mathlib.Numerals.{add-one}
 use native.Mathlib.Omega.{arith}
-use borrow.Author.Tests.{eq-eqb, eqb-false, eqb-true, le-leb, le-ltb, lt-leb, lt-ltb, ltb-false, ltb-true, ne-eqb, not-false, not-true}
-use borrow.Rule.Slice.PartMut.{putMid, same-len-mid, take-put}
-use Rattle.graph.proofs.Booleans.{and-elim, contradict, onBool, or-elim}
-use Rattle.graph.specs.Cut.{crosses, cut}
-use Rattle.graph.specs.Graph.{Edge, NodeSet}
-use Rattle.words.specs.Fields.{half, node}
+use borrow.Author.Tests.{eqb-true, le-ltb, ltb-false, ltb-true, ne-eqb}
+use Rattle.core.specs.declared.Counts.{Counts}
+use Rattle.graph.proofs.Booleans.{and-elim, contradict, onBool}
 use Rattle.graph.proofs.Lists.{table-length}
 use Rattle.graph.proofs.Transfer.{self-carries}
+use Rattle.graph.specs.Graph.{Edge}
 use Rattle.graph.specs.Lists.{filter, over, pairs, range, sum, table}
-use Rattle.graph.specs.SmallGraph.{Carries, endsIn}
-use Rattle.core.specs.declared.Counts.{Counts}
+use Rattle.graph.specs.SmallGraph.{Carries}
 use Rattle.tables.specs.OpenSet.{bits, digits, isOpen}
-use Rattle.tables.specs.Refusal.{Refusal, Row, firstFault, row}
+use Rattle.tables.specs.Refusal.{Refusal, firstFault, row}
 use Rattle.tables.specs.Sizes.{sizeFaults}
-use Rattle.timeline.specs.Area.{Area, Replied, SmallArea, Sound, StepReady, Stepped, WindowDone, WindowReady}
-use Rattle.timeline.specs.Call.{lent, outcome}
-use Rattle.timeline.specs.Events.{Event, SegmentSet, activeOf, after, afterAll, asks, closes, ends, names, opens}
-use Rattle.timeline.specs.Replay.{Lent, Outcome, byte, bytes, done, eventFault, fault, faultAt, faults, given, listFaults, openAtEnd, queries, refused, replay, required, shareFaults}
-use Rattle.timeline.specs.Windows.{Timeline, Window, active, atStart, during, event, kept, network, openBefore, size, small, windows, windowsFrom}
-use Rattle.timeline.specs.declared.ReplayReply.{ReplayReply}
-use Rattle.timeline.specs.declared.ReplayReply.the-variants.{Done, Refused}
-use Rattle.timeline.specs.declared.Sum.{Sum}
-use Rattle.timeline.specs.declared.Totals.{Totals}
-use Rattle.timeline.proofs.Acceptance.{Accepted, Good, accepted-ends, accepted-from, events-length, getD-pairs, length-pairs, segments-length}
+use Rattle.timeline.proofs.Acceptance.{Accepted, accepted-ends, accepted-from, events-length, getD-pairs, segments-length}
 use Rattle.timeline.proofs.DemandThree.{accepted-done, bytes-length}
 use Rattle.timeline.proofs.DescentLaws.{open-one, sound-good}
 use Rattle.timeline.proofs.Networks.{network-start}
 use Rattle.timeline.proofs.SegmentLaws.{none-open}
-use Rattle.timeline.proofs.StepLaws.{sound-fine, window-length}
+use Rattle.timeline.proofs.StepLaws.{active-length, sound-fine}
 use Rattle.timeline.proofs.WordLaws.{fill-more, mid-sets, pairs-at, pairs-length, sets-append}
+use Rattle.timeline.specs.Area.{Area, Replied, SmallArea, Sound, StepReady, Stepped, WindowDone, WindowReady}
+use Rattle.timeline.specs.Call.{lent, outcome}
+use Rattle.timeline.specs.Events.{Event, activeOf, after, asks, closes, ends, names, opens}
+use Rattle.timeline.specs.Replay.{Lent, Outcome, byte, bytes, done, eventFault, fault, faultAt, faults, given, listFaults, openAtEnd, queries, refused, replay, required, shareFaults}
+use Rattle.timeline.specs.Windows.{Timeline, active, during, event, kept, openBefore, size, small, windows, windowsFrom}
+use Rattle.timeline.specs.declared.ReplayReply.the-variants.{Done, Refused}
+use Rattle.timeline.specs.declared.Sum.{Sum}
 
 -- ---- the junctions of the events
 pub ends-named : (a b : List ℕ) (x y : ℕ) → (eqb x 65535 || eqb x 65534) ≡ true → y < length a → y < length b → ends (pairs a b) (x, y) ≡ (getD a y 0, getD b y 0)
@@ -56,11 +49,6 @@ active-snoc : (segs : List Edge) (evs : List Event) (e : Event) → activeOf seg
 unfolding activeOf
 active-snoc segs [] e = refl
 active-snoc segs (d ∷ evs) e = ap (λ l. ends segs d .0 ∷ ends segs d .1 ∷ l) (active-snoc segs evs e)
-
-active-length : (segs : List Edge) (evs : List Event) → length (activeOf segs evs) ≡ 2 * length evs
-unfolding activeOf
-active-length segs [] = refl
-active-length segs (e ∷ evs) = omega (arith, active-length segs evs)
 
 pub junctions-none : (segs : List Edge) (evs : List Event) (w : List ℕ) → w ≡ sets w 0 (activeOf segs (take 0 evs))
 unfolding activeOf

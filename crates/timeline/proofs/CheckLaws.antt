@@ -1,38 +1,32 @@
 -- Laws of the checks: the first that passes, met from the front; the fault of the sizes; the faults of the tables and the share; the first segment and the first event with a fault.
 -- Assumes nothing.
-use Prim.Native.Nat.{_*_, _+_, _-_, _/_, _<_, _≤_, suc, zero, ℕ}
-use mathlib.Core.Bool.{Bool, _&&_, _||_, and-false, cond, false, not, or-true, true}
-use mathlib.Core.List.{List, List·Memᴰ, List·Memᴰ·head, List·Memᴰ·tail, [], _++_, _∷_, append-assoc, map}
-use mathlib.Core.Logic.{_⊎_, inl, inr}
-use mathlib.Core.Path.{_∙_, _≡_, ap, ap₂, fun-ext, refl, subst, sym}
-use lib.Dec.{eqb, leb, ltb}
-use lib.ListN.{drop, drop-of-length-le, getD, length, length-append, length-drop, length-map, length-set, length-take, set, take}
-use lib.Seq.{drop-append-le, drop-at, drop-cons, drop-drop, drop-set-lt, getD-drop, getD-set-other, getD-set-same, getD-take, length-sets, length-take-le, sets, sets-eq, take-add, take-all, take-append-le, take-at, take-set-le, take-suc, take-take}
-use native.Mathlib.Nat.{add-zero, mul-le-mul-left}
+use Prim.Native.Nat.{_+_, _-_, _<_, _≤_, ℕ}
+use mathlib.Core.Bool.{Bool, _||_, cond, false, not, true}
+use mathlib.Core.List.{List, [], _++_, _∷_}
+use mathlib.Core.Path.{_∙_, _≡_, ap, ap₂, refl, subst, sym}
+use lib.Dec.{eqb, ltb}
+use lib.ListN.{getD, length, take}
+use lib.Seq.{take-suc}
 use native.Mathlib.Numerals.{add-one}
 use native.Mathlib.Omega.{arith}
-use borrow.Author.Tests.{eq-eqb, eqb-false, eqb-true, le-leb, le-ltb, lt-leb, lt-ltb, ltb-false, ltb-true, ne-eqb, not-false, not-true}
-use borrow.Rule.Slice.PartMut.{putMid, same-len-mid, take-put}
-use Rattle.graph.proofs.Booleans.{and-elim, contradict, onBool, or-elim}
-use Rattle.graph.specs.Cut.{crosses, cut}
-use Rattle.graph.specs.Graph.{Edge, NodeSet}
-use Rattle.words.specs.Fields.{half, node}
+use borrow.Author.Tests.{eq-eqb, eqb-false, eqb-true, le-leb, le-ltb, lt-leb, lt-ltb, ltb-false, ne-eqb}
+use Rattle.graph.proofs.Booleans.{onBool}
 use Rattle.graph.specs.Lists.{pairs}
-use Rattle.tables.proofs.RefusalLaws.{Numbered, Silent, fault-silent, seek-at, seek-end}
+use Rattle.tables.proofs.RefusalLaws.{Numbered, fault-silent, seek-at, seek-end}
 use Rattle.tables.specs.OpenSet.{isOpen}
 use Rattle.tables.specs.Refusal.{Refusal, Row, firstFault, row, seek}
+use Rattle.tables.specs.Sizes.{SizesOutcome, checkSizes, sizeFaults, sizesOutcome}
 use Rattle.tables.specs.declared.Sizes.{Sizes}
 use Rattle.tables.specs.declared.SizesReply.{SizesReply}
 use Rattle.tables.specs.declared.SizesReply.the-variants.{Refused, Within}
-use Rattle.tables.specs.Sizes.{SizesOutcome, checkSizes, sizeFaults, sizesOutcome}
-use Rattle.timeline.specs.Call.{eventsFault, faultOf, lent}
-use Rattle.timeline.specs.Events.{Event, SegmentSet, after, afterAll, closes, kindOf, opens}
+use Rattle.timeline.proofs.Acceptance.{fault-fine, getD-pairs, length-pairs, skip-silent}
+use Rattle.timeline.proofs.Networks.{after-append}
+use Rattle.timeline.specs.Call.{eventsFault, faultOf}
+use Rattle.timeline.specs.Events.{Event, SegmentSet, after, afterAll, kindOf}
 use Rattle.timeline.specs.Replay.{Lent, badSegment, eventFault, fault, faultAt, faults, given, listFaults, required, shareFaults, shortTables}
 use Rattle.timeline.specs.Windows.{atStart, openBefore}
 use Rattle.timeline.specs.declared.Kind.{Kind}
 use Rattle.timeline.specs.declared.Kind.the-variants.{Closes, Nothing, Opens, Query}
-use Rattle.timeline.proofs.Acceptance.{fault-fine, getD-pairs, length-pairs, skip-silent}
-use Rattle.timeline.proofs.Networks.{after-append}
 
 -- ---- segments, from s on
 module _ (n m s : ℕ) (a b : List ℕ) where

@@ -1,45 +1,41 @@
 -- The recursion over windows: what a window's area says of its counts, how a step and the two parts join to a window, and a window of one event.
 -- In order: lists of events; the counts of an area; the windows of a share; what a step and a part need; a window of two parts; a window of one event.
 -- Assumes nothing.
-use Prim.Native.Nat.{_*_, _+_, _-_, _/_, _<_, _≤_, suc, zero, ℕ}
-use mathlib.Core.Bool.{Bool, _&&_, _||_, and-false, cond, false, not, or-true, true}
-use mathlib.Core.List.{List, List·Memᴰ, List·Memᴰ·head, List·Memᴰ·tail, [], _++_, _∷_, append-assoc, map}
-use mathlib.Core.Logic.{_⊎_, inl, inr}
-use mathlib.Core.Path.{_∙_, _≡_, ap, ap₂, fun-ext, refl, subst, sym}
-use lib.Dec.{eqb, leb, ltb}
-use lib.ListN.{drop, drop-of-length-le, getD, length, length-append, length-drop, length-map, length-set, length-take, set, take}
-use lib.Seq.{drop-append-le, drop-at, drop-cons, drop-drop, drop-set-lt, getD-drop, getD-set-other, getD-set-same, getD-take, length-sets, length-take-le, sets, sets-eq, take-add, take-all, take-append-le, take-at, take-set-le, take-suc, take-take}
-use native.Mathlib.Nat.{add-zero, mul-le-mul-left}
+use Prim.Native.Nat.{_*_, _+_, _-_, _<_, _≤_, suc, zero, ℕ}
+use mathlib.Core.Bool.{_&&_, _||_, cond, false, not, true}
+use mathlib.Core.List.{List, [], _++_, _∷_, map}
+use mathlib.Core.Path.{_∙_, _≡_, ap, ap₂, fun-ext, refl, sym}
+use lib.Dec.{eqb, ltb}
+use lib.ListN.{drop, getD, length, length-drop, length-take, set, take}
+use lib.Seq.{sets, take-suc, take-take}
+use native.Mathlib.Nat.{mul-le-mul-left}
 use native.Mathlib.Numerals.{add-one}
 use native.Mathlib.Omega.{arith}
-use borrow.Author.Tests.{eq-eqb, eqb-false, eqb-true, le-ltb, lt-ltb, ltb-false, ltb-true, ne-eqb, not-false, not-true}
-use borrow.Rule.Slice.PartMut.{putMid, same-len-mid, take-put}
-use Rattle.graph.proofs.Booleans.{and-elim, contradict, onBool, or-elim}
-use Rattle.graph.specs.Cut.{crosses, cut}
-use Rattle.graph.specs.Graph.{Edge, NodeSet, answer}
-use Rattle.words.specs.Fields.{half, node}
+use borrow.Author.Tests.{eq-eqb, ltb-false, ltb-true, ne-eqb}
+use Rattle.core.specs.declared.Counts.{Counts}
+use Rattle.graph.proofs.Booleans.{onBool}
 use Rattle.graph.proofs.EdgeCount.{firsts-most, small-edges, small-edges-most}
 use Rattle.graph.proofs.SmallGraphDefinition.{definition-small}
 use Rattle.graph.proofs.SmallGraphs.{SmallGraph}
 use Rattle.graph.proofs.Transfer.{small-carries}
 use Rattle.graph.proofs.Uniqueness.{nodes-same, small-bound}
-use Rattle.graph.specs.Lists.{firsts, pairs, sum, table}
-use Rattle.graph.specs.SmallGraph.{different, mostNodes, noEdge, readOff}
-use Rattle.core.specs.declared.Counts.{Counts}
+use Rattle.graph.specs.Graph.{Edge, answer}
+use Rattle.graph.specs.Lists.{pairs, sum, table}
+use Rattle.graph.specs.SmallGraph.{different, mostNodes, noEdge}
 use Rattle.tables.specs.OpenSet.{isOpen}
-use Rattle.timeline.specs.Area.{Area, OneDone, Replied, SmallArea, Sound, StepReady, Stepped, WindowDone, WindowReady, areaEdges}
-use Rattle.timeline.specs.declared.Sum.{Sum}
-use Rattle.timeline.specs.DemandThree.{Allowed}
-use Rattle.timeline.specs.Events.{Event, activeOf, after, afterAll, asks, closes, opens}
-use Rattle.timeline.specs.Replay.{byte}
-use Rattle.timeline.specs.Windows.{Timeline, Window, active, atStart, during, edgesOf, event, firstPart, network, openBefore, size, small, windowsFrom}
 use Rattle.timeline.proofs.Acceptance.{Good, fine-good, length-pairs}
 use Rattle.timeline.proofs.DemandThree.{small-is}
 use Rattle.timeline.proofs.Leaves.{alone, during-one}
 use Rattle.timeline.proofs.Networks.{after-append}
-use Rattle.timeline.proofs.StepLaws.{sound-fine, window-length}
-use Rattle.timeline.proofs.WindowLaws.{first-part, large-one, small-one}
+use Rattle.timeline.proofs.StepLaws.{active-length, sound-fine}
+use Rattle.timeline.proofs.WindowLaws.{large-one, small-one}
 use Rattle.timeline.proofs.WordLaws.{pairs-at, pairs-length, sets-two}
+use Rattle.timeline.specs.Area.{Area, OneDone, SmallArea, Sound, StepReady, Stepped, WindowDone, WindowReady, areaEdges}
+use Rattle.timeline.specs.DemandThree.{Allowed}
+use Rattle.timeline.specs.Events.{Event, activeOf, after, afterAll, closes, opens}
+use Rattle.timeline.specs.Replay.{byte}
+use Rattle.timeline.specs.Windows.{Timeline, Window, active, atStart, during, edgesOf, event, firstPart, network, openBefore, size, small, windowsFrom}
+use Rattle.timeline.specs.declared.Sum.{Sum}
 
 -- ---- lists of events
 pub sound-good : (g : Timeline) → Sound g → Good g
@@ -61,14 +57,9 @@ open-one g i l =
 most-less : (k n : ℕ) → k ≤ 2 * n → 0 < n → mostNodes k + 2 ≤ 4 * n
 most-less k n l p = onBool (ltb k 2) (λ t. let z = ltb-true k 2 t in rw t (omega arith)) (λ t. let z = ltb-false k 2 t in rw t (omega arith))
 
-active-few : (segs : List Edge) (evs : List Event) → length (activeOf segs evs) ≡ 2 * length evs
-unfolding activeOf
-active-few segs [] = refl
-active-few segs (e ∷ evs) = omega (arith, active-few segs evs)
-
 active-short : (g : Timeline) (at n : ℕ) → length (active g (at, n)) ≤ 2 * n
 unfolding active during
-active-short g at n = omega (arith, active-few (g .segments) (take n (drop at (g .events))), length-take n (drop at (g .events)))
+active-short g at n = omega (arith, active-length (g .segments) (take n (drop at (g .events))), length-take n (drop at (g .events)))
 
 module _ {g : Timeline} {at n nodes edges : ℕ} {v : List ℕ} (a : SmallArea g (at, n) nodes edges v) (some : 0 < n) where
   graph : SmallGraph (network g (at, n)) (active g (at, n)) nodes (areaEdges n edges v) (a .ρ) (a .σ)
@@ -157,8 +148,8 @@ module _ (p : ℕ) (a : Allowed p) where
 
 -- ---- what a step needs, and what it leaves
 -- the part that is lent: all from k on
-pub lent : (k j : ℕ) (z : List ℕ) → k + j ≤ length z → take j (take (length z - k) (drop k z)) ≡ take j (drop k z)
-lent k j z l = take-take j (length z - k) (drop k z) (omega arith)
+pub lent-take : (k j : ℕ) (z : List ℕ) → k + j ≤ length z → take j (take (length z - k) (drop k z)) ≡ take j (drop k z)
+lent-take k j z l = take-take j (length z - k) (drop k z) (omega arith)
 
 module _ {x y : List ℕ} {at n p nodes edges : ℕ} {held answers w : List ℕ} (r : WindowReady x y at n p nodes edges held answers w) where
   long : 10 * n ≤ length (take (10 * n) w)
@@ -194,7 +185,7 @@ module _ {x y : List ℕ} {at n p nodes edges : ℕ} {held answers w : List ℕ}
         g = r .g;
         events = r .events;
         sound = r .sound;
-        area = rw (lent (10 * n) (10 * c) z (omega (arith, r .room))) (t .made (r .g) (r .events) (r .sound) (rw g own));
+        area = rw (lent-take (10 * n) (10 * c) z (omega (arith, r .room))) (t .made (r .g) (r .events) (r .sound) (rw g own));
         some = s;
         much = omega (arith, r .much);
         share = r .share;
@@ -209,7 +200,7 @@ module _ {x y : List ℕ} {at n p nodes edges : ℕ} {held answers w : List ℕ}
   pub first-open : (c : ℕ) (w₁ mid : List ℕ) {k : Counts} {b : Sum} → c ≤ n → length w₁ ≡ length w → Stepped x y at n at c nodes edges w w₁ k
       → WindowDone x y at c p (k .nodes) (k .edges) (take (10 * c) (take (length w₁ - 10 * n) (drop (10 * n) w₁))) answers mid b → isOpen (b .held) ≡ openBefore (r .g) (at + c)
   first-open c w₁ mid l e t d =
-      d .replied (r .g) (r .events) (r .sound) (rw (lent (10 * n) (10 * c) w₁ (omega (arith, r .room))) (t .made (r .g) (r .events) (r .sound) own)) .held-open
+      d .replied (r .g) (r .events) (r .sound) (rw (lent-take (10 * n) (10 * c) w₁ (omega (arith, r .room))) (t .made (r .g) (r .events) (r .sound) own)) .held-open
 
   -- ---- a window of two parts
   pub done-two : 2 ≤ n → {w₁ w₂ w₃ mid last : List ℕ} {a d : Counts} {b e : Sum} (c : ℕ) → c ≡ firstPart p n
@@ -227,8 +218,8 @@ module _ {x y : List ℕ} {at n p nodes edges : ℕ} {held answers w : List ℕ}
         few = omega (arith, area-nodes (r .area) (r .some), i .few, j .few);
         replied = λ g h o z.
             let A = area-of z (r .some) long in
-            let u = i .replied g h o (rw (lent (10 * n) (10 * c) w₁ l₁) (s .made g h o A)) in
-            let v = j .replied g h o (rw (lent (10 * n) (10 * (n - c)) w₃ l₃) (t .made g h o (rw f A))) in
+            let u = i .replied g h o (rw (lent-take (10 * n) (10 * c) w₁ l₁) (s .made g h o A)) in
+            let v = j .replied g h o (rw (lent-take (10 * n) (10 * (n - c)) w₃ l₃) (t .made g h o (rw f A))) in
             record {
               answers = v .answers ∙ ap (λ m. sets m (at + c) (table (byte g) (at + c) (n - c))) (u .answers) ∙ sym (sets-two (byte g) answers at n c cn);
               kept = ap₂ (λ (a b : ℕ). a + b) (ap₂ (λ (a b : ℕ). a + b) (area-small z (r .some) o) (u .kept)) (v .kept) ∙ sym (sum-two p (r .share) (λ w. (small g w) .nodes) at n c l q);

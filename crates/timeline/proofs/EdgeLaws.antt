@@ -1,31 +1,28 @@
 -- Edges written one after another into the half-edges behind a front: one edge, the edges of an area copied, and the loop that copies them.
 -- Assumes nothing.
-use Prim.Native.Nat.{_*_, _+_, _-_, _/_, _<_, _≤_, suc, zero, ℕ}
-use mathlib.Core.Bool.{Bool, _&&_, _||_, and-false, cond, false, not, or-true, true}
-use mathlib.Core.List.{List, List·Memᴰ, List·Memᴰ·head, List·Memᴰ·tail, [], _++_, _∷_, append-assoc, map}
-use mathlib.Core.Logic.{_⊎_, inl, inr}
-use mathlib.Core.Path.{_∙_, _≡_, ap, ap₂, fun-ext, refl, subst, sym}
-use lib.Dec.{eqb, leb, ltb}
-use lib.ListN.{drop, drop-of-length-le, getD, length, length-append, length-drop, length-map, length-set, length-take, set, take}
-use lib.Seq.{drop-append-le, drop-at, drop-cons, drop-drop, drop-set-lt, getD-drop, getD-set-other, getD-set-same, getD-take, length-sets, length-take-le, sets, sets-eq, take-add, take-all, take-append-le, take-at, take-set-le, take-suc, take-take}
-use native.Mathlib.Nat.{add-zero, mul-le-mul-left}
+use Prim.Native.Nat.{_*_, _+_, _-_, _<_, _≤_, suc, zero, ℕ}
+use mathlib.Core.List.{List, [], _++_, _∷_}
+use mathlib.Core.Path.{_∙_, _≡_, ap, ap₂, refl, sym}
+use lib.Dec.{eqb}
+use lib.ListN.{drop, getD, length, length-drop, length-take, take}
+use lib.Seq.{getD-drop, getD-take, length-take-le, take-suc}
 use native.Mathlib.Numerals.{add-one}
 use native.Mathlib.Omega.{arith}
-use borrow.Author.Tests.{eq-eqb, eqb-false, eqb-true, le-ltb, lt-ltb, ltb-false, ltb-true, ne-eqb, not-false, not-true}
+use borrow.Author.Tests.{eqb-false, eqb-true}
 use borrow.Rule.Slice.PartMut.{putMid, same-len-mid, take-put}
-use Rattle.graph.proofs.Booleans.{and-elim, contradict, onBool, or-elim}
-use Rattle.graph.specs.Cut.{crosses, cut}
-use Rattle.graph.specs.Graph.{Edge, NodeSet}
-use Rattle.words.specs.Fields.{PutHalf, half, node}
 use Rattle.core.specs.Core.{edgesIn}
+use Rattle.graph.proofs.Booleans.{onBool}
 use Rattle.graph.proofs.Cuts.{cut-append}
 use Rattle.graph.proofs.Published.{same}
 use Rattle.graph.proofs.SmallGraphs.{low}
+use Rattle.graph.specs.Cut.{crosses, cut}
+use Rattle.graph.specs.Graph.{Edge, NodeSet}
 use Rattle.graph.specs.Lists.{pairs, table}
 use Rattle.timeline.proofs.WordLaws.{drop-back, front-get, take-whole}
 use Rattle.timeline.specs.Area.{areaEdges}
-use Rattle.timeline.specs.Load.{Copied, Edged, PutEdge}
+use Rattle.timeline.specs.Load.{Copied, EdgesReady, Edged, PutEdge}
 use Rattle.words.proofs.FieldLaws.{update-other, update-same}
+use Rattle.words.specs.Fields.{PutHalf, half, node}
 
 pub put-edge : (n j a b : ℕ) {w w₁ w₂ : List ℕ} → PutHalf n 0 (2 * j) a w w₁ → PutHalf n 0 (2 * j + 1) b w₁ w₂ → PutEdge n j a b w w₂
 put-edge n j a b {w} {w₁} {w₂} p q =
@@ -110,36 +107,33 @@ pub record Copying (e m s n : ℕ) (w z : List ℕ) (j : ℕ) : Type 0 where
   pub edged : Edged s n j w z
   pub same : (U : NodeSet) → cut U (edgesIn n j (drop s z)) ≡ cut U (areaEdges e j (take (10 * e) w))
 
-abbrev pub Needs : ℕ → ℕ → ℕ → ℕ → List ℕ → Type 0
-Needs e m s n w = (10 * e ≤ s) × (s + 16 * n + 4 * m ≤ length w) × (m ≤ 4 * e) × (e ≤ 4096) × (n ≤ 65536) × ((j : ℕ) → j < m → (getD w (2 * e + j) 0 < n) × (getD w (6 * e + j) 0 < n))
-
 pub copying-none : (e m s n : ℕ) (w : List ℕ) → Copying e m s n w w 0
 copying-none e m s n w = record { low = omega arith; long = refl; edged = record { front = refl; nodes = λ i t v u. refl; ends = λ h u. absurd (omega arith) }; same = λ U. refl }
 
-module _ {e m s n j : ℕ} {w z : List ℕ} (q : Needs e m s n w) (k : Copying e m s n w z j) (l : j < m) where
+module _ {e m s n j : ℕ} {w z : List ℕ} (q : EdgesReady e m s n w) (k : Copying e m s n w z j) (l : j < m) where
   reads : (i : ℕ) → i < 10 * e → getD z i 0 ≡ getD w i 0
-  reads i u = front-get s i w z (k .edged .front) (omega (arith, q .0))
+  reads i u = front-get s i w z (k .edged .front) (omega (arith, q .front))
 
   pub copying-ends : (getD z (2 * e + j) 0 < n) × (getD z (6 * e + j) 0 < n)
   copying-ends =
-      let r = q .5 j l in
-      (omega (arith, r .0, reads (2 * e + j) (omega (arith, q .2))), omega (arith, r .1, reads (6 * e + j) (omega (arith, q .2))))
+      let r = q .nodes j l in
+      (omega (arith, r .0, reads (2 * e + j) (omega (arith, q .few))), omega (arith, r .1, reads (6 * e + j) (omega (arith, q .few))))
 
   pub copying-need : (16 * n + 4 * j + 4 ≤ length (take (length z - s) (drop s z))) × (getD z (2 * e + j) 0 < n) × (getD z (6 * e + j) 0 < n) × (n ≤ 65536) × (j < 32768)
-  copying-need = (rw (length-take, length-drop) (omega (arith, q .1, k .long)), copying-ends .0, copying-ends .1, q .4, omega (arith, q .2, q .3))
+  copying-need = (rw (length-take, length-drop) (omega (arith, q .room, k .long)), copying-ends .0, copying-ends .1, q .many, omega (arith, q .few, q .much))
 
   pub copying-more : (zs : List ℕ) → PutEdge n j (getD z (2 * e + j) 0) (getD z (6 * e + j) 0) (take (length z - s) (drop s z)) zs → Copying e m s n w (putMid s (length z - s) z zs) (j + 1)
   copying-more zs p =
-      let f : s ≤ length z = omega (arith, q .1, k .long) in
+      let f : s ≤ length z = omega (arith, q .room, k .long) in
       record {
         low = omega arith;
         long = same-len-mid s (length z - s) z zs (p .same) ∙ k .long;
         edged = edged-more (k .edged) p f (copying-ends .0) (copying-ends .1);
         same = λ U.
             let v = take (10 * e) w in
-            let c = copied-more U e j v (rw length-take (omega (arith, q .0, q .1))) (omega (arith, q .2)) in
-            let r1 : getD z (2 * e + j) 0 ≡ getD v (2 * e + j) 0 = reads (2 * e + j) (omega (arith, q .2)) ∙ sym (getD-take (10 * e) w (2 * e + j) 0 (omega (arith, q .2))) in
-            let r2 : getD z (6 * e + j) 0 ≡ getD v (6 * e + j) 0 = reads (6 * e + j) (omega (arith, q .2)) ∙ sym (getD-take (10 * e) w (6 * e + j) 0 (omega (arith, q .2))) in
+            let c = copied-more U e j v (rw length-take (omega (arith, q .front, q .room))) (omega (arith, q .few)) in
+            let r1 : getD z (2 * e + j) 0 ≡ getD v (2 * e + j) 0 = reads (2 * e + j) (omega (arith, q .few)) ∙ sym (getD-take (10 * e) w (2 * e + j) 0 (omega (arith, q .few))) in
+            let r2 : getD z (6 * e + j) 0 ≡ getD v (6 * e + j) 0 = reads (6 * e + j) (omega (arith, q .few)) ∙ sym (getD-take (10 * e) w (6 * e + j) 0 (omega (arith, q .few))) in
             omega (arith, edges-more (k .edged) p f U, k .same U, c, ap₂ (λ x y. crosses (U x) (U y)) r1 r2);
       }
 

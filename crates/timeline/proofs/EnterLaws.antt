@@ -1,28 +1,26 @@
 -- Active nodes entered one after another: the list of first appearances with one more node, one node entered, the loop over the listed nodes, and the marks cleared first.
 -- Assumes nothing.
-use Prim.Native.Nat.{_*_, _+_, _-_, _/_, _<_, _≤_, suc, zero, ℕ}
-use mathlib.Core.Bool.{Bool, _&&_, _||_, and-false, cond, false, not, or-true, true}
-use mathlib.Core.List.{List, List·Memᴰ, List·Memᴰ·head, List·Memᴰ·tail, [], _++_, _∷_, append-assoc, map}
+use Prim.Native.Nat.{_*_, _+_, _-_, _<_, _≤_, suc, zero, ℕ}
+use mathlib.Core.Bool.{Bool, _&&_, cond, false, not, true}
+use mathlib.Core.List.{List, List·Memᴰ, List·Memᴰ·head, List·Memᴰ·tail, [], _++_, _∷_}
 use mathlib.Core.Logic.{_⊎_, inl, inr}
 use mathlib.Core.Path.{_∙_, _≡_, ap, ap₂, fun-ext, refl, subst, sym}
-use lib.Dec.{eqb, leb, ltb}
-use lib.ListN.{drop, drop-of-length-le, getD, length, length-append, length-drop, length-map, length-set, length-take, set, take}
-use lib.Seq.{drop-append-le, drop-at, drop-cons, drop-drop, drop-set-lt, getD-drop, getD-set-other, getD-set-same, getD-take, length-sets, length-take-le, sets, sets-eq, take-add, take-all, take-append-le, take-at, take-set-le, take-suc, take-take}
-use native.Mathlib.Nat.{add-zero, mul-le-mul-left}
+use lib.Dec.{eqb, ltb}
+use lib.ListN.{drop, getD, length, length-drop, length-take, take}
+use lib.Seq.{getD-drop, take-suc}
 use native.Mathlib.Numerals.{add-one}
 use native.Mathlib.Omega.{arith}
-use borrow.Author.Tests.{eq-eqb, eqb-false, eqb-true, le-ltb, lt-ltb, ltb-false, ltb-true, ne-eqb, not-false, not-true}
+use borrow.Author.Tests.{eq-eqb, eqb-false, eqb-true, ltb-false, ltb-true, ne-eqb}
 use borrow.Rule.Slice.PartMut.{putMid, same-len-mid, take-put}
 use Rattle.graph.proofs.ActiveLists.{filter-twice, in-firsts}
-use Rattle.graph.proofs.Booleans.{and-elim, contradict, onBool, or-elim}
-use Rattle.graph.specs.Cut.{crosses, cut}
-use Rattle.graph.specs.Graph.{Edge, NodeSet}
-use Rattle.words.specs.Fields.{Put, half, node, update}
-use Rattle.graph.proofs.Lists.{firsts-cover, firsts-in, table-in, table-mem}
+use Rattle.graph.proofs.Booleans.{onBool}
+use Rattle.graph.proofs.Lists.{firsts-in, table-in, table-mem}
+use Rattle.graph.specs.Cut.{cut}
 use Rattle.graph.specs.Lists.{filter, firsts, table}
 use Rattle.timeline.proofs.WordLaws.{drop-back, front-get, mid-less, table-append, table-ext, take-whole}
-use Rattle.timeline.specs.Load.{Actives, Cleared, Entered, Enters}
+use Rattle.timeline.specs.Load.{ActiveReady, Actives, Cleared, Entered, Enters}
 use Rattle.words.proofs.FieldLaws.{update-at, update-other, update-same}
+use Rattle.words.specs.Fields.{Put, node, update}
 
 filter-append : (f : ℕ → Bool) (xs ys : List ℕ) → filter f (xs ++ ys) ≡ filter f xs ++ filter f ys
 filter-append f [] ys = refl
@@ -178,7 +176,7 @@ pub record Entering (from count s n : ℕ) (w z : List ℕ) (k i : ℕ) : Type 0
   pub entered : Entered n k (take i (drop from w)) (drop s z)
 
 abbrev pub Needs : ℕ → ℕ → ℕ → ℕ → List ℕ → Type 0
-Needs from count s n w = (from + count ≤ s) × (s + 16 * n ≤ length w) × (n ≤ 65536) × ((i : ℕ) → i < count → getD w (from + i) 0 < n) × Cleared n (drop s w)
+Needs from count s n w = ActiveReady from count s n w × Cleared n (drop s w)
 
 pub entering-none : (from count s n : ℕ) (w : List ℕ) → Needs from count s n w → Entering from count s n w w 0 0
 entering-none from count s n w q =
@@ -186,30 +184,30 @@ entering-none from count s n w q =
       low = omega arith;
       long = refl;
       front = refl;
-      entered = record { list = refl; few = omega arith; low = λ i l. absurd (omega arith); marked = λ i l. absurd (omega arith); marks = λ v l p. absurd (omega (arith, q .4 .none v l)) };
+      entered = record { list = refl; few = omega arith; low = λ i l. absurd (omega arith); marked = λ i l. absurd (omega arith); marks = λ v l p. absurd (omega (arith, q .1 .none v l)) };
     }
 
 module _ {from count s n k i : ℕ} {w z : List ℕ} (q : Needs from count s n w) (e : Entering from count s n w z k i) (l : i < count) where
   pub reads : getD z (from + i) 0 ≡ getD w (from + i) 0
-  reads = front-get s (from + i) w z (e .front) (omega (arith, q .0))
+  reads = front-get s (from + i) w z (e .front) (omega (arith, q .0 .front))
 
   pub entering-need : Enters n k (getD z (from + i) 0) (take (length z - s) (drop s z))
   entering-need =
       record {
         T = take i (drop from w);
         entered = rw take-whole (e .entered);
-        low = rw reads (q .3 i l);
-        room = rw (length-take, length-drop) (omega (arith, q .1, e .long));
-        few = q .2;
+        low = rw reads (q .0 .nodes i l);
+        room = rw (length-take, length-drop) (omega (arith, q .0 .room, e .long));
+        few = q .0 .many;
       }
 
   pub entering-more : (r : ℕ) (zs : List ℕ) → length zs ≡ length (take (length z - s) (drop s z))
       → ((T : List ℕ) → Entered n k T (take (length z - s) (drop s z)) → Entered n r (T ++ (getD z (from + i) 0 ∷ [])) zs)
       → Entering from count s n w (putMid s (length z - s) z zs) r (i + 1)
   entering-more r zs u f =
-      let h : s ≤ length z = omega (arith, q .1, e .long) in
+      let h : s ≤ length z = omega (arith, q .0 .room, e .long) in
       let t : take i (drop from w) ++ (getD z (from + i) 0 ∷ []) ≡ take (i + 1) (drop from w) =
-      ap (λ y. take i (drop from w) ++ (y ∷ [])) (reads ∙ sym (getD-drop from w i 0)) ∙ sym (ap (λ y. take y (drop from w)) (add-one i) ∙ take-suc (drop from w) i 0 (rw length-drop (omega (arith, q .0, q .1)))) in
+      ap (λ y. take i (drop from w) ++ (y ∷ [])) (reads ∙ sym (getD-drop from w i 0)) ∙ sym (ap (λ y. take y (drop from w)) (add-one i) ∙ take-suc (drop from w) i 0 (rw length-drop (omega (arith, q .0 .front, q .0 .room)))) in
       record {
         low = omega arith;
         long = same-len-mid s (length z - s) z zs u ∙ e .long;
@@ -239,9 +237,11 @@ clearing-more {n} {v} {w} {z} k l p =
     record { low = omega arith; long = p .same ∙ k .long; none = rw (p .here) (update-at (λ u a. u < v + 1 → a ≡ 0) (node 0 z) v 0 (λ _. refl) (λ u ne b. k .none u (omega arith))) }
 
 -- after clearing, nothing is entered
-pub clear-need : (from count s n : ℕ) (w zs : List ℕ) → (from + count ≤ s) × (s + 16 * n ≤ length w) × (n ≤ 65536) × ((i : ℕ) → i < count → getD w (from + i) 0 < n)
+pub clear-need : (from count s n : ℕ) (w zs : List ℕ) → ActiveReady from count s n w
     → length zs ≡ length (take (length w - s) (drop s w)) → Cleared n zs → Needs from count s n (putMid s (length w - s) w zs)
 clear-need from count s n w zs q u c =
     let h : s ≤ length w = omega arith in
-    let lc = same-len-mid s (length w - s) w zs u in
-    (q .0, omega (arith, lc), q .2, λ i l. rw (front-get s (from + i) w (putMid s (length w - s) w zs) (take-put s (length w - s) w zs h) (omega arith)) (q .3 i l), rw (drop-back s w zs h) c)
+    let lc = same-len-mid s (length w - s) w zs u in (
+      record { front = q .front; room = omega (arith, lc, q .room); many = q .many; nodes = λ i l. rw (front-get s (from + i) w (putMid s (length w - s) w zs) (take-put s (length w - s) w zs h) (omega arith)) (q .nodes i l) },
+      rw (drop-back s w zs h) c,
+    )

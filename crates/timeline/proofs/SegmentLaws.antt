@@ -1,30 +1,24 @@
 -- Laws of sets of segments in words: one segment entered, taken out or left as an event says; no segment at the start; and the names of a list of events entered one by one.
 -- Assumes nothing.
-use Prim.Native.Nat.{_*_, _+_, _-_, _/_, _<_, _≤_, suc, zero, ℕ}
-use mathlib.Core.Bool.{Bool, _&&_, _||_, and-false, cond, false, not, or-true, true}
-use mathlib.Core.List.{List, List·Memᴰ, List·Memᴰ·head, List·Memᴰ·tail, [], _++_, _∷_, append-assoc, map}
-use mathlib.Core.Logic.{_⊎_, inl, inr}
-use mathlib.Core.Path.{_∙_, _≡_, ap, ap₂, fun-ext, refl, subst, sym}
-use lib.Dec.{eqb, leb, ltb}
-use lib.ListN.{drop, drop-of-length-le, getD, length, length-append, length-drop, length-map, length-set, length-take, replicate, set, take}
-use lib.Seq.{drop-append-le, drop-at, drop-cons, drop-drop, drop-set-lt, getD-drop, getD-set-other, getD-set-same, getD-take, length-sets, length-take-le, sets, sets-eq, take-add, take-all, take-append-le, take-at, take-set-le, take-suc, take-take}
-use native.Mathlib.Nat.{add-zero, mul-le-mul-left}
+use Prim.Native.Nat.{_*_, _+_, _-_, _<_, suc, zero, ℕ}
+use mathlib.Core.Bool.{Bool, _&&_, _||_, cond, false, true}
+use mathlib.Core.List.{List, [], _++_, _∷_}
+use mathlib.Core.Path.{_∙_, _≡_, ap, fun-ext, refl, sym}
+use lib.Dec.{eqb}
+use lib.ListN.{drop, getD, length, length-append, length-drop, length-set, replicate, set, take}
+use lib.Seq.{getD-drop, getD-set-other, getD-set-same, take-suc}
 use native.Mathlib.Numerals.{add-one}
 use native.Mathlib.Omega.{arith}
-use borrow.Author.Tests.{eq-eqb, eqb-false, eqb-true, le-ltb, lt-ltb, ltb-false, ltb-true, ne-eqb, not-false, not-true}
-use borrow.Rule.Slice.PartMut.{putMid, same-len-mid, take-put}
-use Rattle.graph.proofs.Booleans.{and-elim, contradict, onBool, or-elim}
-use Rattle.graph.specs.Cut.{crosses, cut}
-use Rattle.graph.specs.Graph.{Edge, NodeSet}
-use Rattle.words.specs.Fields.{half, node}
-use Rattle.tables.specs.OpenSet.{bits, digits, isOpen}
+use borrow.Author.Tests.{eqb-false, eqb-true}
+use Rattle.graph.proofs.Booleans.{onBool}
+use Rattle.graph.specs.Lists.{pairs}
 use Rattle.tables.proofs.OpenSetLaws.{length-digits}
-use Rattle.timeline.specs.Events.{Event, after, named, names}
-use Rattle.timeline.specs.Windows.{atStart}
-use Rattle.timeline.specs.Load.{more}
+use Rattle.tables.specs.OpenSet.{bits, digits, isOpen}
 use Rattle.timeline.proofs.EventLaws.{named-append}
 use Rattle.timeline.proofs.WordLaws.{pairs-at, pairs-length}
-use Rattle.graph.specs.Lists.{pairs}
+use Rattle.timeline.specs.Events.{Event, after, named, names}
+use Rattle.timeline.specs.Load.{more}
+use Rattle.timeline.specs.Windows.{atStart}
 
 bits-length : (ws : List ℕ) → length (bits ws) ≡ 64 * length ws
 unfolding bits

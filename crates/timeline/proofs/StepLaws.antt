@@ -1,25 +1,20 @@
 -- The step: from the contraction of a window's graph with the added segments to the small graph of the part, and what the pieces of a step leave in the words.
 -- In order: the words of a part; the small graph; what each piece needs; all pieces together.
 -- Assumes nothing.
-use Prim.Native.Nat.{_*_, _+_, _-_, _/_, _<_, _≤_, suc, zero, ℕ}
-use mathlib.Core.Bool.{Bool, _&&_, _||_, and-false, cond, false, not, or-true, true}
-use mathlib.Core.List.{List, List·Memᴰ, List·Memᴰ·head, List·Memᴰ·tail, [], _++_, _∷_, append-assoc, map}
-use mathlib.Core.Logic.{_⊎_, inl, inr}
-use mathlib.Core.Path.{_∙_, _≡_, ap, ap₂, fun-ext, refl, subst, sym}
-use lib.Dec.{eqb, leb, ltb}
-use lib.ListN.{drop, drop-of-length-le, getD, length, length-append, length-drop, length-map, length-set, length-take, set, take}
-use lib.Seq.{drop-append-le, drop-at, drop-cons, drop-drop, drop-set-lt, getD-drop, getD-set-other, getD-set-same, getD-take, length-sets, length-take-le, sets, sets-eq, take-add, take-all, take-append-le, take-at, take-set-le, take-suc, take-take}
-use native.Mathlib.Nat.{add-zero, mul-le-mul-left}
-use native.Mathlib.Numerals.{add-one}
+use Prim.Native.Nat.{_*_, _+_, _-_, _<_, _≤_, suc, zero, ℕ}
+use mathlib.Core.Bool.{Bool, _||_, true}
+use mathlib.Core.List.{List, List·Memᴰ, [], _++_, _∷_, map}
+use mathlib.Core.Path.{_∙_, _≡_, ap, ap₂, refl, subst, sym}
+use lib.Dec.{eqb, ltb}
+use lib.ListN.{drop, getD, length, length-drop, length-map, length-take, take}
+use lib.Seq.{drop-drop, getD-drop, getD-take, length-sets, length-take-le, sets, take-take}
 use native.Mathlib.Omega.{arith}
-use borrow.Author.Tests.{eq-eqb, eqb-false, eqb-true, le-ltb, lt-ltb, ltb-false, ltb-true, ne-eqb, not-false, not-true}
+use borrow.Author.Tests.{ltb-true}
 use borrow.Rule.Slice.PartMut.{putMid, same-len-mid, take-put}
-use Rattle.graph.proofs.Booleans.{and-elim, contradict, onBool, or-elim}
-use Rattle.graph.specs.Cut.{crosses, cut}
-use Rattle.graph.specs.Graph.{Edge, NodeSet}
-use Rattle.words.specs.Fields.{half, node}
-use Rattle.graph.proofs.Cuts.{cut-append}
+use Rattle.core.specs.Core.{Loaded, Reduced, activeIn, edgesIn, edgesOut}
+use Rattle.core.specs.declared.Counts.{Counts}
 use Rattle.graph.proofs.CutEquivalence.{small-cuts-equal}
+use Rattle.graph.proofs.Cuts.{cut-append}
 use Rattle.graph.proofs.EdgeCount.{firsts-most, mostNodes-double, small-edges-most}
 use Rattle.graph.proofs.Ends.{endsIn-at}
 use Rattle.graph.proofs.Lists.{map-twice, table-length, table-mem}
@@ -27,20 +22,21 @@ use Rattle.graph.proofs.ActiveLists.{in-firsts, small-repeats}
 use Rattle.graph.proofs.SmallGraphDefinition.{definition-small, small-definition}
 use Rattle.graph.proofs.SmallGraphs.{SmallGraph}
 use Rattle.graph.proofs.Uniqueness.{small-bound}
+use Rattle.graph.specs.Cut.{cut}
+use Rattle.graph.specs.Graph.{Edge, NodeSet}
 use Rattle.graph.specs.Lists.{firsts, pairs, table}
-use Rattle.graph.specs.SmallGraph.{IsSmallGraph, image}
-use Rattle.core.specs.Core.{Loaded, Reduced, activeIn, edgesIn, edgesOut}
-use Rattle.core.specs.declared.Counts.{Counts}
+use Rattle.graph.specs.SmallGraph.{image}
 use Rattle.tables.specs.OpenSet.{isOpen}
+use Rattle.timeline.proofs.Acceptance.{Fine, fault-fine}
+use Rattle.timeline.proofs.AddingLaws.{adds-cut}
+use Rattle.timeline.proofs.Networks.{middle, part-small}
+use Rattle.timeline.proofs.WordLaws.{drop-back, drop-sets, front-get, low-map, map-ext, mid-before, mid-less, mid-sets, pairs-at, pairs-length, mid-take, table-ext, take-less, take-sets, take-whole}
 use Rattle.timeline.specs.Area.{Area, SmallArea, Sound, StepReady, Stepped, areaEdges}
 use Rattle.timeline.specs.Events.{Event, activeOf, afterAll, closes, ends, named, opens}
-use Rattle.timeline.specs.Load.{Actives, Added, Copied, Edged, Entered, adds}
+use Rattle.timeline.specs.Load.{ActiveReady, Actives, AddReady, Added, Copied, EdgesReady, NamesSegments, adds}
 use Rattle.timeline.specs.Steps.{Part, added}
 use Rattle.timeline.specs.Windows.{Timeline, active, atStart, during, event, openBefore, size}
-use Rattle.timeline.proofs.Acceptance.{Fine, fault-fine}
-use Rattle.timeline.proofs.AddingLaws.{adds-d}
-use Rattle.timeline.proofs.Networks.{middle, part-small}
-use Rattle.timeline.proofs.WordLaws.{drop-back, drop-sets, front-get, low-map, map-ext, mid-before, mid-less, mid-sets, pairs-at, pairs-length, pairs-mem, sub, table-ext, take-less, take-sets, take-whole}
+use Rattle.words.specs.Fields.{half, node}
 
 -- ---- the words of a part
 drop-active : (segs : List Edge) (σ : ℕ → ℕ) (k : ℕ) (evs : List Event) → drop (2 * k) (map σ (activeOf segs evs)) ≡ map σ (activeOf segs (drop k evs))
@@ -55,7 +51,7 @@ take-active segs σ zero evs = refl
 take-active segs σ (suc k) [] = let q : 2 * suc k ≡ suc (suc (2 * k)) = omega arith in rw q refl
 take-active segs σ (suc k) (e ∷ evs) = let q : 2 * suc k ≡ suc (suc (2 * k)) = omega arith in rw q (ap (λ l. σ (ends segs e .0) ∷ σ (ends segs e .1) ∷ l) (take-active segs σ k evs))
 
-active-length : (segs : List Edge) (evs : List Event) → length (activeOf segs evs) ≡ 2 * length evs
+pub active-length : (segs : List Edge) (evs : List Event) → length (activeOf segs evs) ≡ 2 * length evs
 unfolding activeOf
 active-length segs [] = refl
 active-length segs (e ∷ evs) = omega (arith, active-length segs evs)
@@ -83,7 +79,7 @@ module _ (g : Timeline) (at n lo c : ℕ) (a : at ≤ lo) (b : lo + c ≤ at + n
       → cut U (adds (named (during g (lo, c))) (openBefore g lo) (during g (at, n)) (map σ (active g (at, n)))) ≡ cut U (image σ (added g (at, n) (lo, c)))
   unfolding active added during
   adds-added s l σ U =
-      adds-d (g .segments) σ (openBefore g lo) U (during g (at, n)) (named (during g (lo, c))) λ i k t.
+      adds-cut (g .segments) σ (openBefore g lo) U (during g (at, n)) (named (during g (lo, c))) λ i k t.
       let u : i < n = omega (arith, length-take n (drop at (g .events)), length-drop at (g .events)) in
       let e : getD (take n (drop at (g .events))) i (0, 0) ≡ event g (at + i) = getD-take n (drop at (g .events)) i (0, 0) u ∙ getD-drop at (g .events) i (0, 0) in
       subst (λ (v : Event). v .1 < length (g .segments)) (sym e) (sound-fine g s (at + i) (omega arith) .segment (ap (λ (v : Event). opens v || closes v) (sym e) ∙ t))
@@ -166,47 +162,53 @@ module _ {x y : List ℕ} {at n lo c nodes edges₀ : ℕ} {held w : List ℕ} (
         subst (λ (k : ℕ). k < nodes) (ap (λ (k : Edge). k .1) e ∙ e2) (ltb-true _ nodes q),
       )
 
-  names : (i : ℕ) → i < n → (eqb (getD x (at + i) 0) 65535 || eqb (getD x (at + i) 0) 65534) ≡ true → getD y (at + i) 0 < 8192
+  names : NamesSegments x y at n
   names i l t =
       let e : event (st .g) (at + i) ≡ (getD x (at + i) 0, getD y (at + i) 0) = ap (λ k. getD k (at + i) (0, 0)) (st .events) ∙ pairs-at x y (at + i) (omega (arith, st .long-x)) (omega (arith, st .long-y)) in
       let f = sound-fine (st .g) (st .sound) (at + i) (omega (arith, inside)) .segment (ap (λ (k : Event). opens k || closes k) e ∙ t) in
       omega (arith, f, ap (λ (k : Event). k .1) e, st .sound .segments-few)
 
-  pub need-active : (2 * (lo - at) + 2 * c ≤ 10 * n + 10 * c) × (10 * n + 10 * c + 16 * nodes ≤ length w) × (nodes ≤ 65536) × ((i : ℕ) → i < 2 * c → getD w (2 * (lo - at) + i) 0 < nodes)
-  need-active = (omega (arith, st .starts, st .ends), omega (arith, st .room), st .many, λ i l. words-low (2 * (lo - at) + i) (omega (arith, st .starts, st .ends)))
+  pub need-active : ActiveReady (2 * (lo - at)) (2 * c) (10 * n + 10 * c) nodes w
+  need-active =
+      record {
+        front = omega (arith, st .starts, st .ends);
+        room = omega (arith, st .room);
+        many = st .many;
+        nodes = λ i l. words-low (2 * (lo - at) + i) (omega (arith, st .starts, st .ends));
+      }
 
-  pub need-edges : (z : List ℕ) → take (10 * n + 10 * c) z ≡ take (10 * n + 10 * c) w → length z ≡ length w
-      → (10 * n ≤ 10 * n + 10 * c) × (10 * n + 10 * c + 16 * nodes + 4 * edges₀ ≤ length z) × (edges₀ ≤ 4 * n) × (n ≤ 4096) × (nodes ≤ 65536) × ((j : ℕ) → j < edges₀ → (getD z (2 * n + j) 0 < nodes) × (getD z (6 * n + j) 0 < nodes))
-  need-edges z f e = (
-    omega arith,
-    omega (arith, st .room),
-    st .area .few,
-    st .much,
-    st .many,
-    λ j l. let q = edges-low j l in (
-      omega (arith, q .0, front-get (10 * n + 10 * c) (2 * n + j) w z f (omega (arith, st .area .few))),
-      omega (arith, q .1, front-get (10 * n + 10 * c) (6 * n + j) w z f (omega (arith, st .area .few))),
-    ),
-  )
+  pub need-edges : (z : List ℕ) → take (10 * n + 10 * c) z ≡ take (10 * n + 10 * c) w → length z ≡ length w → EdgesReady n edges₀ (10 * n + 10 * c) nodes z
+  need-edges z f e =
+      record {
+        front = omega arith;
+        room = omega (arith, st .room);
+        few = st .area .few;
+        much = st .much;
+        many = st .many;
+        nodes = λ j l. let q = edges-low j l in (
+          omega (arith, q .0, front-get (10 * n + 10 * c) (2 * n + j) w z f (omega (arith, st .area .few))),
+          omega (arith, q .1, front-get (10 * n + 10 * c) (6 * n + j) w z f (omega (arith, st .area .few))),
+        );
+      }
 
   pub need-added : (z : List ℕ) → take (10 * n + 10 * c) z ≡ take (10 * n + 10 * c) w → length z ≡ length w → ((h : ℕ) → h < 2 * edges₀ → half nodes 0 (drop (10 * n + 10 * c) z) h < nodes) → length held ≡ 128
-      → (2 * n ≤ 10 * n + 10 * c) × (10 * n + 10 * c + 16 * nodes + 4 * (edges₀ + n) ≤ length z) × (n ≤ 4096) × (edges₀ ≤ 4 * n) × (nodes ≤ 65536) × (at + n ≤ length x) × (at + n ≤ length y) × (at ≤ lo) × (lo + c ≤ at + n) × (length held ≡ 128)
-      × ((i : ℕ) → i < 2 * n → getD z i 0 < nodes) × ((h : ℕ) → h < 2 * edges₀ → half nodes 0 (drop (10 * n + 10 * c) z) h < nodes)
-      × ((i : ℕ) → i < n → (eqb (getD x (at + i) 0) 65535 || eqb (getD x (at + i) 0) 65534) ≡ true → getD y (at + i) 0 < 8192)
+      → AddReady x y at n (10 * n + 10 * c) nodes edges₀ z × (length held ≡ 128) × (at ≤ lo) × (lo + c ≤ at + n)
   need-added z f e g k = (
-    omega arith,
-    omega (arith, st .room),
-    st .much,
-    st .area .few,
-    st .many,
-    st .long-x,
-    st .long-y,
+    record {
+      front = omega arith;
+      room = omega (arith, st .room);
+      few = st .area .few;
+      much = st .much;
+      many = st .many;
+      long-x = st .long-x;
+      long-y = st .long-y;
+      nodes = λ i l. omega (arith, words-low i l, front-get (10 * n + 10 * c) i w z f (omega arith));
+      ends = g;
+      segments = names;
+    },
+    k,
     st .starts,
     st .ends,
-    k,
-    λ i l. omega (arith, words-low i l, front-get (10 * n + 10 * c) i w z f (omega arith)),
-    g,
-    names,
   )
 
   pub need-map : (z : List ℕ) → take (10 * n + 10 * c) z ≡ take (10 * n + 10 * c) w → length z ≡ length w
@@ -323,7 +325,7 @@ module _ {x y : List ℕ} {at n lo c nodes edges₀ : ℕ} {held w : List ℕ} (
 
       -- what stands from 10 n + i on
       at-z : (i j : ℕ) → i + j ≤ 10 * c → take j (drop i z) ≡ take j (drop (10 * n + i) w₇)
-      at-z i j h = sub i j (10 * c) (drop (10 * n) w₇) h enough ∙ ap (take j) (drop-drop i (10 * n) w₇)
+      at-z i j h = mid-take i j (10 * c) (drop (10 * n) w₇) h enough ∙ ap (take j) (drop-drop i (10 * n) w₇)
 
       places : take (2 * c) z ≡ map (node 0 zs) T
       places =
@@ -357,7 +359,7 @@ module _ {x y : List ℕ} {at n lo c nodes edges₀ : ℕ} {held w : List ℕ} (
       T-v : take (2 * c) (drop (2 * (lo - at)) (take (2 * n) v)) ≡ T
       T-v =
           ap (λ l. take (2 * c) (drop (2 * (lo - at)) l)) (take-take (2 * n) (10 * n) w (omega arith))
-          ∙ sub (2 * (lo - at)) (2 * c) (2 * n) w (omega (arith, st .starts, st .ends)) (omega (arith, st .room))
+          ∙ mid-take (2 * (lo - at)) (2 * c) (2 * n) w (omega (arith, st .starts, st .ends)) (omega (arith, st .room))
 
       numbers : (t : ℕ) → List·Memᴰ t T → node 0 zs t ≡ K .σ t
       numbers t p =

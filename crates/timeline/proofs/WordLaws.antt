@@ -1,25 +1,17 @@
 -- Laws of words that are written in order, of a front that stays, and of parts of lists.
 -- In order: tables of values; runs of stores; fronts and backs of a list of words; fields written from behind the front.
 -- Assumes nothing.
-use Prim.Native.Nat.{_*_, _+_, _-_, _/_, _<_, _≤_, suc, zero, ℕ}
-use mathlib.Core.Bool.{Bool, _&&_, _||_, and-false, cond, false, not, or-true, true}
+use Prim.Native.Nat.{_*_, _+_, _-_, _<_, _≤_, suc, zero, ℕ}
 use mathlib.Core.List.{List, List·Memᴰ, List·Memᴰ·head, List·Memᴰ·tail, [], _++_, _∷_, append-assoc, map}
-use mathlib.Core.Logic.{_⊎_, inl, inr}
-use mathlib.Core.Path.{_∙_, _≡_, ap, ap₂, fun-ext, refl, subst, sym}
-use lib.Dec.{eqb, leb, ltb}
-use lib.ListN.{drop, drop-of-length-le, getD, length, length-append, length-drop, length-map, length-set, length-take, set, take}
-use lib.Seq.{drop-append-le, drop-at, drop-cons, drop-drop, drop-set-lt, getD-drop, getD-set-other, getD-set-same, getD-take, length-sets, length-take-le, sets, sets-eq, take-add, take-all, take-append-le, take-at, take-set-le, take-suc, take-take}
-use native.Mathlib.Nat.{add-zero, mul-le-mul-left}
-use native.Mathlib.Numerals.{add-one}
+use mathlib.Core.Path.{_∙_, _≡_, ap, ap₂, refl, sym}
+use lib.ListN.{drop, drop-of-length-le, getD, length, length-drop, length-take, set, take}
+use lib.Seq.{drop-at, drop-cons, drop-set-lt, getD-drop, getD-set-other, getD-take, length-sets, length-take-le, sets, sets-eq, take-add, take-all, take-at, take-set-le, take-take}
+use native.Mathlib.Nat.{add-zero}
 use native.Mathlib.Omega.{arith}
-use borrow.Author.Tests.{eq-eqb, eqb-false, eqb-true, le-ltb, lt-ltb, ltb-false, ltb-true, ne-eqb, not-false, not-true}
-use borrow.Rule.Slice.PartMut.{putMid, same-len-mid, take-put}
-use Rattle.graph.proofs.Booleans.{and-elim, contradict, onBool, or-elim}
-use Rattle.graph.specs.Cut.{crosses, cut}
-use Rattle.graph.specs.Graph.{Edge, NodeSet}
-use Rattle.words.specs.Fields.{half, node}
+use borrow.Rule.Slice.PartMut.{putMid}
 use Rattle.graph.proofs.Lists.{table-length}
 use Rattle.graph.specs.Lists.{pairs, table}
+use Rattle.words.specs.Fields.{node}
 
 pub sets-append : (xs l : List ℕ) (i : ℕ) (ys : List ℕ) → sets l i (xs ++ ys) ≡ sets (sets l i xs) (i + length xs) ys
 sets-append [] l i ys = rw add-zero refl
@@ -68,11 +60,11 @@ mid-sets vs l q h =
     ∙ take-at vs (drop (q + length vs) l) (length vs) refl
 
 -- what lies between is as it was
-pub middle : (i k : ℕ) (l : List ℕ) → i ≤ length l → take k (drop i l) ≡ drop i (take (i + k) l)
-middle i k l h = sym (ap (drop i) (take-add i k l) ∙ drop-at (take i l) (take k (drop i l)) i (length-take-le i l h))
+pub mid-drop : (i k : ℕ) (l : List ℕ) → i ≤ length l → take k (drop i l) ≡ drop i (take (i + k) l)
+mid-drop i k l h = sym (ap (drop i) (take-add i k l) ∙ drop-at (take i l) (take k (drop i l)) i (length-take-le i l h))
 
 pub mid-before : (vs l : List ℕ) (q i k : ℕ) → i + k ≤ q → i ≤ length l → take k (drop i (sets l q vs)) ≡ take k (drop i l)
-mid-before vs l q i k h b = middle i k (sets l q vs) (rw length-sets b) ∙ ap (drop i) (take-sets vs l q (i + k) h) ∙ sym (middle i k l b)
+mid-before vs l q i k h b = mid-drop i k (sets l q vs) (rw length-sets b) ∙ ap (drop i) (take-sets vs l q (i + k) h) ∙ sym (mid-drop i k l b)
 
 -- a field read behind the front, when words of the front were written
 pub field-after : (k s i q : ℕ) (vs l : List ℕ) → q + length vs ≤ s → getD (sets l q vs) (s + 16 * i + k) 0 ≡ node k (drop s l) i
@@ -123,7 +115,7 @@ pub take-less : (k s : ℕ) (w z : List ℕ) → k ≤ s → take s z ≡ take s
 take-less k s w z l e = sym (take-take k s z l) ∙ ap (take k) e ∙ take-take k s w l
 
 pub mid-less : (i k s : ℕ) (w z : List ℕ) → i + k ≤ s → i ≤ length z → i ≤ length w → take s z ≡ take s w → take k (drop i z) ≡ take k (drop i w)
-mid-less i k s w z l a b e = middle i k z a ∙ ap (drop i) (take-less (i + k) s w z l e) ∙ sym (middle i k w b)
+mid-less i k s w z l a b e = mid-drop i k z a ∙ ap (drop i) (take-less (i + k) s w z l e) ∙ sym (mid-drop i k w b)
 
 pub take-whole : (s : ℕ) (w : List ℕ) → take (length w - s) (drop s w) ≡ drop s w
 take-whole s w = take-all (length w - s) (drop s w) (rw length-drop (omega arith))
@@ -137,8 +129,8 @@ drop-back s w z l =
     append-nil [] = refl
     append-nil (x ∷ z) = ap (λ l. x ∷ l) (append-nil z)
 
-pub sub : (i k j : ℕ) (l : List ℕ) → i + k ≤ j → j ≤ length l → take k (drop i (take j l)) ≡ take k (drop i l)
-sub i k j l h b = middle i k (take j l) (rw length-take (omega arith)) ∙ ap (drop i) (take-take (i + k) j l h) ∙ sym (middle i k l (omega arith))
+pub mid-take : (i k j : ℕ) (l : List ℕ) → i + k ≤ j → j ≤ length l → take k (drop i (take j l)) ≡ take k (drop i l)
+mid-take i k j l h b = mid-drop i k (take j l) (rw length-take (omega arith)) ∙ ap (drop i) (take-take (i + k) j l h) ∙ sym (mid-drop i k l (omega arith))
 
 pub low-map : (b : ℕ) (σ : ℕ → ℕ) (A : List ℕ) (i : ℕ) → ((a : ℕ) → List·Memᴰ a A → σ a < b) → i < length A → getD (map σ A) i 0 < b
 low-map b σ [] i f l = absurd (omega arith)

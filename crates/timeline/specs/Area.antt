@@ -10,7 +10,6 @@ use lib.Dec.{ltb}
 use lib.ListN.{drop, length, take}
 use lib.Seq.{sets}
 use Rattle.core.specs.declared.Counts.{Counts}
-use Rattle.graph.proofs.ContractionIsSmall.{ρ, σ}
 use Rattle.graph.specs.Graph.{Edge}
 use Rattle.graph.specs.Lists.{pairs, sum, table}
 use Rattle.graph.specs.SmallGraph.{Carries, IsSmallGraph, endsIn}

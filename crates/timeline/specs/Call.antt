@@ -1,7 +1,7 @@
 -- The replay as it is called: what it is lent, what each case of its reply says in document 01's numbers, and the parts of a check.
 -- Assumes nothing: these are definitions.
 use Prim.Native.Nat.{ℕ}
-use mathlib.Core.Bool.{Bool, cond, false, not, true}
+use mathlib.Core.Bool.{cond, false, not, true}
 use mathlib.Core.List.{List}
 use lib.Dec.{eqb, ltb}
 use lib.ListN.{getD, take}

@@ -7,7 +7,6 @@ use mathlib.Core.List.{List, List·Memᴰ, _++_, map}
 use mathlib.Core.Logic.{_↔_}
 use mathlib.Core.Path.{_≡_}
 use lib.ListN.{take}
-use Rattle.graph.proofs.Composition.{nodes}
 use Rattle.graph.specs.Graph.{Edge, answer}
 use Rattle.graph.specs.Lists.{sum}
 use Rattle.graph.specs.SmallGraph.{different, image, mostNodes}

@@ -5,11 +5,8 @@ use mathlib.Core.Bool.{Bool, _&&_, _||_, cond, false, not, true}
 use mathlib.Core.List.{List, [], _∷_}
 use mathlib.Core.Path.{_≡_}
 use lib.Dec.{eqb}
-use lib.ListN.{drop, length, take}
+use lib.ListN.{drop, getD, length, take}
 use Rattle.core.specs.Core.{activeIn, edgesIn}
-use Rattle.graph.proofs.Composition.{nodes}
-use Rattle.graph.proofs.Published.{same}
-use Rattle.graph.proofs.SmallGraphs.{low}
 use Rattle.graph.specs.Cut.{cut}
 use Rattle.graph.specs.Graph.{Edge, NodeSet}
 use Rattle.graph.specs.Lists.{firsts}
@@ -22,6 +19,13 @@ use Rattle.words.specs.Fields.{half, node}
 -- field 0 of n nodes is 0
 pub record Cleared (n : ℕ) (w : List ℕ) : Type 0 where
   pub none : (v : ℕ) → v < n → node 0 w v ≡ 0
+
+-- the nodes at the `count` words from `from` on, before s, are nodes of a graph that has n and whose words stand from s on
+pub record ActiveReady (from count s n : ℕ) (w : List ℕ) : Type 0 where
+  pub front : from + count ≤ s
+  pub room : s + 16 * n ≤ length w
+  pub many : n ≤ 65536
+  pub nodes : (i : ℕ) → i < count → getD w (from + i) 0 < n
 
 -- k different active nodes are entered: those of the list T, in order of first appearance
 pub record Entered (n k : ℕ) (T w : List ℕ) : Type 0 where
@@ -53,6 +57,15 @@ pub record PutEdge (n j a b : ℕ) (w z : List ℕ) : Type 0 where
   pub else : (h : ℕ) → h < 2 * j → half n 0 z h ≡ half n 0 w h
   pub nodes : (i : ℕ) → i < 16 → (v : ℕ) → v < n → node i z v ≡ node i w v
 
+-- the m edges of an area of e events, before s, join nodes below n
+pub record EdgesReady (e m s n : ℕ) (w : List ℕ) : Type 0 where
+  pub front : 10 * e ≤ s
+  pub room : s + 16 * n + 4 * m ≤ length w
+  pub few : m ≤ 4 * e
+  pub much : e ≤ 4096
+  pub many : n ≤ 65536
+  pub nodes : (j : ℕ) → j < m → (getD w (2 * e + j) 0 < n) × (getD w (6 * e + j) 0 < n)
+
 -- m edges are loaded; the nodes' fields are as they were
 pub record Edged (s n m : ℕ) (w z : List ℕ) : Type 0 where
   pub front : take s z ≡ take s w
@@ -65,6 +78,23 @@ pub record Copied (e m s n : ℕ) (w z : List ℕ) : Type 0 where
   pub same : (U : NodeSet) → cut U (edgesIn n m (drop s z)) ≡ cut U (areaEdges e m (take (10 * e) w))
 
 -- ---- added segments
+-- each of the e events from `at` on that opens or closes names one of 8,192 segments
+abbrev pub NamesSegments : List ℕ → List ℕ → ℕ → ℕ → Type 0
+NamesSegments x y at e = (i : ℕ) → i < e → (eqb (getD x (at + i) 0) 65535 || eqb (getD x (at + i) 0) 65534) ≡ true → getD y (at + i) 0 < 8192
+
+-- m edges are loaded behind s, and the nodes of the e events from `at` on stand at the front
+pub record AddReady (x y : List ℕ) (at e s n m : ℕ) (w : List ℕ) : Type 0 where
+  pub front : 2 * e ≤ s
+  pub room : s + 16 * n + 4 * (m + e) ≤ length w
+  pub few : m ≤ 4 * e
+  pub much : e ≤ 4096
+  pub many : n ≤ 65536
+  pub long-x : at + e ≤ length x
+  pub long-y : at + e ≤ length y
+  pub nodes : (i : ℕ) → i < 2 * e → getD w i 0 < n
+  pub ends : (h : ℕ) → h < 2 * m → half n 0 (drop s w) h < n
+  pub segments : NamesSegments x y at e
+
 -- the event is added: it names a segment that is open and not seen
 abbrev pub isAdded : SegmentSet → SegmentSet → Event → Bool
 isAdded seen o e = (opens e || closes e) && (o (e .1) && not (seen (e .1)))

@@ -1,14 +1,13 @@
 // Loads the segments that a part of a window does not name, each once: those that the window names and that are open before the part.
 ghost use mathlib.Core.Path.{_≡_};
 ghost use mathlib.Core.Bool.{_||_, true};
-ghost use Prim.Native.Nat.{ℕ, _+_, _*_, _<_, _≤_};
+ghost use Prim.Native.Nat.{_+_, _*_, _<_, _≤_};
 ghost use lib.Dec.{eqb};
-ghost use lib.ListN.{length, getD, take, drop};
+ghost use lib.ListN.{length, take, drop};
 ghost use Rattle.graph.specs.Lists.{pairs};
 ghost use Rattle.tables.specs.OpenSet.{isOpen};
 ghost use Rattle.timeline.specs.Events.{named};
-ghost use Rattle.words.specs.Fields.{half};
-ghost use Rattle.timeline.specs.Load.{Added, AddedOne};
+ghost use Rattle.timeline.specs.Load.{AddReady, Added, AddedOne};
 
 // One event, whose junctions stand at the nodes a and b: where it names an open segment that is not seen yet, the edge is added, and the segment is seen from then on.
 pub(crate) fn add_event(
@@ -55,11 +54,12 @@ pub(crate) fn add_all(
     n: usize,
     m: usize,
 ) -> usize
-    requires { ⌜ (2 * e ≤ s) × (s + 16 * n + 4 * (m + e) ≤ length (now work)) × (e ≤ 4096) × (m ≤ 4 * e) × (n ≤ 65536) × (at + e ≤ length (now x)) × (at + e ≤ length (now y)) × (length (now held) ≡ 128) × (length (now seen) ≡ 128) × ((i : ℕ) → i < 2 * e → getD (now work) i 0 < n) × ((h : ℕ) → h < 2 * m → half n 0 (drop s (now work)) h < n) × ((i : ℕ) → i < e → (eqb (getD (now x) (at + i) 0) 65535 || eqb (getD (now x) (at + i) 0) 65534) ≡ true → getD (now y) (at + i) 0 < 8192) ⌝ }
+    requires { ⌜ AddReady (now x) (now y) at e s n m (now work) × (length (now held) ≡ 128) × (length (now seen) ≡ 128) ⌝ }
     ensures { λ r. ⌜ Added (isOpen (now (seen .entry))) (isOpen (now (held .entry))) (take e (drop at (pairs (now (x .entry)) (now (y .entry))))) e s n m (now (work .entry)) (now (work .exit)) r ⌝ }
 {
     let mut k = m;
     let mut i: usize = 0;
+    // The k edges that are loaded, and what the events from i on would add to the segments seen, are all that there is to load.
     while i < e {
         let kind = x[at + i];
         let segment = y[at + i] as usize;
@@ -85,7 +85,7 @@ pub(crate) fn load_added(
     n: usize,
     m: usize,
 ) -> usize
-    requires { ⌜ (2 * e ≤ s) × (s + 16 * n + 4 * (m + e) ≤ length (now work)) × (e ≤ 4096) × (m ≤ 4 * e) × (n ≤ 65536) × (at + e ≤ length (now x)) × (at + e ≤ length (now y)) × (at ≤ lo) × (lo + c ≤ at + e) × (length (now held) ≡ 128) × ((i : ℕ) → i < 2 * e → getD (now work) i 0 < n) × ((h : ℕ) → h < 2 * m → half n 0 (drop s (now work)) h < n) × ((i : ℕ) → i < e → (eqb (getD (now x) (at + i) 0) 65535 || eqb (getD (now x) (at + i) 0) 65534) ≡ true → getD (now y) (at + i) 0 < 8192) ⌝ }
+    requires { ⌜ AddReady (now x) (now y) at e s n m (now work) × (length (now held) ≡ 128) × (at ≤ lo) × (lo + c ≤ at + e) ⌝ }
     ensures { λ r. ⌜ Added (named (take c (drop lo (pairs (now (x .entry)) (now (y .entry)))))) (isOpen (now (held .entry))) (take e (drop at (pairs (now (x .entry)) (now (y .entry))))) e s n m (now (work .entry)) (now (work .exit)) r ⌝ }
 {
     let mut seen = crate::segments::named_in(x, y, lo, c);

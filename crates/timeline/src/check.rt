@@ -15,6 +15,7 @@ pub(crate) fn bad_segment(n: usize, m: usize, a: &[u16], b: &[u16]) -> usize
     ensures { λ r. ⌜ r ≡ seek (badSegment n (now (a .entry)) (now (b .entry))) 0 m ⌝ }
 {
     let mut s: usize = 0;
+    // No segment before s has such an end.
     while s < m {
         let u = a[s] as usize;
         if n <= u {
@@ -75,6 +76,7 @@ pub(crate) fn bad_event(n: usize, m: usize, t: usize, x: &[u16], y: &[u16]) -> c
 {
     let mut held = [0u64; 128];
     let mut i: usize = 0;
+    // No event before i has a fault, and the set is what is open before i.
     while i < t {
         let kind = x[i];
         let s = y[i] as usize;

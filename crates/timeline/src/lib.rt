@@ -37,13 +37,13 @@ pub fn kind_of(x: u16, n: usize) -> Kind
 }
 
 // The open segments after a window, and kept over it and all windows below it.
-pub struct Sum {
+pub(crate) struct Sum {
     pub held: [u64; 128],
     pub kept: usize,
 }
 
 // A refusal's number and its place; 0 and 0 where nothing is refused.
-pub struct Fault {
+pub(crate) struct Fault {
     pub code: usize,
     pub place: usize,
 }

@@ -2,14 +2,15 @@
 ghost use mathlib.Core.Path.{_≡_};
 ghost use mathlib.Core.List.{List, [], _∷_, _++_};
 ghost use Prim.Native.Nat.{ℕ, _+_, _*_, _<_, _≤_};
-ghost use lib.ListN.{length, getD, drop};
-ghost use Rattle.timeline.specs.Load.{Actives, Cleared, Copied, Entered, Enters, PutEdge};
+ghost use lib.ListN.{length, drop};
+ghost use Rattle.timeline.specs.Load.{ActiveReady, Actives, Cleared, Copied, EdgesReady, Entered, Enters, PutEdge};
 
 // Clears field 0 of n nodes.
 pub(crate) fn clear_marks(work: &mut [u32], n: usize)
     requires { ⌜ (16 * n ≤ length (now work)) × (n ≤ 65536) ⌝ }
     ensures { λ _. ⌜ Cleared n (now (work .exit)) ⌝ }
 {
+    // Field 0 of the nodes below v is 0.
     for v in 0..n {
         words::put(work, v, 0, 0);
     }
@@ -31,11 +32,12 @@ pub(crate) fn enter(work: &mut [u32], n: usize, k: usize, v: usize) -> usize
 
 // Enters the nodes that stand at the `count` words from `from` on, where none is entered yet.
 pub(crate) fn enter_all(work: &mut [u32], from: usize, count: usize, s: usize, n: usize) -> usize
-    requires { ⌜ (from + count ≤ s) × (s + 16 * n ≤ length (now work)) × (n ≤ 65536) × ((i : ℕ) → i < count → getD (now work) (from + i) 0 < n) × Cleared n (drop s (now work)) ⌝ }
+    requires { ⌜ ActiveReady from count s n (now work) × Cleared n (drop s (now work)) ⌝ }
     ensures { λ r. ⌜ Actives from count s n (now (work .entry)) (now (work .exit)) r ⌝ }
 {
     let mut k: usize = 0;
     let mut i: usize = 0;
+    // The k nodes that are entered are those of the first i words, each once.
     while i < count {
         let v = work[from + i] as usize;
         k = enter(&mut work[s..], n, k, v);
@@ -46,7 +48,7 @@ pub(crate) fn enter_all(work: &mut [u32], from: usize, count: usize, s: usize, n
 
 // Enters the nodes that stand at the `count` words from `from` on as the active ones.
 pub(crate) fn load_active(work: &mut [u32], from: usize, count: usize, s: usize, n: usize) -> usize
-    requires { ⌜ (from + count ≤ s) × (s + 16 * n ≤ length (now work)) × (n ≤ 65536) × ((i : ℕ) → i < count → getD (now work) (from + i) 0 < n) ⌝ }
+    requires { ⌜ ActiveReady from count s n (now work) ⌝ }
     ensures { λ r. ⌜ Actives from count s n (now (work .entry)) (now (work .exit)) r ⌝ }
 {
     clear_marks(&mut work[s..], n);
@@ -64,10 +66,11 @@ pub(crate) fn put_edge(work: &mut [u32], n: usize, j: usize, a: usize, b: usize)
 
 // Copies the m edges of an area of e events.
 pub(crate) fn load_edges(work: &mut [u32], e: usize, m: usize, s: usize, n: usize)
-    requires { ⌜ (10 * e ≤ s) × (s + 16 * n + 4 * m ≤ length (now work)) × (m ≤ 4 * e) × (e ≤ 4096) × (n ≤ 65536) × ((j : ℕ) → j < m → (getD (now work) (2 * e + j) 0 < n) × (getD (now work) (6 * e + j) 0 < n)) ⌝ }
+    requires { ⌜ EdgesReady e m s n (now work) ⌝ }
     ensures { λ _. ⌜ Copied e m s n (now (work .entry)) (now (work .exit)) ⌝ }
 {
     let mut j: usize = 0;
+    // The first j edges are loaded; the front and the nodes' fields are as they were.
     while j < m {
         let a = work[2 * e + j] as usize;
         let b = work[6 * e + j] as usize;

@@ -3,10 +3,11 @@ ghost use mathlib.Core.Path.{_≡_};
 ghost use mathlib.Core.Bool.{_||_, true};
 ghost use Prim.Native.Nat.{ℕ, _+_, _<_, _≤_};
 ghost use lib.Dec.{eqb};
-ghost use lib.ListN.{length, getD, set, take, drop};
+ghost use lib.ListN.{length, set, take, drop};
 ghost use Rattle.graph.specs.Lists.{pairs};
 ghost use Rattle.tables.specs.OpenSet.{bits, isOpen};
 ghost use Rattle.timeline.specs.Events.{after, named, names};
+ghost use Rattle.timeline.specs.Load.{NamesSegments};
 
 // Whether an event with this X opens or closes a segment.
 pub(crate) fn names_segment(x: u16) -> bool
@@ -56,11 +57,12 @@ pub(crate) fn insert_name(words: &mut [u64; 128], x: u16, y: usize)
 
 // The set of the segments that the c events from `lo` on name.
 pub(crate) fn named_in(x: &[u16], y: &[u16], lo: usize, c: usize) -> [u64; 128]
-    requires { ⌜ (lo + c ≤ length (now x)) × (lo + c ≤ length (now y)) × ((i : ℕ) → i < c → (eqb (getD (now x) (lo + i) 0) 65535 || eqb (getD (now x) (lo + i) 0) 65534) ≡ true → getD (now y) (lo + i) 0 < 8192) ⌝ }
+    requires { ⌜ (lo + c ≤ length (now x)) × (lo + c ≤ length (now y)) × NamesSegments (now x) (now y) lo c ⌝ }
     ensures { λ r. ⌜ (length r ≡ 128) × (isOpen r ≡ named (take c (drop lo (pairs (now (x .entry)) (now (y .entry)))))) ⌝ }
 {
     let mut set = [0u64; 128];
     let mut i: usize = 0;
+    // The set has what the first i events name.
     while i < c {
         let kind = x[lo + i];
         let segment = y[lo + i] as usize;

@@ -14,6 +14,7 @@ pub(crate) fn put_map(work: &mut [u32], from: usize, count: usize, s: usize, q: 
     ensures { λ _. ⌜ now (work .exit) ≡ sets (now (work .entry)) q (map (node 0 (drop s (now (work .entry)))) (take count (drop from (now (work .entry))))) ⌝ }
 {
     let mut i: usize = 0;
+    // The first i numbers are written; before and behind them nothing has changed.
     while i < count {
         let v = work[from + i] as usize;
         let x = work[s + 16 * v];
@@ -28,6 +29,7 @@ pub(crate) fn put_field(work: &mut [u32], m: usize, k: usize, s: usize, q: usize
     ensures { λ _. ⌜ now (work .exit) ≡ sets (now (work .entry)) q (table (node k (drop s (now (work .entry)))) 0 m) ⌝ }
 {
     let mut i: usize = 0;
+    // The field of the first i nodes is written.
     while i < m {
         let x = work[s + 16 * i + k];
         work[q + i] = x;

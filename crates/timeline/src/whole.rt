@@ -34,6 +34,7 @@ pub(crate) fn put_junctions(a: &[u16], b: &[u16], x: &[u16], y: &[u16], work: &m
     ensures { λ _. ⌜ now (work .exit) ≡ sets (now (work .entry)) 0 (activeOf (pairs (now (a .entry)) (now (b .entry))) (pairs (now (x .entry)) (now (y .entry)))) ⌝ }
 {
     let mut i: usize = 0;
+    // The junctions of the first i events are written.
     while i < x.len() {
         let kind = x[i];
         let other = y[i];
@@ -60,6 +61,7 @@ pub(crate) fn count_queries(x: &[u16]) -> usize
 {
     let mut k: usize = 0;
     let mut i: usize = 0;
+    // k of the first i events are queries.
     while i < x.len() {
         let kind = x[i];
         let one = is_query(kind);
@@ -74,6 +76,7 @@ pub(crate) fn clear(work: &mut [u32], k: usize)
     requires { ⌜ k ≤ length (now work) ⌝ }
     ensures { λ _. ⌜ now (work .exit) ≡ over (replicate k 0) (now (work .entry)) ⌝ }
 {
+    // The first i words are 0.
     for i in 0..k {
         work[i] = 0;
     }

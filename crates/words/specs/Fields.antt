@@ -7,9 +7,6 @@ use mathlib.Core.List.{List}
 use mathlib.Core.Path.{_≡_}
 use lib.Dec.{eqb}
 use lib.ListN.{getD, length}
-use Rattle.graph.proofs.Composition.{nodes}
-use Rattle.graph.proofs.Lists.{here}
-use Rattle.graph.proofs.Published.{same}
 
 unfoldable pub node : ℕ → List ℕ → ℕ → ℕ
 node k w v = getD w (16 * v + k) 0

@@ -1,43 +1,32 @@
-use Rattle.timeline.specs.Call.{lent}
+-- A refusal changes nothing; an accepted list is replayed.
 use native.Mathlib.Omega.{arith}
-use Rattle.timeline.proofs.CallLaws.{done-replay, fault-zero, refused-is}
 use borrow.Author.Needs.{needs}
+use Rattle.timeline.proofs.CallLaws.{done-replay, fault-zero, refused-is}
 use Rattle.timeline.proofs.replay.Statement.{statement}
+use Rattle.timeline.specs.Call.{lent}
 use Rattle.timeline.proofs.replay.Tie as tie
-use Rattle.timeline.proofs.replay.Reads as reads
-use Rattle.timeline.proofs.replay.Lts as lts
-use Rattle.timeline.proofs.check.check.Reads as check-reads
-use Rattle.timeline.proofs.whole.accepted.Reads as accepted-reads
 
--- src/lib.rt:79:9
 check-requires : tie.Need-check-requires
 check-requires c κs = search needs
 
--- src/lib.rt:81:9
 same-length : tie.Need-same-length
 same-length c = search needs
 
--- src/lib.rt:81:9
 same-length-2 : tie.Need-same-length-2
 same-length-2 c = search needs
 
--- src/lib.rt:81:9
 returns : tie.Need-returns
 returns c = refused-is (lent (c .before .before .before .before .before .before .before .before .before .before .before .args .n) (c .before .before .before .before .before .before .before .before .before .before .before .args .m) (c .before .before .before .before .before .before .before .before .before .before .before .args .t) (c .before .before .before .before .before .before .before .before .before .before .before .args .a .now) (c .before .before .before .before .before .before .before .before .before .before .before .args .b .now) (c .before .before .before .before .before .before .before .before .before .before .before .args .x .now) (c .before .before .before .before .before .before .before .before .before .before .before .args .y .now) (c .before .before .before .before .before .before .before .before .before .before .before .args .answers .now) (c .before .before .before .before .before .before .before .before .before .before .before .args .work .now)) (c .before .before .before .before .before .before .before .before .before .before .before .args .p) _ _ (c .before .before .check .ensures) (c .if1 .taken)
 
--- src/lib.rt:83:9
 accepted-requires : tie.Need-accepted-requires
 accepted-requires c κs = fault-zero (lent (c .before .before .before .before .before .before .before .before .before .before .before .before .before .args .n) (c .before .before .before .before .before .before .before .before .before .before .before .before .before .args .m) (c .before .before .before .before .before .before .before .before .before .before .before .before .before .args .t) (c .before .before .before .before .before .before .before .before .before .before .before .before .before .args .a .now) (c .before .before .before .before .before .before .before .before .before .before .before .before .before .args .b .now) (c .before .before .before .before .before .before .before .before .before .before .before .before .before .args .x .now) (c .before .before .before .before .before .before .before .before .before .before .before .before .before .args .y .now) (c .before .before .before .before .before .before .before .before .before .before .before .before .before .args .answers .now) (c .before .before .before .before .before .before .before .before .before .before .before .before .before .args .work .now)) (c .before .before .before .before .before .before .before .before .before .before .before .before .before .args .p) _ (c .before .before .before .before .check .ensures) (omega arith)
 
--- src/lib.rt:65:1
 same-length-3 : tie.Need-same-length-3
 same-length-3 c = search needs
 
--- src/lib.rt:65:1
 same-length-4 : tie.Need-same-length-4
 same-length-4 c = search needs
 
--- src/lib.rt:65:1
 returns-2 : tie.Need-returns-2
 returns-2 c = done-replay (lent (c .before .before .before .before .before .before .before .before .before .before .before .before .before .before .before .before .before .before .args .n) (c .before .before .before .before .before .before .before .before .before .before .before .before .before .before .before .before .before .before .args .m) (c .before .before .before .before .before .before .before .before .before .before .before .before .before .before .before .before .before .before .args .t) (c .before .before .before .before .before .before .before .before .before .before .before .before .before .before .before .before .before .before .args .a .now) (c .before .before .before .before .before .before .before .before .before .before .before .before .before .before .before .before .before .before .args .b .now) (c .before .before .before .before .before .before .before .before .before .before .before .before .before .before .before .before .before .before .args .x .now) (c .before .before .before .before .before .before .before .before .before .before .before .before .before .before .before .before .before .before .args .y .now) (c .before .before .before .before .before .before .before .before .before .before .before .before .before .before .before .before .before .before .args .answers .now) (c .before .before .before .before .before .before .before .before .before .before .before .before .before .before .before .before .before .before .args .work .now)) (c .before .before .before .before .before .before .before .before .before .before .before .before .before .before .before .before .before .before .args .p) _ (c .before .before .before .before .before .before .before .before .before .check .ensures) (omega arith) (c .before .before .before .before .accepted .ensures)
 

@@ -1,16 +1,13 @@
+-- Event by event: what is loaded, and what is left to add, stay all that there is to load.
+use Prim.Native.Nat.{_*_, _+_, _-_}
 use mathlib.Core.Path.{refl}
-use borrow.Author.Needs.{needs}
+use lib.ListN.{drop, length-drop, length-take, take}
 use native.Mathlib.Omega.{arith}
-use Rattle.timeline.proofs.AddingLaws.{Adding, adding-all, adding-low, adding-more, adding-none}
-use Rattle.tables.specs.OpenSet.{isOpen}
 use Rattle.graph.specs.Lists.{pairs}
-use lib.ListN.{drop, length, length-drop, length-take, take}
-use Prim.Native.Nat.{_+_, _*_, _-_, _≤_, _<_}
+use Rattle.tables.specs.OpenSet.{isOpen}
+use Rattle.timeline.proofs.AddingLaws.{Adding, adding-all, adding-low, adding-more, adding-none}
 use Rattle.timeline.proofs.added.add_all.Statement.{statement}
 use Rattle.timeline.proofs.added.add_all.Tie as tie
-use Rattle.timeline.proofs.added.add_all.Reads as reads
-use Rattle.timeline.proofs.added.add_all.Lts as lts
-use Rattle.timeline.proofs.added.add_event.Reads as add-event-reads
 
 abbrev Inv-loop : tie.InvT-loop
 Inv-loop x y at e held seen₀ work₀ s n m k₀ i₀ seen work k i = Adding (isOpen seen₀) (isOpen held) (take e (drop at (pairs x y))) e s n m work₀ seen work k i
@@ -18,111 +15,84 @@ Inv-loop x y at e held seen₀ work₀ s n m k₀ i₀ seen work k i = Adding (i
 abbrev μ-loop : tie.MeasureT-loop
 μ-loop x y at e held seen₀ work₀ s n m k₀ i₀ seen work k i = e - i
 
--- src/added.rt:63:5
 loop-holds : tie.Need-loop-holds Inv-loop μ-loop
-loop-holds c = adding-none _ _ _ _ _ _ _ _ (c .before .before .before .pre .8) (c .before .before .before .pre .10)
+loop-holds c = adding-none _ _ _ _ _ _ _ _ (c .before .before .before .pre .2) (c .before .before .before .pre .0 .ends)
 
--- src/added.rt:64:22
 add-kind : tie.Need-add-kind Inv-loop μ-loop
 add-kind c = omega arith
 
--- src/added.rt:64:20
 mul-kind : tie.Need-mul-kind Inv-loop μ-loop
 mul-kind c = omega arith
 
--- src/added.rt:64:20
 shared-slice-read-kind : tie.Need-shared-slice-read-kind Inv-loop μ-loop
 shared-slice-read-kind c = omega arith
 
--- src/added.rt:65:25
 add-segment : tie.Need-add-segment Inv-loop μ-loop
 add-segment c = omega arith
 
--- src/added.rt:65:23
 mul-segment : tie.Need-mul-segment Inv-loop μ-loop
 mul-segment c = omega arith
 
--- src/added.rt:65:23
 shared-slice-read-segment : tie.Need-shared-slice-read-segment Inv-loop μ-loop
 shared-slice-read-segment c = omega arith
 
--- src/added.rt:65:23
 cast-segment : tie.Need-cast-segment Inv-loop μ-loop
 cast-segment c = omega (arith, c .shared-slice-known4 .given (c .before .before .before .before .before .before .before .args .at + c .before .before .before .loop .i))
 
--- src/added.rt:66:22
 mul-a : tie.Need-mul-a Inv-loop μ-loop
 mul-a c = omega arith
 
--- src/added.rt:66:17
 mul-a-2 : tie.Need-mul-a-2 Inv-loop μ-loop
 mul-a-2 c = omega arith
 
--- src/added.rt:66:17
 slice-read-a : tie.Need-slice-read-a Inv-loop μ-loop
 slice-read-a c = omega (arith, c .before .before .before .before .loop .inv .long)
 
--- src/added.rt:66:17
 cast-a : tie.Need-cast-a Inv-loop μ-loop
-cast-a c = omega (arith, adding-low (c .before .before .before .before .before .before .before .before .args .x .now) (c .before .before .before .before .before .before .before .before .args .y .now) (c .before .before .before .before .before .before .before .before .args .at) (c .before .before .before .before .loop .inv) (omega arith) (c .before .before .before .before .before .before .before .before .pre .1) (c .before .before .before .before .before .before .before .before .pre .0) (c .before .before .before .before .before .before .before .before .pre .5) (c .before .before .before .before .before .before .before .before .pre .6) (c .before .before .before .before .before .before .before .before .pre .9) (2 * c .before .before .before .before .loop .i) (omega arith))
+cast-a c = omega (arith, adding-low (c .before .before .before .before .before .before .before .before .pre .0) (c .before .before .before .before .loop .inv) (omega arith) (2 * c .before .before .before .before .loop .i) (omega arith))
 
--- src/added.rt:67:22
 mul-b : tie.Need-mul-b Inv-loop μ-loop
 mul-b c = omega arith
 
--- src/added.rt:67:22
 add-b : tie.Need-add-b Inv-loop μ-loop
 add-b c = omega arith
 
--- src/added.rt:67:17
 mul-b-2 : tie.Need-mul-b-2 Inv-loop μ-loop
 mul-b-2 c = omega arith
 
--- src/added.rt:67:17
 slice-read-b : tie.Need-slice-read-b Inv-loop μ-loop
 slice-read-b c = omega (arith, c .before .before .before .before .before .loop .inv .long)
 
--- src/added.rt:67:17
 cast-b : tie.Need-cast-b Inv-loop μ-loop
-cast-b c = omega (arith, adding-low (c .before .before .before .before .before .before .before .before .before .args .x .now) (c .before .before .before .before .before .before .before .before .before .args .y .now) (c .before .before .before .before .before .before .before .before .before .args .at) (c .before .before .before .before .before .loop .inv) (omega arith) (c .before .before .before .before .before .before .before .before .before .pre .1) (c .before .before .before .before .before .before .before .before .before .pre .0) (c .before .before .before .before .before .before .before .before .before .pre .5) (c .before .before .before .before .before .before .before .before .before .pre .6) (c .before .before .before .before .before .before .before .before .before .pre .9) (2 * c .before .before .before .before .before .loop .i + 1) (omega arith))
+cast-b c = omega (arith, adding-low (c .before .before .before .before .before .before .before .before .before .pre .0) (c .before .before .before .before .before .loop .inv) (omega arith) (2 * c .before .before .before .before .before .loop .i + 1) (omega arith))
 
--- src/added.rt:68:56
 mul-add-event : tie.Need-mul-add-event Inv-loop μ-loop
 mul-add-event c = omega arith
 
--- src/added.rt:68:56
 sub-add-event : tie.Need-sub-add-event Inv-loop μ-loop
 sub-add-event c = omega (arith, c .before .before .before .before .before .before .loop .inv .long)
 
--- src/added.rt:68:56
 part-add-event-start : tie.Need-part-add-event-start Inv-loop μ-loop
 part-add-event-start c = omega (arith, c .before .before .before .before .before .before .loop .inv .long)
 
--- src/added.rt:68:56
 part-add-event-end : tie.Need-part-add-event-end Inv-loop μ-loop
 part-add-event-end c = omega arith
 
--- src/added.rt:68:9
 add-event-requires : tie.Need-add-event-requires Inv-loop μ-loop
-add-event-requires c κs = (rw (length-take, length-drop) (omega (arith, c .before .before .before .before .before .before .before .loop .inv .most, c .before .before .before .before .before .before .before .loop .inv .long)), adding-low (c .before .before .before .before .before .before .before .before .before .before .before .args .x .now) (c .before .before .before .before .before .before .before .before .before .before .before .args .y .now) (c .before .before .before .before .before .before .before .before .before .before .before .args .at) (c .before .before .before .before .before .before .before .loop .inv) (omega arith) (c .before .before .before .before .before .before .before .before .before .before .before .pre .1) (c .before .before .before .before .before .before .before .before .before .before .before .pre .0) (c .before .before .before .before .before .before .before .before .before .before .before .pre .5) (c .before .before .before .before .before .before .before .before .before .before .before .pre .6) (c .before .before .before .before .before .before .before .before .before .before .before .pre .9) (2 * c .before .before .before .before .before .before .before .loop .i) (omega arith), adding-low (c .before .before .before .before .before .before .before .before .before .before .before .args .x .now) (c .before .before .before .before .before .before .before .before .before .before .before .args .y .now) (c .before .before .before .before .before .before .before .before .before .before .before .args .at) (c .before .before .before .before .before .before .before .loop .inv) (omega arith) (c .before .before .before .before .before .before .before .before .before .before .before .pre .1) (c .before .before .before .before .before .before .before .before .before .before .before .pre .0) (c .before .before .before .before .before .before .before .before .before .before .before .pre .5) (c .before .before .before .before .before .before .before .before .before .before .before .pre .6) (c .before .before .before .before .before .before .before .before .before .before .before .pre .9) (2 * c .before .before .before .before .before .before .before .loop .i + 1) (omega arith), c .before .before .before .before .before .before .before .before .before .before .before .pre .4, omega (arith, c .before .before .before .before .before .before .before .loop .inv .most), c .before .before .before .before .before .before .before .before .before .before .before .pre .7, c .before .before .before .before .before .before .before .loop .inv .words, λ h. c .before .before .before .before .before .before .before .before .before .before .before .pre .11 (c .before .before .before .before .before .before .before .loop .i) (omega arith) h)
+add-event-requires c κs = (rw (length-take, length-drop) (omega (arith, c .before .before .before .before .before .before .before .loop .inv .most, c .before .before .before .before .before .before .before .loop .inv .long)), adding-low (c .before .before .before .before .before .before .before .before .before .before .before .pre .0) (c .before .before .before .before .before .before .before .loop .inv) (omega arith) (2 * c .before .before .before .before .before .before .before .loop .i) (omega arith), adding-low (c .before .before .before .before .before .before .before .before .before .before .before .pre .0) (c .before .before .before .before .before .before .before .loop .inv) (omega arith) (2 * c .before .before .before .before .before .before .before .loop .i + 1) (omega arith), c .before .before .before .before .before .before .before .before .before .before .before .pre .0 .many, omega (arith, c .before .before .before .before .before .before .before .loop .inv .most), c .before .before .before .before .before .before .before .before .before .before .before .pre .1, c .before .before .before .before .before .before .before .loop .inv .words, λ h. c .before .before .before .before .before .before .before .before .before .before .before .pre .0 .segments (c .before .before .before .before .before .before .before .loop .i) (omega arith) h)
 
--- src/added.rt:69:9
 add-i : tie.Need-add-i Inv-loop μ-loop
 add-i c = omega arith
 
--- src/added.rt:63:5
 loop-less : tie.Need-loop-less Inv-loop μ-loop
 loop-less c = omega arith
 
--- src/added.rt:63:5
 loop-again : tie.Need-loop-again Inv-loop μ-loop
-loop-again c = adding-more (c .before .before .before .before .before .before .before .before .before .before .before .before .before .before .args .x .now) (c .before .before .before .before .before .before .before .before .before .before .before .before .before .before .args .y .now) (c .before .before .before .before .before .before .before .before .before .before .before .before .before .before .args .at) (c .before .before .before .before .before .before .before .before .before .before .loop .inv) (omega arith) (c .before .before .before .before .before .before .before .before .before .before .before .before .before .before .pre .1) (c .before .before .before .before .before .before .before .before .before .before .before .before .before .before .pre .0) (c .before .before .before .before .before .before .before .before .before .before .before .before .before .before .pre .5) (c .before .before .before .before .before .before .before .before .before .before .before .before .before .before .pre .6) (c .before .before .before .before .before .before .before .before .before .before .before .before .before .before .pre .9) (c .before .before .before .before .before .before .before .before .before .before .before .before .before .before .args .held .now) refl _ _ _ (omega arith) (c .before .before .add-event .ensures)
+loop-again c = adding-more (c .before .before .before .before .before .before .before .before .before .before .before .before .before .before .pre .0) (c .before .before .before .before .before .before .before .before .before .before .loop .inv) (omega arith) (c .before .before .before .before .before .before .before .before .before .before .before .before .before .before .args .held .now) refl _ _ _ (omega arith) (c .before .before .add-event .ensures)
 
--- src/added.rt:46:1
 same-length : tie.Need-same-length Inv-loop μ-loop
 same-length c = c .before .loop .inv .long
 
--- src/added.rt:46:1
 returns : tie.Need-returns Inv-loop μ-loop
 returns c = adding-all (c .before .loop .inv) (omega (arith, c .before .loop .inv .low)) (rw length-take (omega arith))
 

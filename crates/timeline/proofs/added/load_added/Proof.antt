@@ -1,26 +1,19 @@
-use Rattle.timeline.proofs.AddingLaws.{part-names}
+-- The segments seen at the start are those that the part names.
 use native.Mathlib.Omega.{arith}
 use borrow.Author.Needs.{needs}
+use Rattle.timeline.proofs.AddingLaws.{part-names}
 use Rattle.timeline.proofs.added.load_added.Statement.{statement}
 use Rattle.timeline.proofs.added.load_added.Tie as tie
-use Rattle.timeline.proofs.added.load_added.Reads as reads
-use Rattle.timeline.proofs.added.load_added.Lts as lts
-use Rattle.timeline.proofs.added.add_all.Reads as add-all-reads
-use Rattle.timeline.proofs.segments.named_in.Reads as named-in-reads
 
--- src/added.rt:91:20
 named-in-requires : tie.Need-named-in-requires
-named-in-requires c κs = (omega (arith, c .before .before .before .pre .5, c .before .before .before .pre .8), omega (arith, c .before .before .before .pre .6, c .before .before .before .pre .8), part-names (c .before .before .before .args .x .now) (c .before .before .before .args .y .now) (c .before .before .before .args .at) (c .before .before .before .args .e) (c .before .before .before .args .lo) (c .before .before .before .args .c) (c .before .before .before .pre .7) (c .before .before .before .pre .8) (c .before .before .before .pre .12))
+named-in-requires c κs = (omega (arith, c .before .before .before .pre .0 .long-x), omega (arith, c .before .before .before .pre .0 .long-y), part-names (c .before .before .before .args .x .now) (c .before .before .before .args .y .now) (c .before .before .before .args .at) (c .before .before .before .args .e) (c .before .before .before .args .lo) (c .before .before .before .args .c) (c .before .before .before .pre .2) (c .before .before .before .pre .3) (c .before .before .before .pre .0 .segments))
 
--- src/added.rt:92:5
 add-all-requires : tie.Need-add-all-requires
 add-all-requires c κs = search needs
 
--- src/added.rt:75:1
 same-length : tie.Need-same-length
 same-length c = search needs
 
--- src/added.rt:75:1
 returns : tie.Need-returns
 returns c = rw (c .before .before .before .before .before .named-in .ensures .1) at (c .before .before .add-all .ensures)
 

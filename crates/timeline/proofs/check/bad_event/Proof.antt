@@ -1,14 +1,11 @@
-use mathlib.Core.Path.{refl}
+-- Events without a fault so far, with the set open before the next one.
 use Prim.Native.Nat.{_-_}
+use mathlib.Core.Path.{refl}
 use native.Mathlib.Omega.{arith}
-use Rattle.timeline.proofs.SegmentLaws.{none-open}
 use Rattle.timeline.proofs.CheckLaws.{Passing, event-names, event-passes, event-refused, events-pass, passing-none}
+use Rattle.timeline.proofs.SegmentLaws.{none-open}
 use Rattle.timeline.proofs.check.bad_event.Statement.{statement}
 use Rattle.timeline.proofs.check.bad_event.Tie as tie
-use Rattle.timeline.proofs.check.bad_event.Reads as reads
-use Rattle.timeline.proofs.check.bad_event.Lts as lts
-use Rattle.timeline.proofs.check.event_fault.Reads as event-fault-reads
-use Rattle.timeline.proofs.segments.after_event.Reads as after-event-reads
 
 abbrev Inv-loop : tie.InvT-loop
 Inv-loop n m t x y held₀ i₀ held i = Passing n m t x y held i
@@ -16,55 +13,42 @@ Inv-loop n m t x y held₀ i₀ held i = Passing n m t x y held i
 abbrev μ-loop : tie.MeasureT-loop
 μ-loop n m t x y held₀ i₀ held i = t - i
 
--- src/check.rt:78:5
 loop-holds : tie.Need-loop-holds Inv-loop μ-loop
 loop-holds c = passing-none _ _ _ _ _ _ refl (none-open 128)
 
--- src/check.rt:79:20
 mul-kind : tie.Need-mul-kind Inv-loop μ-loop
 mul-kind c = omega arith
 
--- src/check.rt:79:20
 shared-slice-read-kind : tie.Need-shared-slice-read-kind Inv-loop μ-loop
 shared-slice-read-kind c = omega arith
 
--- src/check.rt:80:17
 mul-s : tie.Need-mul-s Inv-loop μ-loop
 mul-s c = omega arith
 
--- src/check.rt:80:17
 shared-slice-read-s : tie.Need-shared-slice-read-s Inv-loop μ-loop
 shared-slice-read-s c = omega arith
 
--- src/check.rt:80:17
 cast-s : tie.Need-cast-s Inv-loop μ-loop
 cast-s c = omega (arith, c .shared-slice-known4 .given (c .before .before .before .loop .i))
 
--- src/check.rt:81:13
 event-fault-requires : tie.Need-event-fault-requires Inv-loop μ-loop
 event-fault-requires c κs = c .before .before .before .before .loop .inv .words
 
--- src/check.rt:83:13
 returns : tie.Need-returns Inv-loop μ-loop
 returns c = event-refused (c .before .before .before .before .before .before .loop .inv) (omega arith) (c .before .before .before .before .before .before .before .before .before .pre .0) (c .before .before .before .before .before .before .before .before .before .pre .1) (c .before .before .before .before .before .before .before .before .before .pre .3) (c .before .before .before .before .before .before .before .before .before .pre .2) (c .before .event-fault .result) (c .before .event-fault .ensures) (c .if1 .taken)
 
--- src/check.rt:88:13
 after-event-requires : tie.Need-after-event-requires Inv-loop μ-loop
 after-event-requires c κs = event-names (c .before .before .before .before .before .before .loop .inv) (omega arith) (c .before .before .before .before .before .before .before .before .before .pre .0) (c .before .before .before .before .before .before .before .before .before .pre .1) (c .before .before .before .before .before .before .before .before .before .pre .3) (c .before .before .before .before .before .before .before .before .before .pre .2) (c .before .event-fault .result) (c .before .event-fault .ensures) (omega arith)
 
--- src/check.rt:90:9
 add-i : tie.Need-add-i Inv-loop μ-loop
 add-i c = omega arith
 
--- src/check.rt:78:5
 loop-less : tie.Need-loop-less Inv-loop μ-loop
 loop-less c = omega arith
 
--- src/check.rt:78:5
 loop-again : tie.Need-loop-again Inv-loop μ-loop
 loop-again c = event-passes (c .before .before .before .before .before .before .before .loop .inv) (omega arith) (c .before .before .before .before .before .before .before .before .before .before .pre .0) (c .before .before .before .before .before .before .before .before .before .before .pre .1) (c .before .before .before .before .before .before .before .before .before .before .pre .3) (c .before .before .before .before .before .before .before .before .before .before .pre .2) (c .before .before .event-fault .result) (c .before .before .event-fault .ensures) (omega arith) (c .after-event .result) (c .after-event .ensures .0) (c .after-event .ensures .1)
 
--- src/check.rt:72:1
 returns-2 : tie.Need-returns-2 Inv-loop μ-loop
 returns-2 c = events-pass (c .before .loop .inv) (omega (arith, c .before .loop .inv .low))
 

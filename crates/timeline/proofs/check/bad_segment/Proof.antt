@@ -1,13 +1,12 @@
-use Rattle.timeline.specs.Replay.{badSegment}
+-- No segment so far has an end that is not below n.
+use Prim.Native.Nat.{_-_, _<_, _≤_, ℕ}
 use mathlib.Core.Bool.{false}
 use mathlib.Core.Path.{_≡_}
-use Prim.Native.Nat.{_-_, _<_, _≤_, ℕ}
 use native.Mathlib.Omega.{arith}
 use Rattle.timeline.proofs.CheckLaws.{bad-from, bad-not, bad-to, below-next, found-here, found-none}
 use Rattle.timeline.proofs.check.bad_segment.Statement.{statement}
+use Rattle.timeline.specs.Replay.{badSegment}
 use Rattle.timeline.proofs.check.bad_segment.Tie as tie
-use Rattle.timeline.proofs.check.bad_segment.Reads as reads
-use Rattle.timeline.proofs.check.bad_segment.Lts as lts
 
 abbrev Inv-loop : tie.InvT-loop
 Inv-loop n m a b s₀ s = (s ≤ m) × ((u : ℕ) → u < s → badSegment n a b u ≡ false)
@@ -15,55 +14,42 @@ Inv-loop n m a b s₀ s = (s ≤ m) × ((u : ℕ) → u < s → badSegment n a b
 abbrev μ-loop : tie.MeasureT-loop
 μ-loop n m a b s₀ s = m - s
 
--- src/check.rt:18:5
 loop-holds : tie.Need-loop-holds Inv-loop μ-loop
 loop-holds c = (omega arith, λ u l. absurd (omega arith))
 
--- src/check.rt:19:17
 mul-u : tie.Need-mul-u Inv-loop μ-loop
 mul-u c = omega arith
 
--- src/check.rt:19:17
 shared-slice-read-u : tie.Need-shared-slice-read-u Inv-loop μ-loop
 shared-slice-read-u c = omega arith
 
--- src/check.rt:19:17
 cast-u : tie.Need-cast-u Inv-loop μ-loop
 cast-u c = omega (arith, c .shared-slice-known .given (c .before .before .loop .s))
 
--- src/check.rt:21:13
 returns : tie.Need-returns Inv-loop μ-loop
 returns c = found-here (c .before .before .before .before .args .n) (c .before .before .before .before .args .m) (c .before .before .before .loop .s) (c .before .before .before .before .args .a .now) (c .before .before .before .before .args .b .now) (badSegment (c .before .before .before .before .args .n) (c .before .before .before .before .args .a .now) (c .before .before .before .before .args .b .now)) (omega arith) (c .before .before .before .loop .inv .1) (bad-from (c .before .before .before .before .args .n) (c .before .before .before .before .args .m) (c .before .before .before .loop .s) (c .before .before .before .before .args .a .now) (c .before .before .before .before .args .b .now) (c .if1 .taken))
 
--- src/check.rt:23:17
 mul-v : tie.Need-mul-v Inv-loop μ-loop
 mul-v c = omega arith
 
--- src/check.rt:23:17
 shared-slice-read-v : tie.Need-shared-slice-read-v Inv-loop μ-loop
 shared-slice-read-v c = omega arith
 
--- src/check.rt:23:17
 cast-v : tie.Need-cast-v Inv-loop μ-loop
 cast-v c = omega (arith, c .shared-slice-known2 .given (c .before .before .before .before .loop .s))
 
--- src/check.rt:25:13
 returns-2 : tie.Need-returns-2 Inv-loop μ-loop
 returns-2 c = found-here (c .before .before .before .before .before .before .args .n) (c .before .before .before .before .before .before .args .m) (c .before .before .before .before .before .loop .s) (c .before .before .before .before .before .before .args .a .now) (c .before .before .before .before .before .before .args .b .now) (badSegment (c .before .before .before .before .before .before .args .n) (c .before .before .before .before .before .before .args .a .now) (c .before .before .before .before .before .before .args .b .now)) (omega arith) (c .before .before .before .before .before .loop .inv .1) (bad-to (c .before .before .before .before .before .before .args .n) (c .before .before .before .before .before .before .args .m) (c .before .before .before .before .before .loop .s) (c .before .before .before .before .before .before .args .a .now) (c .before .before .before .before .before .before .args .b .now) (c .before .before .if1 .left) (c .if2 .taken))
 
--- src/check.rt:27:9
 add-s : tie.Need-add-s Inv-loop μ-loop
 add-s c = omega arith
 
--- src/check.rt:18:5
 loop-less : tie.Need-loop-less Inv-loop μ-loop
 loop-less c = omega arith
 
--- src/check.rt:18:5
 loop-again : tie.Need-loop-again Inv-loop μ-loop
 loop-again c = (omega arith, below-next (badSegment (c .before .before .before .before .before .before .args .n) (c .before .before .before .before .before .before .args .a .now) (c .before .before .before .before .before .before .args .b .now)) (c .before .before .before .before .before .loop .s) (c .before .before .before .before .before .loop .inv .1) (bad-not (c .before .before .before .before .before .before .args .n) (c .before .before .before .before .before .before .args .m) (c .before .before .before .before .before .loop .s) (c .before .before .before .before .before .before .args .a .now) (c .before .before .before .before .before .before .args .b .now) (c .before .before .if1 .left) (c .if2 .left)))
 
--- src/check.rt:13:1
 returns-3 : tie.Need-returns-3 Inv-loop μ-loop
 returns-3 c = found-none (c .before .before .args .n) (c .before .before .args .m) (c .before .loop .s) (c .before .before .args .a .now) (c .before .before .args .b .now) (badSegment (c .before .before .args .n) (c .before .before .args .a .now) (c .before .before .args .b .now)) (omega arith) (c .before .loop .inv .1)
 

@@ -1,27 +1,20 @@
+-- The sizes first, then the rest.
 use native.Mathlib.Omega.{arith}
-use Rattle.timeline.specs.Call.{lent}
-use Rattle.timeline.proofs.CheckLaws.{size-refused, size-within}
 use borrow.Author.Needs.{needs}
+use Rattle.timeline.proofs.CheckLaws.{size-refused, size-within}
 use Rattle.timeline.proofs.check.check.Statement.{statement}
+use Rattle.timeline.specs.Call.{lent}
 use Rattle.timeline.proofs.check.check.Tie as tie
-use Rattle.timeline.proofs.check.check.Reads as reads
-use Rattle.timeline.proofs.check.check.Lts as lts
-use Rattle.timeline.proofs.check.check_tables.Reads as check-tables-reads
-use Rattle.timeline.proofs.check.size_fault.Reads as size-fault-reads
 
--- src/check.rt:181:9
 size-fault-requires : tie.Need-size-fault-requires
 size-fault-requires c κs = search needs
 
--- src/check.rt:183:9
 returns : tie.Need-returns
 returns c = size-refused (lent (c .before .before .before .before .before .before .before .before .before .args .n) (c .before .before .before .before .before .before .before .before .before .args .m) (c .before .before .before .before .before .before .before .before .before .args .t) (c .before .before .before .before .before .before .before .before .before .args .a .now) (c .before .before .before .before .before .before .before .before .before .args .b .now) (c .before .before .before .before .before .before .before .before .before .args .x .now) (c .before .before .before .before .before .before .before .before .before .args .y .now) (c .before .before .before .before .before .before .before .before .before .args .answers .now) (c .before .before .before .before .before .before .before .before .before .args .work .now)) (c .before .before .before .before .before .before .before .before .before .args .p) _ (c .before .before .size-fault .ensures) (c .if1 .taken)
 
--- src/check.rt:185:5
 check-tables-requires : tie.Need-check-tables-requires
 check-tables-requires c κs = size-within (c .before .before .before .before .before .before .before .before .before .args .n) (c .before .before .before .before .before .before .before .before .before .args .m) (c .before .before .before .before .before .before .before .before .before .args .t) _ (c .before .before .size-fault .ensures) (omega arith)
 
--- src/check.rt:167:1
 returns-2 : tie.Need-returns-2
 returns-2 c = c .check-tables .ensures
 

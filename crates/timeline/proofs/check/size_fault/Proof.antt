@@ -1,28 +1,21 @@
-use Rattle.timeline.proofs.CheckLaws.{sizes-refused, sizes-within}
+-- Both cases of the sizes' reply as a fault.
 use borrow.Author.Needs.{needs}
+use Rattle.timeline.proofs.CheckLaws.{sizes-refused, sizes-within}
 use Rattle.timeline.proofs.check.size_fault.Statement.{statement}
 use Rattle.timeline.proofs.check.size_fault.Tie as tie
-use Rattle.timeline.proofs.check.size_fault.Reads as reads
-use Rattle.timeline.proofs.check.size_fault.Lts as lts
-use Rattle.tables.proofs.Sizes.check.Reads as check-reads
 
--- src/check.rt:102:9
 check-requires : tie.Need-check-requires
 check-requires c κs = search needs
 
--- src/check.rt:104:37
 enum-known-sizes : tie.Need-enum-known-sizes
 enum-known-sizes c = search needs
 
--- src/check.rt:105:13
 returns : tie.Need-returns
 returns c = sizes-refused (c .before .before .before .before .args .n) (c .before .before .before .before .args .m) (c .before .before .before .before .args .t) (c .before .before .before .check .ensures) _ _ (c .before .sizes .given .1)
 
--- src/check.rt:111:13
 enum-told : tie.Need-enum-told
 enum-told c = search needs
 
--- src/check.rt:111:13
 returns-2 : tie.Need-returns-2
 returns-2 c = sizes-within (c .before .before .before .args .n) (c .before .before .before .args .m) (c .before .before .before .args .t) (c .before .before .check .ensures) _ (c .enum-told .given .1)
 

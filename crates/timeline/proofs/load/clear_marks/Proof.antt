@@ -1,15 +1,10 @@
 -- Field 0 is cleared node by node.
-use mathlib.Core.Path.{_≡_, refl, sym, ap, _∙_}
-use Prim.Native.Nat.{_≤_, _+_, _*_, _-_}
+use Prim.Native.Nat.{_-_}
+use mathlib.Core.Path.{refl}
 use native.Mathlib.Omega.{arith}
-use lib.ListN.{length, drop, getD}
-use borrow.Author.Needs.{needs}
 use Rattle.timeline.proofs.EnterLaws.{Clearing, clearing-more}
 use Rattle.timeline.proofs.load.clear_marks.Statement.{statement}
 use Rattle.timeline.proofs.load.clear_marks.Tie as tie
-use Rattle.timeline.proofs.load.clear_marks.Reads as reads
-use Rattle.timeline.proofs.load.clear_marks.Lts as lts
-use Rattle.words.proofs.put.Reads as put-reads
 
 abbrev Inv-loop : tie.InvT-loop
 Inv-loop work₀ n v₀ work v = Clearing n work₀ work v

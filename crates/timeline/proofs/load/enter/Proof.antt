@@ -1,16 +1,10 @@
 -- A node that is marked stays; another comes last.
-use mathlib.Core.Path.{_≡_, refl, sym, ap, _∙_}
-use Prim.Native.Nat.{_≤_, _+_, _*_, _-_}
+use Prim.Native.Nat.{_-_}
 use native.Mathlib.Omega.{arith}
-use lib.ListN.{length, drop, getD}
 use borrow.Author.Needs.{needs}
-use Rattle.timeline.proofs.EnterLaws.{enter-old, enter-room, enter-new}
+use Rattle.timeline.proofs.EnterLaws.{enter-new, enter-old, enter-room}
 use Rattle.timeline.proofs.load.enter.Statement.{statement}
 use Rattle.timeline.proofs.load.enter.Tie as tie
-use Rattle.timeline.proofs.load.enter.Reads as reads
-use Rattle.timeline.proofs.load.enter.Lts as lts
-use Rattle.words.proofs.get.Reads as get-reads
-use Rattle.words.proofs.put.Reads as put-reads
 
 get-requires : tie.Need-get-requires
 get-requires c κs = search needs

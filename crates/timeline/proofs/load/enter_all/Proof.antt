@@ -1,15 +1,9 @@
 -- Each word of the list is entered behind the front.
-use mathlib.Core.Path.{_≡_, refl, sym, ap, _∙_}
-use Prim.Native.Nat.{_≤_, _+_, _*_, _-_}
+use Prim.Native.Nat.{_-_}
 use native.Mathlib.Omega.{arith}
-use lib.ListN.{length, drop, getD}
-use borrow.Author.Needs.{needs}
-use Rattle.timeline.proofs.EnterLaws.{Entering, entering-none, reads, entering-need, entering-more, entering-all}
+use Rattle.timeline.proofs.EnterLaws.{Entering, entering-all, entering-more, entering-need, entering-none, reads}
 use Rattle.timeline.proofs.load.enter_all.Statement.{statement}
 use Rattle.timeline.proofs.load.enter_all.Tie as tie
-use Rattle.timeline.proofs.load.enter_all.Reads as reads
-use Rattle.timeline.proofs.load.enter_all.Lts as lts
-use Rattle.timeline.proofs.load.enter.Reads as enter-reads
 
 abbrev Inv-loop : tie.InvT-loop
 Inv-loop work₀ from count s n k₀ i₀ work k i = Entering from count s n work₀ work k i
@@ -30,7 +24,7 @@ slice-read-v : tie.Need-slice-read-v Inv-loop μ-loop
 slice-read-v c = omega (arith, c .before .before .loop .inv .long)
 
 cast-v : tie.Need-cast-v Inv-loop μ-loop
-cast-v c = omega (arith, reads (c .before .before .before .before .pre) (c .before .before .loop .inv) (omega arith), c .before .before .before .before .pre .3 (c .before .before .loop .i) (omega arith))
+cast-v c = omega (arith, reads (c .before .before .before .before .pre) (c .before .before .loop .inv) (omega arith), c .before .before .before .before .pre .0 .nodes (c .before .before .loop .i) (omega arith))
 
 mul-enter : tie.Need-mul-enter Inv-loop μ-loop
 mul-enter c = omega arith

@@ -1,16 +1,11 @@
 -- The marks are cleared, then the nodes entered.
-use mathlib.Core.Path.{_≡_, refl, sym, ap, _∙_}
-use Prim.Native.Nat.{_≤_, _+_, _*_, _-_}
+use Prim.Native.Nat.{_-_}
+use lib.ListN.{length-drop, length-take}
 use native.Mathlib.Omega.{arith}
-use lib.ListN.{length, length-take, length-drop}
 use borrow.Author.Needs.{needs}
-use Rattle.timeline.proofs.EnterLaws.{clear-need, after-clear}
+use Rattle.timeline.proofs.EnterLaws.{after-clear, clear-need}
 use Rattle.timeline.proofs.load.load_active.Statement.{statement}
 use Rattle.timeline.proofs.load.load_active.Tie as tie
-use Rattle.timeline.proofs.load.load_active.Reads as reads
-use Rattle.timeline.proofs.load.load_active.Lts as lts
-use Rattle.timeline.proofs.load.clear_marks.Reads as clear-reads
-use Rattle.timeline.proofs.load.enter_all.Reads as enter-all-reads
 
 mul-clear-marks : tie.Need-mul-clear-marks
 mul-clear-marks c = search needs
@@ -34,7 +29,7 @@ same-length : tie.Need-same-length
 same-length c = search needs
 
 returns : tie.Need-returns
-returns c = after-clear (c .before .before .before .before .before .before .before .before .before .args .work .now) (c .before .before .before .before .before .before .clear-marks .last .0) (omega arith) (omega arith) (c .before .before .before .before .before .before .before .before .before .pre .0) (c .before .before .enter-all .ensures)
+returns c = after-clear (c .before .before .before .before .before .before .before .before .before .args .work .now) (c .before .before .before .before .before .before .clear-marks .last .0) (omega arith) (omega arith) (c .before .before .before .before .before .before .before .before .before .pre .front) (c .before .before .enter-all .ensures)
 
 pub load-active-spec : {M : Type 1} → statement M
 load-active-spec =

@@ -1,16 +1,9 @@
 -- Each edge of the area is written behind the front.
-use mathlib.Core.Path.{_≡_, refl, ap, _∙_}
-use Prim.Native.Nat.{_≤_, _+_, _*_, _-_}
+use Prim.Native.Nat.{_-_}
 use native.Mathlib.Omega.{arith}
-use lib.ListN.{length, drop, getD}
-use lib.Seq.{sets}
-use borrow.Author.Needs.{needs}
-use Rattle.timeline.proofs.EdgeLaws.{Copying, copying-none, copying-ends, copying-need, copying-more, copied}
+use Rattle.timeline.proofs.EdgeLaws.{Copying, copied, copying-ends, copying-more, copying-need, copying-none}
 use Rattle.timeline.proofs.load.load_edges.Statement.{statement}
 use Rattle.timeline.proofs.load.load_edges.Tie as tie
-use Rattle.timeline.proofs.load.load_edges.Reads as reads
-use Rattle.timeline.proofs.load.load_edges.Lts as lts
-use Rattle.timeline.proofs.load.put_edge.Reads as put-edge-reads
 
 abbrev Inv-loop : tie.InvT-loop
 Inv-loop work₀ e m s n j₀ work j = Copying e m s n work₀ work j

@@ -1,16 +1,9 @@
 -- Two half-edges.
-use mathlib.Core.Path.{_≡_, refl, ap, _∙_}
-use Prim.Native.Nat.{_≤_, _+_, _*_, _-_}
-use native.Mathlib.Omega.{arith}
-use lib.ListN.{length, drop, getD}
-use lib.Seq.{sets}
+use Prim.Native.Nat.{_-_}
 use borrow.Author.Needs.{needs}
 use Rattle.timeline.proofs.EdgeLaws.{put-edge}
 use Rattle.timeline.proofs.load.put_edge.Statement.{statement}
 use Rattle.timeline.proofs.load.put_edge.Tie as tie
-use Rattle.timeline.proofs.load.put_edge.Reads as reads
-use Rattle.timeline.proofs.load.put_edge.Lts as lts
-use Rattle.words.proofs.put_half.Reads as put-half-reads
 
 mul-put-half : tie.Need-mul-put-half
 mul-put-half c = search needs

@@ -1,28 +1,21 @@
-use native.Mathlib.Omega.{arith}
-use Rattle.tables.proofs.OpenSetLaws.{bit-open, bit-past}
+-- A segment is in the set where its bit is 1.
 use borrow.Author.Needs.{needs}
+use Rattle.tables.proofs.OpenSetLaws.{bit-open, bit-past}
 use Rattle.timeline.proofs.segments.contains.Statement.{statement}
 use Rattle.timeline.proofs.segments.contains.Tie as tie
-use Rattle.timeline.proofs.segments.contains.Reads as reads
-use Rattle.timeline.proofs.segments.contains.Lts as lts
 
--- src/segments.rt:26:9
 returns : tie.Need-returns
 returns c = bit-past (c .before .args .words .now) (c .before .args .s) (c .before .pre) (c .if1 .taken)
 
--- src/segments.rt:30:6
 mul-result : tie.Need-mul-result
 mul-result c = search needs
 
--- src/segments.rt:30:6
 element-copy-out-result : tie.Need-element-copy-out-result
 element-copy-out-result c = search needs
 
--- src/segments.rt:30:6
 shr-result : tie.Need-shr-result
 shr-result c = search needs
 
--- src/segments.rt:22:1
 returns-2 : tie.Need-returns-2
 returns-2 c = bit-open (c .before .before .args .words .now) (c .before .before .args .s) (c .before .before .pre) (c .before .if1 .left)
 

@@ -1,35 +1,28 @@
+-- One bit of one word is set.
+use Prim.Native.Nat.{_%_, _/_}
 use mathlib.Core.Path.{_∙_}
 use lib.ListN.{getD, length-set}
-use Prim.Native.Nat.{_%_, _/_}
 use native.Mathlib.Omega.{arith}
-use Rattle.tables.proofs.OpenSetLaws.{one-bit, or-digit, set-at-segment}
 use borrow.Author.Needs.{needs}
+use Rattle.tables.proofs.OpenSetLaws.{one-bit, or-digit, set-at-segment}
 use Rattle.timeline.proofs.segments.insert.Statement.{statement}
 use Rattle.timeline.proofs.segments.insert.Tie as tie
-use Rattle.timeline.proofs.segments.insert.Reads as reads
-use Rattle.timeline.proofs.segments.insert.Lts as lts
 
--- src/segments.rt:40:13
 mul-w : tie.Need-mul-w
 mul-w c = search needs
 
--- src/segments.rt:40:13
 element-copy-out-w : tie.Need-element-copy-out-w
 element-copy-out-w c = search needs
 
--- src/segments.rt:41:21
 shl-words : tie.Need-shl-words
 shl-words c = search needs
 
--- src/segments.rt:41:5
 mul-words : tie.Need-mul-words
 mul-words c = search needs
 
--- src/segments.rt:41:5
 element-write-words : tie.Need-element-write-words
 element-write-words c = search needs
 
--- src/segments.rt:34:1
 returns : tie.Need-returns
 returns c = (length-set (c .before .args .words .now) _ _ ∙ c .before .pre .0, set-at-segment (c .before .args .words .now) (c .before .args .s) _ 1 (c .before .pre .0) (c .before .pre .1) (rw (one-bit (c .before .args .s % 64) (omega arith)) (or-digit 64 (c .before .args .s % 64) (getD (c .before .args .words .now) (c .before .args .s / 64) 0) (omega arith))))
 

@@ -1,27 +1,20 @@
-use Rattle.timeline.proofs.SegmentLaws.{name-inserted, name-none}
-use borrow.Author.Tests.{not-false, not-true}
+-- An event enters the segment that it names.
 use mathlib.Core.Path.{_∙_, sym}
 use borrow.Author.Needs.{needs}
+use borrow.Author.Tests.{not-false, not-true}
+use Rattle.timeline.proofs.SegmentLaws.{name-inserted, name-none}
 use Rattle.timeline.proofs.segments.insert_name.Statement.{statement}
 use Rattle.timeline.proofs.segments.insert_name.Tie as tie
-use Rattle.timeline.proofs.segments.insert_name.Reads as reads
-use Rattle.timeline.proofs.segments.insert_name.Lts as lts
-use Rattle.timeline.proofs.segments.insert.Reads as insert-reads
-use Rattle.timeline.proofs.segments.names_segment.Reads as names-segment-reads
 
--- src/segments.rt:50:9
 names-segment-requires : tie.Need-names-segment-requires
 names-segment-requires c κs = search needs
 
--- src/segments.rt:52:9
 returns : tie.Need-returns
 returns c = (c .before .before .pre .0, name-none (c .before .before .args .words .now) (c .before .before .args .x) (c .before .before .args .y) (sym (c .before .names-segment .ensures) ∙ not-true _ (c .if1 .taken)))
 
--- src/segments.rt:54:5
 insert-requires : tie.Need-insert-requires
 insert-requires c κs = (c .before .before .before .pre .0, c .before .before .before .pre .1 (sym (c .before .before .names-segment .ensures) ∙ not-false _ (c .before .if1 .left)))
 
--- src/segments.rt:46:1
 returns-2 : tie.Need-returns-2
 returns-2 c = (c .insert .ensures .0, name-inserted (c .before .before .before .before .args .words .now) _ (c .before .before .before .before .args .x) (c .before .before .before .before .args .y) (c .before .before .before .before .pre .0) (sym (c .before .before .before .names-segment .ensures) ∙ not-false _ (c .before .before .if1 .left)) (c .before .before .before .before .pre .1 (sym (c .before .before .before .names-segment .ensures) ∙ not-false _ (c .before .before .if1 .left))) (c .insert .ensures .1))
 

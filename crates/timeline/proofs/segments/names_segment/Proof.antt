@@ -1,14 +1,11 @@
+-- The two numbers that tell an opening and a closing.
 use borrow.Author.Tests.{eq-eqb, ne-eqb}
 use Rattle.timeline.proofs.segments.names_segment.Statement.{statement}
 use Rattle.timeline.proofs.segments.names_segment.Tie as tie
-use Rattle.timeline.proofs.segments.names_segment.Reads as reads
-use Rattle.timeline.proofs.segments.names_segment.Lts as lts
 
--- src/segments.rt:16:9
 returns : tie.Need-returns
 returns c = simp (eq-eqb _ _ (c .if1 .taken))
 
--- src/segments.rt:12:1
 returns-2 : tie.Need-returns-2
 returns-2 c = simp (ne-eqb _ _ (c .if1 .left))
 

@@ -1,17 +1,15 @@
 -- The loop fills the words in order; the fields are read behind them.
-use mathlib.Core.Path.{_≡_, refl, ap, _∙_}
-use Prim.Native.Nat.{_≤_, _+_, _*_, _-_}
+use Prim.Native.Nat.{_-_, _≤_}
+use mathlib.Core.Path.{_≡_}
+use lib.ListN.{drop}
+use lib.Seq.{sets}
 use native.Mathlib.Omega.{arith}
-use lib.ListN.{length, drop}
-use lib.Seq.{sets, length-sets}
 use borrow.Author.Needs.{needs}
-use Rattle.words.specs.Fields.{node}
 use Rattle.graph.specs.Lists.{table}
 use Rattle.timeline.proofs.WordLaws.{fill-length, fill-step}
 use Rattle.timeline.proofs.step.put_field.Statement.{statement}
+use Rattle.words.specs.Fields.{node}
 use Rattle.timeline.proofs.step.put_field.Tie as tie
-use Rattle.timeline.proofs.step.put_field.Reads as reads
-use Rattle.timeline.proofs.step.put_field.Lts as lts
 
 abbrev Inv-loop : tie.InvT-loop
 Inv-loop work₀ m k s q i₀ work i = (i ≤ m) × (work ≡ sets work₀ q (table (node k (drop s work₀)) 0 i))

@@ -1,17 +1,14 @@
 -- The numbers are written in order; words and fields are read before and behind them.
-use mathlib.Core.Path.{_≡_, refl, sym, ap, _∙_}
-use Prim.Native.Nat.{_≤_, _+_, _*_, _-_}
-use native.Mathlib.Omega.{arith}
-use lib.ListN.{length, drop, getD}
+use Prim.Native.Nat.{_+_, _-_, _≤_}
+use mathlib.Core.Path.{_∙_, _≡_, ap, refl, sym}
+use lib.ListN.{drop, getD}
 use lib.Seq.{sets}
-use borrow.Author.Needs.{needs}
-use Rattle.words.specs.Fields.{node}
+use native.Mathlib.Omega.{arith}
 use Rattle.graph.specs.Lists.{table}
 use Rattle.timeline.proofs.WordLaws.{fill-length, map-step, map-table}
 use Rattle.timeline.proofs.step.put_map.Statement.{statement}
+use Rattle.words.specs.Fields.{node}
 use Rattle.timeline.proofs.step.put_map.Tie as tie
-use Rattle.timeline.proofs.step.put_map.Reads as reads
-use Rattle.timeline.proofs.step.put_map.Lts as lts
 
 abbrev Inv-loop : tie.InvT-loop
 Inv-loop work₀ from count s q n i₀ work i = (i ≤ count) × (work ≡ sets work₀ q (table (λ k. node 0 (drop s work₀) (getD work₀ (from + k) 0)) 0 i))

@@ -1,11 +1,11 @@
 -- The step's pieces follow one another: what each needs, and what they leave.
-use mathlib.Core.Path.{_≡_, refl, _∙_}
+use Prim.Native.Nat.{_*_, _+_, _-_, ℕ}
 use mathlib.Core.List.{List}
-use Prim.Native.Nat.{ℕ, _+_, _*_, _-_}
+use mathlib.Core.Path.{_∙_, _≡_}
+use lib.ListN.{drop, length, take}
 use native.Mathlib.Omega.{arith}
 use borrow.Author.Needs.{needs}
 use borrow.Rule.Slice.PartMut.{putMid}
-use lib.ListN.{length, take, drop}
 use Rattle.timeline.proofs.StepLaws.{few-out, front-4, length-4, length-7, loaded, low-out, need-active, need-added, need-edges, need-map, stepped}
 use Rattle.timeline.proofs.step.step.Statement.{statement}
 use Rattle.timeline.proofs.step.step.Tie as tie

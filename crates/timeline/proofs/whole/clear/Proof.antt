@@ -1,14 +1,13 @@
-use Rattle.timeline.proofs.WordLaws.{fill-length}
-use Rattle.graph.specs.Lists.{table}
-use lib.Seq.{sets}
+-- The words are set to 0 in order.
 use Prim.Native.Nat.{_-_, _≤_, ℕ}
-use native.Mathlib.Omega.{arith}
 use mathlib.Core.Path.{_≡_, refl}
+use lib.Seq.{sets}
+use native.Mathlib.Omega.{arith}
+use Rattle.graph.specs.Lists.{table}
 use Rattle.timeline.proofs.CallLaws.{cleared-all, cleared-more}
+use Rattle.timeline.proofs.WordLaws.{fill-length}
 use Rattle.timeline.proofs.whole.clear.Statement.{statement}
 use Rattle.timeline.proofs.whole.clear.Tie as tie
-use Rattle.timeline.proofs.whole.clear.Reads as reads
-use Rattle.timeline.proofs.whole.clear.Lts as lts
 
 abbrev Inv-loop : tie.InvT-loop
 Inv-loop work₀ k i₀ work i = (i ≤ k) × (work ≡ sets work₀ 0 (table {A = ℕ} (λ _. 0) 0 i))
@@ -16,35 +15,27 @@ Inv-loop work₀ k i₀ work i = (i ≤ k) × (work ≡ sets work₀ 0 (table {A
 abbrev μ-loop : tie.MeasureT-loop
 μ-loop work₀ k i₀ work i = k - i
 
--- src/whole.rt:77:5
 loop-holds : tie.Need-loop-holds Inv-loop μ-loop
 loop-holds c = (omega arith, refl)
 
--- src/whole.rt:78:9
 mul-work : tie.Need-mul-work Inv-loop μ-loop
 mul-work c = omega arith
 
--- src/whole.rt:78:9
 slice-write-work : tie.Need-slice-write-work Inv-loop μ-loop
 slice-write-work c = omega (arith, fill-length (c .before .before .args .work .now) 0 (table {A = ℕ} (λ _. 0) 0 (c .before .loop .i)) (c .before .loop .inv .1))
 
--- src/whole.rt:77:9
 add-i : tie.Need-add-i Inv-loop μ-loop
 add-i c = omega arith
 
--- src/whole.rt:77:5
 loop-less : tie.Need-loop-less Inv-loop μ-loop
 loop-less c = omega arith
 
--- src/whole.rt:77:5
 loop-again : tie.Need-loop-again Inv-loop μ-loop
 loop-again c = (omega arith, cleared-more (c .before .before .args .work .now) (c .before .loop .work) (c .before .loop .i) (c .before .loop .inv .1))
 
--- src/whole.rt:73:1
 same-length : tie.Need-same-length Inv-loop μ-loop
 same-length c = fill-length (c .before .before .args .work .now) 0 (table {A = ℕ} (λ _. 0) 0 (c .before .loop .i)) (c .before .loop .inv .1)
 
--- src/whole.rt:73:1
 returns : tie.Need-returns Inv-loop μ-loop
 returns c = cleared-all (c .before .before .args .work .now) _ (c .before .loop .i) (c .before .before .args .k) (omega arith) (c .before .before .pre) (c .before .loop .inv .1)
 

@@ -1,15 +1,13 @@
-use lib.ListN.{getD, length}
+-- The queries so far, and those that are left, are all queries.
 use Prim.Native.Nat.{_+_, _-_, _≤_}
-use native.Mathlib.Omega.{arith}
-use lib.Dec.{eqb}
 use mathlib.Core.Bool.{_||_, not}
 use mathlib.Core.Path.{_≡_}
+use lib.Dec.{eqb}
+use lib.ListN.{getD, length}
+use native.Mathlib.Omega.{arith}
 use Rattle.timeline.proofs.CallLaws.{count, count-end, count-more, count-start, query-most}
 use Rattle.timeline.proofs.whole.count_queries.Statement.{statement}
 use Rattle.timeline.proofs.whole.count_queries.Tie as tie
-use Rattle.timeline.proofs.whole.count_queries.Reads as reads
-use Rattle.timeline.proofs.whole.count_queries.Lts as lts
-use Rattle.timeline.proofs.whole.is_query.Reads as is-query-reads
 
 abbrev Inv-loop : tie.InvT-loop
 Inv-loop x k₀ i₀ k i = (i ≤ length x) × (k ≤ i) × (k + count (λ i. not (eqb (getD x i 0) 65535 || eqb (getD x i 0) 65534)) i (length x - i) ≡ count (λ i. not (eqb (getD x i 0) 65535 || eqb (getD x i 0) 65534)) 0 (length x))
@@ -17,39 +15,30 @@ Inv-loop x k₀ i₀ k i = (i ≤ length x) × (k ≤ i) × (k + count (λ i. no
 abbrev μ-loop : tie.MeasureT-loop
 μ-loop x k₀ i₀ k i = length x - i
 
--- src/whole.rt:63:5
 loop-holds : tie.Need-loop-holds Inv-loop μ-loop
 loop-holds c = (omega arith, omega arith, count-start (λ i. not (eqb (getD (c .before .args .x .now) i 0) 65535 || eqb (getD (c .before .args .x .now) i 0) 65534)) (length (c .before .args .x .now)))
 
--- src/whole.rt:64:20
 mul-kind : tie.Need-mul-kind Inv-loop μ-loop
 mul-kind c = omega arith
 
--- src/whole.rt:64:20
 shared-slice-read-kind : tie.Need-shared-slice-read-kind Inv-loop μ-loop
 shared-slice-read-kind c = omega arith
 
--- src/whole.rt:65:13
 is-query-requires : tie.Need-is-query-requires Inv-loop μ-loop
 is-query-requires c κs = omega arith
 
--- src/whole.rt:66:9
 add-k : tie.Need-add-k Inv-loop μ-loop
 add-k c = omega (arith, query-most (not (eqb (getD (c .before .before .before .before .before .args .x .now) (c .before .before .before .loop .i) 0) 65535 || eqb (getD (c .before .before .before .before .before .args .x .now) (c .before .before .before .loop .i) 0) 65534)) (c .is-query .result) (c .is-query .ensures))
 
--- src/whole.rt:67:9
 add-i : tie.Need-add-i Inv-loop μ-loop
 add-i c = omega arith
 
--- src/whole.rt:63:5
 loop-less : tie.Need-loop-less Inv-loop μ-loop
 loop-less c = omega arith
 
--- src/whole.rt:63:5
 loop-again : tie.Need-loop-again Inv-loop μ-loop
 loop-again c = (omega arith, omega (arith, query-most (not (eqb (getD (c .before .before .before .before .before .args .x .now) (c .before .before .before .loop .i) 0) 65535 || eqb (getD (c .before .before .before .before .before .args .x .now) (c .before .before .before .loop .i) 0) 65534)) (c .is-query .result) (c .is-query .ensures)), count-more (λ i. not (eqb (getD (c .before .before .before .before .before .args .x .now) i 0) 65535 || eqb (getD (c .before .before .before .before .before .args .x .now) i 0) 65534)) (length (c .before .before .before .before .before .args .x .now)) (c .before .before .before .loop .i) (c .before .before .before .loop .k) (c .is-query .result) (omega arith) (c .is-query .ensures) (c .before .before .before .loop .inv .2))
 
--- src/whole.rt:57:1
 returns : tie.Need-returns Inv-loop μ-loop
 returns c = count-end (λ i. not (eqb (getD (c .before .before .before .args .x .now) i 0) 65535 || eqb (getD (c .before .before .before .args .x .now) i 0) 65534)) (length (c .before .before .before .args .x .now)) (c .before .loop .i) (c .before .loop .k) (omega arith) (c .before .loop .inv .2)
 

@@ -1,17 +1,15 @@
-use Rattle.timeline.proofs.WordLaws.{fill-length}
-use Rattle.timeline.specs.Events.{activeOf}
-use Rattle.graph.specs.Lists.{pairs}
-use lib.Seq.{sets}
-use lib.ListN.{length, take}
+-- The junctions of the events are written in order.
 use Prim.Native.Nat.{_-_, _≤_}
-use native.Mathlib.Omega.{arith}
 use mathlib.Core.Path.{_∙_, _≡_}
+use lib.ListN.{length, take}
+use lib.Seq.{sets}
+use native.Mathlib.Omega.{arith}
+use Rattle.graph.specs.Lists.{pairs}
 use Rattle.timeline.proofs.CallLaws.{junctions-all, junctions-more, junctions-none}
+use Rattle.timeline.proofs.WordLaws.{fill-length}
 use Rattle.timeline.proofs.whole.put_junctions.Statement.{statement}
+use Rattle.timeline.specs.Events.{activeOf}
 use Rattle.timeline.proofs.whole.put_junctions.Tie as tie
-use Rattle.timeline.proofs.whole.put_junctions.Reads as reads
-use Rattle.timeline.proofs.whole.put_junctions.Lts as lts
-use Rattle.timeline.proofs.whole.put_ends.Reads as put-ends-reads
 
 abbrev Inv-loop : tie.InvT-loop
 Inv-loop a b x y work₀ i₀ work i = (i ≤ length x) × (work ≡ sets work₀ 0 (activeOf (pairs a b) (take i (pairs x y))))
@@ -19,47 +17,36 @@ Inv-loop a b x y work₀ i₀ work i = (i ≤ length x) × (work ≡ sets work�
 abbrev μ-loop : tie.MeasureT-loop
 μ-loop a b x y work₀ i₀ work i = length x - i
 
--- src/whole.rt:37:5
 loop-holds : tie.Need-loop-holds Inv-loop μ-loop
 loop-holds c = (omega arith, junctions-none (pairs (c .before .before .before .before .before .args .a .now) (c .before .before .before .before .before .args .b .now)) (pairs (c .before .before .before .before .before .args .x .now) (c .before .before .before .before .before .args .y .now)) (c .before .before .before .before .before .args .work .now))
 
--- src/whole.rt:38:20
 mul-kind : tie.Need-mul-kind Inv-loop μ-loop
 mul-kind c = omega arith
 
--- src/whole.rt:38:20
 shared-slice-read-kind : tie.Need-shared-slice-read-kind Inv-loop μ-loop
 shared-slice-read-kind c = omega arith
 
--- src/whole.rt:39:21
 mul-other : tie.Need-mul-other Inv-loop μ-loop
 mul-other c = omega arith
 
--- src/whole.rt:39:21
 shared-slice-read-other : tie.Need-shared-slice-read-other Inv-loop μ-loop
 shared-slice-read-other c = omega arith
 
--- src/whole.rt:40:9
 put-ends-requires : tie.Need-put-ends-requires Inv-loop μ-loop
 put-ends-requires c κs = (omega (arith, c .before .before .before .before .before .before .before .before .before .before .pre .1, fill-length (c .before .before .before .before .before .before .before .before .before .before .args .work .now) 0 (activeOf (pairs (c .before .before .before .before .before .before .before .before .before .before .args .a .now) (c .before .before .before .before .before .before .before .before .before .before .args .b .now)) (take (c .before .before .before .before .loop .i) (pairs (c .before .before .before .before .before .before .before .before .before .before .args .x .now) (c .before .before .before .before .before .before .before .before .before .before .args .y .now)))) (c .before .before .before .before .loop .inv .1)), λ h. c .before .before .before .before .before .before .before .before .before .before .pre .3 (c .before .before .before .before .loop .i) (omega arith) h)
 
--- src/whole.rt:41:9
 add-i : tie.Need-add-i Inv-loop μ-loop
 add-i c = omega arith
 
--- src/whole.rt:37:5
 loop-less : tie.Need-loop-less Inv-loop μ-loop
 loop-less c = omega arith
 
--- src/whole.rt:37:5
 loop-again : tie.Need-loop-again Inv-loop μ-loop
 loop-again c = (omega arith, c .before .before .put-ends .ensures ∙ junctions-more (pairs (c .before .before .before .before .before .before .before .before .before .before .before .before .before .args .a .now) (c .before .before .before .before .before .before .before .before .before .before .before .before .before .args .b .now)) (c .before .before .before .before .before .before .before .before .before .before .before .before .before .args .x .now) (c .before .before .before .before .before .before .before .before .before .before .before .before .before .args .y .now) (c .before .before .before .before .before .before .before .loop .i) (c .before .before .before .before .before .before .before .before .before .before .before .before .before .args .work .now) (c .before .before .before .before .before .before .before .loop .work) (omega arith) (c .before .before .before .before .before .before .before .before .before .before .before .before .before .pre .0) (c .before .before .before .before .before .before .before .loop .inv .1))
 
--- src/whole.rt:32:1
 same-length : tie.Need-same-length Inv-loop μ-loop
 same-length c = fill-length (c .before .before .before .before .before .before .before .args .work .now) 0 (activeOf (pairs (c .before .before .before .before .before .before .before .args .a .now) (c .before .before .before .before .before .before .before .args .b .now)) (take (c .before .loop .i) (pairs (c .before .before .before .before .before .before .before .args .x .now) (c .before .before .before .before .before .before .before .args .y .now)))) (c .before .loop .inv .1)
 
--- src/whole.rt:32:1
 returns : tie.Need-returns Inv-loop μ-loop
 returns c = junctions-all (pairs (c .before .before .before .before .before .before .before .args .a .now) (c .before .before .before .before .before .before .before .args .b .now)) (c .before .before .before .before .before .before .before .args .x .now) (c .before .before .before .before .before .before .before .args .y .now) (c .before .loop .i) (c .before .before .before .before .before .before .before .args .work .now) _ (omega arith) (c .before .before .before .before .before .before .before .pre .0) (c .before .loop .inv .1)
 

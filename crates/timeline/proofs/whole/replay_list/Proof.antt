@@ -1,28 +1,21 @@
-use Rattle.timeline.proofs.CallLaws.{empty-replied}
+-- A list without events has no window.
 use borrow.Author.Needs.{needs}
+use Rattle.timeline.proofs.CallLaws.{empty-replied}
 use Rattle.timeline.proofs.whole.replay_list.Statement.{statement}
 use Rattle.timeline.proofs.whole.replay_list.Tie as tie
-use Rattle.timeline.proofs.whole.replay_list.Reads as reads
-use Rattle.timeline.proofs.whole.replay_list.Lts as lts
-use Rattle.timeline.proofs.whole.replay_windows.Reads as replay-windows-reads
 
--- src/whole.rt:125:9
 returns : tie.Need-returns
 returns c = empty-replied (c .before .before .before .before .before .before .before .args .n) (c .before .before .before .before .before .before .before .args .m) (c .before .before .before .before .before .before .before .args .t) (c .before .before .before .before .before .before .before .args .p) (c .before .before .before .before .before .before .before .args .a .now) (c .before .before .before .before .before .before .before .args .b .now) (c .before .before .before .before .before .before .before .args .x .now) (c .before .before .before .before .before .before .before .args .y .now) (c .before .before .before .before .before .before .before .args .answers .now) (c .before .before .before .before .before .before .before .args .work .now) (c .before .before .before .before .before .before .before .pre) (c .if1 .taken)
 
--- src/whole.rt:130:5
 replay-windows-requires : tie.Need-replay-windows-requires
 replay-windows-requires c κs = search needs
 
--- src/whole.rt:108:1
 same-length : tie.Need-same-length
 same-length c = search needs
 
--- src/whole.rt:108:1
 same-length-2 : tie.Need-same-length-2
 same-length-2 c = search needs
 
--- src/whole.rt:108:1
 returns-2 : tie.Need-returns-2
 returns-2 c = search needs
 

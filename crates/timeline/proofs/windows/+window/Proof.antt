@@ -1,24 +1,24 @@
 -- The window's recursion: what its calls need, and how its two parts make it.
-use Prim.Native.Nat.{ℕ, _<_, _≤_, _+_, _*_, _-_}
+use Prim.Native.Nat.{_*_, _+_, _-_, _<_, _≤_, ℕ}
 use mathlib.Core.List.{List}
-use mathlib.Core.Path.{_≡_, refl, sym, ap, _∙_}
+use mathlib.Core.Path.{_∙_, _≡_, refl}
+use lib.ListN.{length, take}
 use native.Mathlib.Omega.{arith}
-use lib.ListN.{length, take, drop, length-set, length-take, length-drop}
 use borrow.Author.Needs.{needs}
 use borrow.Fn.Kinds.{In}
-use borrow.Fn.PlainCycle.{Measures, is, falls, and}
-use borrow.Rule.Slice.PartMut.{take-put, putMid}
+use borrow.Fn.PlainCycle.{Measures, and, falls, is}
+use borrow.Rule.Slice.PartMut.{putMid, take-put}
 use Rattle.tables.specs.OpenSet.{isOpen}
-use Rattle.timeline.specs.Windows.{openBefore}
 use Rattle.timeline.proofs.DescentLaws.{area-nodes, done-one, done-two, first-open, part-ready, second-ready, shares, step-ready}
+use Rattle.timeline.proofs.windows.+window.{statement}
+use Rattle.timeline.proofs.windows.+window.Tie.{close}
+use Rattle.timeline.specs.Windows.{openBefore}
 use Rattle.timeline.proofs.windows.window.Reads as window
 use Rattle.timeline.proofs.windows.window.Kinds as window-kinds
 use Rattle.timeline.proofs.windows.+window.Lts-window as window-lts
 use Rattle.timeline.proofs.windows.first_part.Reads as first-part-reads
 use Rattle.timeline.proofs.windows.one.Reads as one-reads
 use Rattle.timeline.proofs.step.step.Reads as step-reads
-use Rattle.timeline.proofs.windows.+window.{statement}
-use Rattle.timeline.proofs.windows.+window.Tie.{close}
 
 abbrev μ-window : Measures 4 window-kinds.ps ℕ
 μ-window κs a = a .1 .1 .1 .0

@@ -1,20 +1,16 @@
-use native.Mathlib.Omega.{arith}
+-- The share of a window, at least one event.
 use native.Mathlib.Nat.{mul-le-mul-left}
+use native.Mathlib.Omega.{arith}
 use borrow.Author.Needs.{needs}
 use Rattle.timeline.proofs.windows.first_part.Statement.{statement}
 use Rattle.timeline.proofs.windows.first_part.Tie as tie
-use Rattle.timeline.proofs.windows.first_part.Reads as reads
-use Rattle.timeline.proofs.windows.first_part.Lts as lts
 
--- src/windows.rt:13:13
 mul-f : tie.Need-mul-f
 mul-f c = omega (arith, mul-le-mul-left (c .args .n) (c .pre .1))
 
--- src/windows.rt:9:1
 returns : tie.Need-returns
 returns c = search needs
 
--- src/windows.rt:9:1
 returns-2 : tie.Need-returns-2
 returns-2 c = search needs
 
