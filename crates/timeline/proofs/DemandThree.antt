@@ -23,7 +23,7 @@ use Rattle.graph.specs.Lists.{member, pairs, range, sum}
 use Rattle.graph.specs.SmallGraph.{endsIn, image}
 use Rattle.tables.specs.Refusal.{Refusal}
 use Rattle.timeline.proofs.Acceptance.{Accepted, Good, accepted-from, accepted-good, events-length, fault-share, pick-inside}
-use Rattle.timeline.specs.DemandThree.{Alike, Allowed, Among, Demand-3, Demand3, Faithful}
+use Rattle.timeline.specs.DemandThree.{Alike, Allowed, Among, Demand-3, Demand-3-of-calls, Demand3, Faithful, outcomeOf}
 use Rattle.timeline.specs.Events.{networkOf}
 use Rattle.timeline.specs.Replay.{Lent, Outcome, bytes, done, fault, given, openAtEnd, queries, refused, replay}
 use Rattle.timeline.specs.Windows.{Timeline, Window, active, kept, network, size, small, stands, windows}
@@ -139,3 +139,6 @@ both l k p q a b =
 -- ---- the theorem
 pub demand-3 : Demand-3
 demand-3 l k p q a b r s e f = subst (λ (x : Outcome). Demand3 l k p q x s) (sym e) (subst (λ (x : Outcome). Demand3 l k p q (replay l p) x) (sym f) (both l k p q a b))
+
+pub demand-3-of-calls : Demand-3-of-calls
+demand-3-of-calls c d a b e f = demand-3 (c .lends) (d .lends) (c .share) (d .share) a b (outcomeOf c) (outcomeOf d) e f

@@ -6,12 +6,14 @@ use lib.ListN.{replicate}
 use native.Mathlib.Omega.{arith}
 use Rattle.graph.specs.Contraction.{contract, kept, keptClasses, linked, number, parts, third, without}
 use Rattle.graph.specs.Graph.{Edge, answer, joined, removals, rep, twoEdge}
+use Rattle.graph.specs.Lists.{over}
 use Rattle.graph.specs.SmallGraph.{image}
-use Rattle.timeline.proofs.DemandThree.{demand-3}
-use Rattle.timeline.specs.DemandThree.{Among, Demand3}
+use Rattle.timeline.proofs.DemandThree.{demand-3, demand-3-of-calls}
+use Rattle.timeline.specs.DemandThree.{Among, Call, Demand3, Promised, outcomeOf}
 use Rattle.timeline.specs.Events.{activeOf, networkOf}
 use Rattle.timeline.specs.Replay.{Lent, given, replay}
 use Rattle.timeline.specs.Windows.{active, network, small, stands, windows}
+use Rattle.timeline.specs.declared.ReplayReply.the-variants.{Done}
 use Rattle.timeline.specs.Windows as W
 use Rattle.timeline.specs.Replay as R
 
@@ -56,3 +58,21 @@ example = (both .faithful accepted (2, 3) window) .answers ((2, 0) ∷ (2, 0) �
 -- with the share 12 it is accepted too, and the tables hold the same afterwards
 pub example-shares : ((replay triangle 12) .code ≡ 0) × ((replay triangle 8) .answers ≡ (replay triangle 12) .answers) × ((replay triangle 8) .work ≡ (replay triangle 12) .work)
 example-shares = let t = both .tables refl in (t .0 .0 accepted, t .1 accepted .0, t .1 accepted .1)
+
+-- ---- the same of two calls: what `replay` replied to the triangle, with both shares
+abbrev eight : Call
+eight = record { share = 8; lends = triangle; reply = Done (record { queries = 2; «open» = 3; kept = 19 }); answers = 3 ∷ 3 ∷ 1 ∷ 3 ∷ 2 ∷ []; work = over (replicate 3424 0) (replicate 4096 7) }
+
+abbrev twelve : Call
+twelve = record { share = 12; lends = triangle; reply = Done (record { queries = 2; «open» = 3; kept = 20 }); answers = 3 ∷ 3 ∷ 1 ∷ 3 ∷ 2 ∷ []; work = over (replicate 3424 0) (replicate 4096 7) }
+
+eight-promised : Promised eight
+unfolding rep joined removals twoEdge answer without parts kept third linked keptClasses number contract activeOf networkOf W.openBefore W.windowsFrom W.windows W.during W.network W.active W.small W.stands W.kept R.byte R.bytes R.queries R.openAtEnd R.given R.eventFault R.faultAt R.listFaults R.faults R.fault R.done R.refused R.replay
+eight-promised = refl
+
+twelve-promised : Promised twelve
+unfolding rep joined removals twoEdge answer without parts kept third linked keptClasses number contract activeOf networkOf W.openBefore W.windowsFrom W.windows W.during W.network W.active W.small W.stands W.kept R.byte R.bytes R.queries R.openAtEnd R.given R.eventFault R.faultAt R.listFaults R.faults R.fault R.done R.refused R.replay
+twelve-promised = refl
+
+pub example-calls : Demand3 triangle triangle 8 12 (outcomeOf eight) (outcomeOf twelve)
+example-calls = demand-3-of-calls eight twelve (omega arith, omega arith) (omega arith, omega arith) eight-promised twelve-promised

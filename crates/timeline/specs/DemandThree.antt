@@ -1,5 +1,5 @@
 -- Demand 3: one statement about two replays, with its parts (a) to (e). Its proof is proofs/DemandThree.
--- It cites, of Replay: Lent, given, Outcome, replay; of Windows: windows, network, active, small, stands; of the crate graph: answer, the answer of two nodes,
+-- It cites, of Replay: Lent, given, Outcome, replay; of Call: outcome; of Windows: windows, network, active, small, stands; of the crate graph: answer, the answer of two nodes,
 -- image, the edges of a list with their ends moved, different, the number of different entries, and mostNodes, the bound 2k - 2 (k where k is below 2).
 -- Assumes nothing: these are definitions.
 use Prim.Native.Nat.{_≤_, ℕ}
@@ -10,8 +10,10 @@ use lib.ListN.{take}
 use Rattle.graph.specs.Graph.{Edge, answer}
 use Rattle.graph.specs.Lists.{sum}
 use Rattle.graph.specs.SmallGraph.{different, image, mostNodes}
+use Rattle.timeline.specs.Call.{outcome}
 use Rattle.timeline.specs.Replay.{Lent, Outcome, given, replay}
 use Rattle.timeline.specs.Windows.{Timeline, Window, active, kept, network, small, stands, windows}
+use Rattle.timeline.specs.declared.ReplayReply.{ReplayReply}
 
 -- ---- the words of the statement
 -- "The share p is 4 to 12"
@@ -50,3 +52,23 @@ pub record Demand3 (l k : Lent) (p q : ℕ) (r s : Outcome) : Type 0 where
 
 abbrev pub Demand-3 : Type 0
 Demand-3 = (l k : Lent) (p q : ℕ) → Allowed p → Allowed q → (r s : Outcome) → r ≡ replay l p → s ≡ replay k q → Demand3 l k p q r s
+
+-- ---- the same of calls that were made
+-- a call of the public `replay` (src/lib.rt): its share, what it was lent, its reply, and the two tables that it may write as they were afterwards
+pub record Call : Type 0 where
+  pub share : ℕ
+  pub lends : Lent
+  pub reply : ReplayReply
+  pub answers : List ℕ
+  pub work : List ℕ
+
+-- the call's outcome, and what its own `ensures` says of it
+abbrev pub outcomeOf : Call → Outcome
+outcomeOf c = outcome (c .reply) (c .answers) (c .work)
+
+abbrev pub Promised : Call → Type 0
+Promised c = outcomeOf c ≡ replay (c .lends) (c .share)
+
+abbrev pub Demand-3-of-calls : Type 0
+Demand-3-of-calls = (c d : Call) → Allowed (c .share) → Allowed (d .share) → Promised c → Promised d
+    → Demand3 (c .lends) (d .lends) (c .share) (d .share) (outcomeOf c) (outcomeOf d)
