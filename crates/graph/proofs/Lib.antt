@@ -28,5 +28,4 @@ pub mod CanonicalContraction
 pub mod EdgeCount
 pub mod Reading
 pub mod SpanningForest
-pub mod ComponentMerging
 pub mod ActiveLists

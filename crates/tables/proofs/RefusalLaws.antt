@@ -41,23 +41,11 @@ pub silent-right : (rs bs : List Row) → Silent (rs ++ bs) → Silent bs
 silent-right [] bs s = s
 silent-right (r ∷ rs) bs s = silent-right rs bs (s .1)
 
-pub silent-append : (rs bs : List Row) → Silent rs → Silent bs → Silent (rs ++ bs)
-silent-append [] bs s t = t
-silent-append (r ∷ rs) bs s t = (s .0, silent-append rs bs (s .1) t)
-
 pub numbered-append : (rs bs : List Row) → Numbered rs → Numbered bs → Numbered (rs ++ bs)
 numbered-append [] bs s t = t
 numbered-append (r ∷ rs) bs s t = (s .0, numbered-append rs bs (s .1) t)
 
 -- ---- the first that passes
-pub seek-most : (f : ℕ → Bool) (i k : ℕ) → seek f i k ≤ i + k
-seek-most f i zero = omega arith
-seek-most f i (suc k) = go (f i) (seek-most f (i + 1) k)
-  where
-    go : (b : Bool) → seek f (i + 1) k ≤ i + 1 + k → cond b i (seek f (i + 1) k) ≤ i + suc k
-    go true h = omega arith
-    go false h = omega arith
-
 -- what is found passes
 pub seek-found : (f : ℕ → Bool) (i k : ℕ) → seek f i k < i + k → f (seek f i k) ≡ true
 seek-found f i zero l = absurd (omega arith)
