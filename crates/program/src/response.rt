@@ -54,7 +54,7 @@ pub(crate) fn replay_input(
     crate::reading::fill(input, 4 + 2 * m, t, &mut x);
     crate::reading::fill(input, 4 + 2 * m + t, t, &mut y);
     let xs = &x[..t];
-    let reply = timeline::replay(
+    let reply = engine::replay(
         n,
         m,
         t,

@@ -101,7 +101,7 @@ pub(crate) fn agrees(c: Case, want: Want) -> bool {
     let want_answers = want.answers;
     let mut answers = [9u8; 20];
     let mut work = [7u32; 5400];
-    let r = plain(timeline::replay(n, m, t, c.p, &a, &b, &x, &y, &mut answers, &mut work));
+    let r = plain(engine::replay(n, m, t, c.p, &a, &b, &x, &y, &mut answers, &mut work));
     if r.code != fault.code {
         return false;
     }

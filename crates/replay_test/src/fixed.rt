@@ -48,7 +48,7 @@ pub(crate) fn two(t: usize, p: usize, x: [u16; 2], y: [u16; 2]) -> Reply {
     let b = [1u16, 2];
     let mut answers = [9u8; 2];
     let mut work = [7u32; 2656];
-    let r = cases::plain(timeline::replay(3, 2, t, p, &a, &b, &x, &y, &mut answers, &mut work));
+    let r = cases::plain(engine::replay(3, 2, t, p, &a, &b, &x, &y, &mut answers, &mut work));
     checked(r, &answers, &work)
 }
 
@@ -78,7 +78,7 @@ pub(crate) fn lengths(short: usize) -> usize {
     let f = length(2, 4, short);
     let g = length(2, 5, short);
     let h = length(2656, 6, short);
-    let r = cases::plain(timeline::replay(
+    let r = cases::plain(engine::replay(
         3,
         2,
         2,
@@ -128,7 +128,7 @@ pub(crate) fn order(faults: usize) -> usize {
     let y = [0u16, 1];
     let mut answers = [9u8; 2];
     let mut work = [7u32; 2656];
-    let r = cases::plain(timeline::replay(n, 2, t, p, &a, &b, &x, &y, &mut answers, &mut work));
+    let r = cases::plain(engine::replay(n, 2, t, p, &a, &b, &x, &y, &mut answers, &mut work));
     checked(r, &answers, &work).code
 }
 
@@ -137,7 +137,7 @@ pub(crate) fn junctions(n: usize) -> Reply {
     let none = [0u16; 1];
     let mut answers = [9u8; 1];
     let mut work = [7u32; 133152];
-    cases::plain(timeline::replay(
+    cases::plain(engine::replay(
         n,
         0,
         0,

@@ -234,7 +234,7 @@ fn with_work(p: Plan, work: &mut [u32; 1181700]) -> Full {
     let want_bytes = want.bytes;
     let want_tally = want.tally;
     let mut answers = [9u8; 4096];
-    let r = cases::plain(timeline::replay(
+    let r = cases::plain(engine::replay(
         4096,
         8192,
         4096,

@@ -7,12 +7,3 @@ pub mod Steps
 pub mod Leaves
 pub mod Cases
 pub mod Example
-pub mod WordLaws
-pub mod EdgeLaws
-pub mod EnterLaws
-pub mod SegmentLaws
-pub mod AddingLaws
-pub mod StepLaws
-pub mod DescentLaws
-pub mod CheckLaws
-pub mod CallLaws

@@ -54,7 +54,7 @@ abbrev pub Demand-3 : Type 0
 Demand-3 = (l k : Lent) (p q : ℕ) → Allowed p → Allowed q → (r s : Outcome) → r ≡ replay l p → s ≡ replay k q → Demand3 l k p q r s
 
 -- ---- the same of calls that were made
--- a call of the public `replay` (src/lib.rt): its share, what it was lent, its reply, and the two tables that it may write as they were afterwards
+-- a call of the public `replay` (crate engine): its share, what it was lent, its reply, and the two tables that it may write as they were afterwards
 pub record Call : Type 0 where
   pub share : ℕ
   pub lends : Lent

@@ -1,0 +1,9 @@
+pub mod WordLaws
+pub mod EdgeLaws
+pub mod EnterLaws
+pub mod SegmentLaws
+pub mod AddingLaws
+pub mod StepLaws
+pub mod DescentLaws
+pub mod CheckLaws
+pub mod CallLaws
