@@ -2,20 +2,12 @@
 -- Assumes nothing.
 use Prim.Native.Nat.{_<_, ℕ}
 use mathlib.Core.List.{List}
-use mathlib.Core.Logic.{_⊎_, inl, inr}
+use mathlib.Core.Logic.{inl, inr}
 use native.Mathlib.Omega.{arith}
 use Rattle.branches.specs.SmallForest.{ParentPair, ParentPairs, SmallForest}
-use Rattle.graph.proofs.Medians.{between-sym}
-use Rattle.graph.proofs.Separation.{insep-sym}
+use Rattle.graph.proofs.Renumbering.{linked-flip}
 use Rattle.graph.proofs.SmallGraphs.{Linked, SmallGraph}
 use Rattle.graph.specs.Graph.{Edge}
-
-linked-flip : (E : List Edge) (h : ℕ) (ρ : ℕ → ℕ) (i j : ℕ) → Linked E h ρ i j → Linked E h ρ j i
-linked-flip E h ρ i j l = record { to = insep-sym E (l .to); third = λ k b n. swap (l .third k b (between-sym E _ _ _ n)) }
-  where
-    swap : {A B : Type 0} → A ⊎ B → B ⊎ A
-    swap (inl a) = inr a
-    swap (inr b) = inl b
 
 pub forest-small : {E : List Edge} {S : List ℕ} {h : ℕ} {ρ σ up : ℕ → ℕ} {H : List Edge} → SmallForest E S h ρ σ up → ParentPairs h up H → SmallGraph E S h H ρ σ
 forest-small {E} {S} {h} {ρ} {σ} {up} {H} s l = record {

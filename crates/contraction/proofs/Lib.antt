@@ -1,4 +1,3 @@
 pub mod FaultLaws
 pub mod LoadLaws
 pub mod ResultLaws
-pub mod TableLaws

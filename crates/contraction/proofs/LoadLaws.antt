@@ -8,10 +8,10 @@ use lib.Dec.{eqb}
 use lib.ListN.{getD, getD-replicate, length, length-replicate, replicate, take}
 use native.Mathlib.Omega.{arith}
 use borrow.Author.Tests.{eq-eqb, eqb-false, eqb-true, ne-eqb}
-use Rattle.contraction.proofs.TableLaws.{over-front, over-length, over-past, pairs-table, table-equal, table-more, table-size}
+use Rattle.graph.proofs.TableLaws.{over-front, over-length, over-past, pairs-table, table-equal, table-more}
+use Rattle.graph.proofs.Lists.{table-length, All, Pairwise, all-filter, filter-all, filter-length, firsts-cover, firsts-in, firsts-pairwise, mem-member, member-mem, pairwise-filter, table-all, table-in, table-mem}
 use Rattle.contraction.specs.Loading.{Edges, Entered, Entering, Entries, Loadable, Past, Prepared}
 use Rattle.graph.proofs.Booleans.{contradict, onBool}
-use Rattle.graph.proofs.Lists.{All, Pairwise, all-filter, filter-all, filter-length, firsts-cover, firsts-in, firsts-pairwise, mem-member, member-mem, pairwise-filter, table-all, table-in, table-mem}
 use Rattle.graph.specs.Lists.{filter, firsts, member, over, table}
 use Rattle.words.proofs.FieldLaws.{update-at, update-other, update-same}
 use Rattle.words.specs.Fields.{Put, PutHalf, half, node, update}
@@ -93,7 +93,7 @@ entered-most {n} {d} {S} {mark} {act} g = omega (
   arith,
   distinct-most n (table act 0 d)
       (subst (Pairwise eqb) (sym (g .active)) (firsts-pairwise eqb S)) (table-all (λ x. x < n) act 0 d (λ i a b. g .below i (omega arith))),
-  table-size act 0 d,
+  table-length act 0 d,
 )
 
 module _ {n d v : ℕ} {S : List ℕ} {mark act : ℕ → ℕ} (g : Entered n S d mark act) where
@@ -136,7 +136,7 @@ module _ {n d v : ℕ} {S : List ℕ} {mark act : ℕ → ℕ} (g : Entered n S 
       arith,
       distinct-most n (table (update act d v) 0 (d + 1))
           (subst (Pairwise eqb) (sym active-new) (firsts-pairwise eqb (S ++ (v ∷ [])))) (table-all (λ x. x < n) (update act d v) 0 (d + 1) (λ i a b. below-new i (omega arith))),
-      table-size (update act d v) 0 (d + 1),
+      table-length (update act d v) 0 (d + 1),
     )
 
     not-entered : (i : ℕ) → i < d → ¬ (act i ≡ v)

@@ -12,7 +12,8 @@ use borrow.Author.Tests.{eqb-false, eqb-true, lt-ltb}
 use Rattle.contraction.proofs.FaultLaws.{Sound}
 use Rattle.contraction.proofs.LoadLaws.{firsts-mem}
 use Rattle.graph.proofs.ActiveLists.{canonical-repeats, small-repeats}
-use Rattle.contraction.proofs.TableLaws.{over-equal, pairs-table, table-map, table-size, take-table}
+use Rattle.graph.proofs.TableLaws.{over-equal, pairs-table, table-map, take-table}
+use Rattle.graph.proofs.Lists.{table-length, table-mem}
 use Rattle.contraction.specs.Call.{Lent, done, edges, entries, required}
 use Rattle.contraction.specs.Loading.{Loadable, Prepared}
 use Rattle.contraction.specs.Reply.{outcome}
@@ -23,7 +24,6 @@ use Rattle.graph.proofs.Canonical.{the-one}
 use Rattle.graph.proofs.CanonicalContraction.{contract-canon}
 use Rattle.graph.proofs.ContractionIsSmall.{contract-small}
 use Rattle.graph.proofs.EdgeCount.{small-edges-entries, small-edges-most}
-use Rattle.graph.proofs.Lists.{table-mem}
 use Rattle.graph.proofs.SmallGraphDefinition.{definition-small}
 use Rattle.graph.proofs.SmallGraphs.{SmallGraph}
 use Rattle.graph.proofs.Uniqueness.{nodes-same, places-same}
@@ -142,7 +142,7 @@ module _ (l : Lent) (s : Sound l) where
         (omega (arith, q .0, q .1, r .less, s .within .nodes), omega (arith, q .1, r .less, s .within .nodes))
 
     edges-length : length (edgesOut e w₂) ≡ e
-    edges-length = table-size (λ j. (node 4 w₂ j, node 5 w₂ j)) 0 e
+    edges-length = table-length (λ j. (node 4 w₂ j, node 5 w₂ j)) 0 e
 
     pub edges-few : e ≤ l .n
     edges-few = omega (arith, edges-length, small-edges-most (edges l) (entries l) h (edgesOut e w₂) (r .ρ) (r .σ) small, r .less)

@@ -1,7 +1,7 @@
-// The reply's tables, filled from the words, and the words cleared.
+// The reply's tables, filled from the words.
 ghost use mathlib.Core.Path.{_≡_};
 ghost use Prim.Native.Nat.{ℕ, _*_, _<_, _≤_};
-ghost use lib.ListN.{length, getD, replicate};
+ghost use lib.ListN.{length, getD};
 ghost use Rattle.graph.specs.Lists.{table, over};
 ghost use Rattle.words.specs.Fields.{node};
 
@@ -24,15 +24,5 @@ pub(crate) fn fill_ends(work: &[u32], e: usize, j: usize, out: &mut [u16])
     for i in 0..e {
         let x = words::get(work, i, j);
         out[i] = x as u16;
-    }
-}
-
-// Sets the first count words to 0.
-pub(crate) fn clear(work: &mut [u32], count: usize)
-    requires { ⌜ count ≤ length (now work) ⌝ }
-    ensures { λ _. ⌜ now (work .exit) ≡ over (replicate count 0) (now (work .entry)) ⌝ }
-{
-    for i in 0..count {
-        work[i] = 0;
     }
 }

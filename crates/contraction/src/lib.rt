@@ -36,7 +36,7 @@ fn contracted(
     filling::fill_map(work, n, k, active, map);
     filling::fill_ends(work, edges, 4, out_from);
     filling::fill_ends(work, edges, 5, out_to);
-    filling::clear(work, checks::required(n, m));
+    words::clear(work, checks::required(n, m));
     ContractReply::Done(nodes, edges)
 }
 

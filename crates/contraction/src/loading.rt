@@ -1,8 +1,7 @@
 // The input as the words that the contraction takes: the different active nodes in order of first appearance, and the ends of the edges.
-use crate::filling;
 ghost use mathlib.Core.Path.{_≡_};
 ghost use Prim.Native.Nat.{ℕ, _+_, _*_, _<_, _≤_};
-ghost use mathlib.Core.List.{List, []};
+ghost use mathlib.Core.List.{List};
 ghost use lib.ListN.{length, getD, take};
 ghost use Rattle.words.specs.Fields.{node};
 ghost use Rattle.contraction.specs.Loading.{Entered, Entering, Entries, Edges, Loadable, Prepared};
@@ -60,7 +59,7 @@ pub(crate) fn load(
     requires { ⌜ Loadable n m k (now from) (now to) (now active) (now work) ⌝ }
     ensures { λ r. ⌜ Prepared n m k (now (from .entry)) (now (to .entry)) (now (active .entry)) (now (work .entry)) (now (work .exit)) r ⌝ }
 {
-    filling::clear(work, 16 * n);
+    words::clear(work, 16 * n);
     let d = enter_active(work, n, k, active);
     load_edges(work, n, m, from, to);
     d

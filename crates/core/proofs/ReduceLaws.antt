@@ -1,9 +1,9 @@
 -- The words from one call of `reduce` to the next: what each call asks for follows from what those before it ensure, and at the end the small graph stands in the words.
 -- Assumes nothing.
-use Prim.Native.Nat.{ℕ, zero, suc, _+_, _-_, _*_, _<_, _≤_}
+use Prim.Native.Nat.{ℕ, zero, _+_, _-_, _*_, _<_, _≤_}
 use mathlib.Core.List.{List, [], _∷_}
 use mathlib.Core.Logic.{inl, inr, ⊎-elim}
-use mathlib.Core.Path.{_≡_, _∙_, ap, ap₂, refl, subst}
+use mathlib.Core.Path.{_≡_, _∙_, ap, refl, subst}
 use lib.ListN.{length, getD}
 use native.Mathlib.Omega.{arith}
 use Rattle.branches.proofs.SmallForestLaws.{forest-small}
@@ -23,16 +23,13 @@ use Rattle.forest.specs.Search.{BetweenTrees}
 use Rattle.graph.proofs.CutEquivalence.{small-cuts-equal}
 use Rattle.graph.proofs.SmallGraphDefinition.{small-definition}
 use Rattle.graph.proofs.SmallGraphs.{SmallGraph}
+use Rattle.graph.proofs.TableLaws.{table-equal}
 use Rattle.graph.specs.Cut.{cut}
 use Rattle.graph.specs.Graph.{NodeSet}
 use Rattle.graph.specs.Lists.{table}
 use Rattle.graph.specs.SmallGraph.{Canonical, IsSmallGraph}
 use Rattle.words.proofs.ChangeLaws.{only-past}
 use Rattle.words.specs.Fields.{half, node}
-
-table-same : (f g : ℕ → ℕ) (j c : ℕ) → ((i : ℕ) → i < j + c → f i ≡ g i) → table f j c ≡ table g j c
-table-same f g j zero e = refl
-table-same f g j (suc c) e = ap₂ _∷_ (e j (omega arith)) (table-same f g (suc j) c (λ i l. e i (omega arith)))
 
 -- the listed edges are the pairs of a number and its parent
 listed-pairs : {n h e : ℕ} {a w : List ℕ} → EdgesListed n h a w e → ParentPairs h (node 9 a) (edgesOut e w)
@@ -95,7 +92,7 @@ module _ {n m k : ℕ} {w₀ : List ℕ} (s : Loaded n m k w₀) where
           act₃ i l = ap (λ f. f i) f1 ∙ act₂ i l
 
           actives-same : table (node 1 w₃) 0 k ≡ activeIn k w₀
-          actives-same = table-same (node 1 w₃) (node 1 w₀) 0 k (λ i l. act₃ i (omega arith))
+          actives-same = table-equal (node 1 w₃) (node 1 w₀) 0 k (λ i _ l. act₃ i (omega arith))
 
           module _ {e : ℕ} {w₅ : List ℕ} (l : EdgesListed n h w₄ w₅ e) where
             act₅ : (i : ℕ) → i < k → node 1 w₅ i ≡ node 1 w₀ i

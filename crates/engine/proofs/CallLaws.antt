@@ -12,7 +12,6 @@ use native.Mathlib.Omega.{arith}
 use borrow.Author.Tests.{eqb-true, le-ltb, ltb-false, ltb-true, ne-eqb}
 use Rattle.core.specs.declared.Counts.{Counts}
 use Rattle.graph.proofs.Booleans.{and-elim, contradict, onBool}
-use Rattle.graph.proofs.Lists.{table-length}
 use Rattle.graph.proofs.Transfer.{self-carries}
 use Rattle.graph.specs.Graph.{Edge}
 use Rattle.graph.specs.Lists.{filter, over, pairs, range, sum, table}
@@ -22,18 +21,20 @@ use Rattle.tables.specs.Refusal.{Refusal, firstFault, row}
 use Rattle.tables.specs.Sizes.{sizeFaults}
 use Rattle.timeline.proofs.Acceptance.{Accepted, accepted-ends, accepted-from, events-length, getD-pairs, segments-length}
 use Rattle.timeline.proofs.DemandThree.{accepted-done, bytes-length}
-use Rattle.engine.proofs.DescentLaws.{open-one, sound-good}
+use Rattle.windows.proofs.DescentLaws.{open-one, sound-good}
 use Rattle.timeline.proofs.Networks.{network-start}
-use Rattle.engine.proofs.SegmentLaws.{none-open}
-use Rattle.engine.proofs.StepLaws.{active-length, sound-fine}
-use Rattle.engine.proofs.WordLaws.{fill-more, mid-sets, pairs-at, pairs-length, sets-append}
-use Rattle.engine.specs.Area.{Area, Replied, SmallArea, Sound, StepReady, Stepped, WindowDone, WindowReady}
+use Rattle.segments.proofs.SegmentLaws.{none-open}
+use Rattle.step.proofs.StepLaws.{active-length, sound-fine}
+use Rattle.step.proofs.WordLaws.{mid-sets, sets-append}
+use Rattle.graph.proofs.TableLaws.{pairs-at, pairs-length}
+use Rattle.step.specs.Area.{Area, SmallArea, Sound, StepReady, Stepped}
+use Rattle.windows.specs.Descent.{Replied, WindowDone, WindowReady}
 use Rattle.timeline.specs.Call.{lent, outcome}
 use Rattle.timeline.specs.Events.{Event, activeOf, after, asks, closes, ends, names, opens}
 use Rattle.timeline.specs.Replay.{Lent, Outcome, byte, bytes, done, eventFault, fault, faultAt, faults, given, listFaults, openAtEnd, queries, refused, replay, required, shareFaults}
 use Rattle.timeline.specs.Windows.{Timeline, active, during, event, kept, openBefore, size, small, windows, windowsFrom}
 use Rattle.timeline.specs.declared.ReplayReply.the-variants.{Done, Refused}
-use Rattle.engine.specs.declared.Sum.{Sum}
+use Rattle.windows.specs.declared.Sum.{Sum}
 
 -- ---- the junctions of the events
 pub ends-named : (a b : List ℕ) (x y : ℕ) → (eqb x 65535 || eqb x 65534) ≡ true → y < length a → y < length b → ends (pairs a b) (x, y) ≡ (getD a y 0, getD b y 0)
@@ -149,19 +150,8 @@ query-most true r e = omega arith
 query-most false r e = omega arith
 
 -- ---- words set to 0
-table-zero : (i k : ℕ) → table {A = ℕ} (λ _. 0) i k ≡ replicate k 0
-table-zero i zero = refl
-table-zero i (suc k) = ap (λ (l : List ℕ). 0 ∷ l) (table-zero (suc i) k)
-
 sets-over : (vs l : List ℕ) → length vs ≤ length l → sets l 0 vs ≡ over vs l
 sets-over vs l h = let z : 0 + length vs ≡ length vs = omega arith in sets-eq vs l 0 (omega arith) ∙ ap (λ (k : ℕ). vs ++ drop k l) z
-
-pub cleared-more : (w z : List ℕ) (i : ℕ) → z ≡ sets w 0 (table {A = ℕ} (λ _. 0) 0 i) → set z i 0 ≡ sets w 0 (table {A = ℕ} (λ _. 0) 0 (i + 1))
-cleared-more w z i e = let s : i ≡ 0 + i = omega arith in ap₂ (λ (z : List ℕ) (k : ℕ). set z k 0) e s ∙ fill-more (λ _. 0) w 0 i 0 refl
-
-pub cleared-all : (w z : List ℕ) (i k : ℕ) → i ≡ k → k ≤ length w → z ≡ sets w 0 (table {A = ℕ} (λ _. 0) 0 i) → z ≡ over (replicate k 0) w
-cleared-all w z i k q l e =
-    e ∙ ap (λ (k : ℕ). sets w 0 (table {A = ℕ} (λ _. 0) 0 k)) q ∙ sets-over (table {A = ℕ} (λ _. 0) 0 k) w (omega (arith, table-length (λ _. 0) 0 k)) ∙ ap (λ (v : List ℕ). over v w) (table-zero 0 k)
 
 -- ---- an accepted list is sound
 module _ (l : Lent) (p : ℕ) (a : Accepted l p) where

@@ -1,9 +1,1 @@
-pub mod WordLaws
-pub mod EdgeLaws
-pub mod EnterLaws
-pub mod SegmentLaws
-pub mod AddingLaws
-pub mod StepLaws
-pub mod DescentLaws
-pub mod CheckLaws
 pub mod CallLaws

@@ -3,12 +3,12 @@ ghost use mathlib.Core.Path.{_≡_};
 ghost use mathlib.Core.Bool.{_||_, cond, not, true};
 ghost use Prim.Native.Nat.{ℕ, _+_, _*_, _<_, _≤_};
 ghost use lib.Dec.{eqb};
-ghost use lib.ListN.{length, getD, replicate, set};
+ghost use lib.ListN.{length, getD, set};
 ghost use lib.Seq.{sets};
-ghost use Rattle.graph.specs.Lists.{filter, over, pairs, range};
+ghost use Rattle.graph.specs.Lists.{filter, pairs, range};
 ghost use Rattle.timeline.specs.Events.{activeOf, ends};
 ghost use Rattle.timeline.specs.Replay.{done, fault, given};
-ghost use Rattle.engine.specs.Area.{Replied};
+ghost use Rattle.windows.specs.Descent.{Replied};
 ghost use Rattle.timeline.specs.Call.{lent, outcome};
 ghost use Rattle.timeline.specs.declared.ReplayReply.the-variants.{Done};
 
@@ -17,7 +17,7 @@ pub(crate) fn put_ends(a: &[u16], b: &[u16], x: u16, y: u16, i: usize, work: &mu
     requires { ⌜ (2 * i + 2 ≤ length (now work)) × ((eqb x 65535 || eqb x 65534) ≡ true → (y < length (now a)) × (y < length (now b))) ⌝ }
     ensures { λ _. ⌜ now (work .exit) ≡ set (set (now (work .entry)) (2 * i) (ends (pairs (now (a .entry)) (now (b .entry))) (x, y) .0)) (2 * i + 1) (ends (pairs (now (a .entry)) (now (b .entry))) (x, y) .1) ⌝ }
 {
-    let names = crate::segments::names_segment(x);
+    let names = segments::names_segment(x);
     if names {
         let s = y as usize;
         work[2 * i] = a[s] as u32;
@@ -47,7 +47,7 @@ pub(crate) fn put_junctions(a: &[u16], b: &[u16], x: &[u16], y: &[u16], work: &m
 pub(crate) fn is_query(x: u16) -> usize
     ensures { λ r. ⌜ r ≡ cond (not (eqb x 65535 || eqb x 65534)) 1 0 ⌝ }
 {
-    let names = crate::segments::names_segment(x);
+    let names = segments::names_segment(x);
     if names {
         return 0;
     }
@@ -71,17 +71,6 @@ pub(crate) fn count_queries(x: &[u16]) -> usize
     k
 }
 
-// Sets the first k words to 0.
-pub(crate) fn clear(work: &mut [u32], k: usize)
-    requires { ⌜ k ≤ length (now work) ⌝ }
-    ensures { λ _. ⌜ now (work .exit) ≡ over (replicate k 0) (now (work .entry)) ⌝ }
-{
-    // The first i words are 0.
-    for i in 0..k {
-        work[i] = 0;
-    }
-}
-
 // The windows of a list that has some: the window above the whole list has all junctions as its nodes and no edge.
 pub(crate) fn replay_windows(
     n: usize,
@@ -94,7 +83,7 @@ pub(crate) fn replay_windows(
     y: &[u16],
     answers: &mut [u8],
     work: &mut [u32],
-) -> crate::Sum
+) -> windows::Sum
     requires { ⌜ (fault (lent n m t (now a) (now b) (now x) (now y) (now answers) (now work)) p .0 ≡ 0) × (0 < t) ⌝ }
     ensures { λ r. ⌜ Replied (given (lent n m t (now (a .entry)) (now (b .entry)) (now (x .entry)) (now (y .entry)) (now (answers .entry)) (now (work .entry)))) 0 t p (now (answers .entry)) (now (answers .exit)) r ⌝ }
 {
@@ -102,9 +91,9 @@ pub(crate) fn replay_windows(
     let ys = &y[..t];
     put_junctions(&a[..m], &b[..m], xs, ys, work);
     let held = [0u64; 128];
-    let r = crate::step::step(xs, ys, 0, t, 0, t, n, 0, held, work);
+    let r = step::step(xs, ys, 0, t, 0, t, n, 0, held, work);
     let q = 10 * t;
-    crate::windows::window(
+    windows::window(
         xs,
         ys,
         0,
@@ -130,13 +119,13 @@ pub(crate) fn replay_list(
     y: &[u16],
     answers: &mut [u8],
     work: &mut [u32],
-) -> crate::Sum
+) -> windows::Sum
     requires { ⌜ fault (lent n m t (now a) (now b) (now x) (now y) (now answers) (now work)) p .0 ≡ 0 ⌝ }
     ensures { λ r. ⌜ Replied (given (lent n m t (now (a .entry)) (now (b .entry)) (now (x .entry)) (now (y .entry)) (now (answers .entry)) (now (work .entry)))) 0 t p (now (answers .entry)) (now (answers .exit)) r ⌝ }
 {
     if t == 0 {
         let none = [0u64; 128];
-        return crate::Sum {
+        return windows::Sum {
             held: none,
             kept: 0,
         };
@@ -165,7 +154,7 @@ pub(crate) fn accepted(
     let last = sum.held;
     let opened = tables::count(last);
     let queries = count_queries(&x[..t]);
-    clear(work, need);
+    words::clear(work, need);
     timeline::Totals {
         queries: queries,
         open: opened,

@@ -29,3 +29,4 @@ pub mod EdgeCount
 pub mod Reading
 pub mod SpanningForest
 pub mod ActiveLists
+pub mod TableLaws

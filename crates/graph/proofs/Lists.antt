@@ -237,7 +237,7 @@ position-nth f i c (x ∷ xs) m p = go (f x) refl m (λ n. position-nth f (suc i
         (s, there (subst (λ (v : ℕ). Nth s (suc i) xs v) z n), h)
 
 -- ---- the nodes as a list
-pub table-length : (ρ : ℕ → ℕ) (i n : ℕ) → length (table ρ i n) ≡ n
+pub table-length : {A : Type 0} (ρ : ℕ → A) (i n : ℕ) → length (table ρ i n) ≡ n
 table-length ρ i zero = refl
 table-length ρ i (suc n) = ap suc (table-length ρ (suc i) n)
 

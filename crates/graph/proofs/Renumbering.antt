@@ -26,8 +26,8 @@ taken-true : (P : ℕ → Type 0) (b : Bool) (f : b ≡ true → ℕ) → b ≡ 
 taken-true P true f e k = k refl
 taken-true P false f e k = contradict e refl
 
-flip : (E : List Edge) (h : ℕ) (ρ : ℕ → ℕ) (i j : ℕ) → Linked E h ρ i j → Linked E h ρ j i
-flip E h ρ i j l = record { to = insep-sym E (l .to); third = λ k lk b. swap (l .third k lk (between-sym E (ρ j) (ρ k) (ρ i) b)) }
+pub linked-flip : (E : List Edge) (h : ℕ) (ρ : ℕ → ℕ) (i j : ℕ) → Linked E h ρ i j → Linked E h ρ j i
+linked-flip E h ρ i j l = record { to = insep-sym E (l .to); third = λ k lk b. swap (l .third k lk (between-sym E (ρ j) (ρ k) (ρ i) b)) }
   where
     swap : {A B : Type 0} → A ⊎ B → B ⊎ A
     swap (inl a) = inr a
@@ -43,7 +43,7 @@ written E S h H ρ σ g i j li lj n = onBool (ltb i j)
     (λ t. let l : j < i = omega (arith, ltb-false i j t) in
     let a : min i j ≡ j = omega arith in
     let b : max i j ≡ i = omega arith in
-    (λ k. subst₂′ (sym a) (sym b) (g .linked j i l li (flip E h ρ i j k)), λ m. flip E h ρ j i (g .edge j i (subst₂′ a b m) .2)))
+    (λ k. subst₂′ (sym a) (sym b) (g .linked j i l li (linked-flip E h ρ i j k)), λ m. linked-flip E h ρ j i (g .edge j i (subst₂′ a b m) .2)))
   where
     subst₂′ : {x y u v : ℕ} → x ≡ u → y ≡ v → List·Memᴰ (x, y) H → List·Memᴰ (u, v) H
     subst₂′ p q m = subst (λ (e : Edge). List·Memᴰ e H) (ap₂ (λ (a b : ℕ). (a, b)) p q) m

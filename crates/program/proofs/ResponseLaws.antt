@@ -14,7 +14,7 @@ use Rattle.graph.specs.Lists.{pairs}
 use Rattle.program.proofs.ReadingLaws.{filled-take, many-events, many-junctions, many-segments, other-length, words16-length}
 use Rattle.program.proofs.TextLaws.{decimal-most, word-at}
 use Rattle.program.specs.Printing.{Wrote, eventAt, printedOf}
-use Rattle.program.specs.Reading.{Filled, HeaderOutcome, Read, checkInput, headerOutcome, ifAccepted}
+use Rattle.program.specs.Reading.{Filled, HeaderOutcome, Read, checkInput, headerOutcome}
 use Rattle.program.specs.declared.reading.Header.{Header}
 use Rattle.program.specs.declared.reading.Header.the-variants.{Refused, Sizes}
 use Rattle.tables.proofs.RefusalLaws.{fault-silent}

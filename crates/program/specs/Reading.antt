@@ -1,6 +1,6 @@
 -- What reading the input gives. Assumes nothing: these are definitions.
 use Prim.Native.Nat.{_*_, _+_, _<_, _≤_, ℕ}
-use mathlib.Core.Bool.{Bool, cond, false, true}
+use mathlib.Core.Bool.{Bool, false, true}
 use mathlib.Core.List.{List}
 use mathlib.Core.Path.{_≡_}
 use lib.Dec.{eqb}
@@ -8,6 +8,7 @@ use lib.ListN.{getD, length}
 use Rattle.program.specs.declared.reading.Header.{Header}
 use Rattle.program.specs.declared.reading.Header.the-variants.{Refused, Sizes}
 use Rattle.tables.specs.Refusal.{Refusal}
+use Rattle.tables.specs.Sizes.{ifAccepted}
 use Rattle.timeline.specs.Program.{eventsOf, inputFault, inputLength, junctionsOf, segmentsOf, shareOf, words16}
 
 -- the refusal's number and place, and the sizes and the share where there is none
@@ -24,9 +25,6 @@ pub record HeaderOutcome : Type 0 where
 abbrev pub headerOutcome : Header → HeaderOutcome
 headerOutcome (Sizes n m t p) = record { accepted = true; code = 0; place = 0; n = n; m = m; t = t; p = p }
 headerOutcome (Refused c) = record { accepted = false; code = c; place = 0; n = 0; m = 0; t = 0; p = 0 }
-
-abbrev pub ifAccepted : Refusal → ℕ → ℕ
-ifAccepted f x = cond (eqb (f .0) 0) x 0
 
 -- the outcome that an input must have
 abbrev pub checkInput : List ℕ → HeaderOutcome

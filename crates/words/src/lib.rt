@@ -1,6 +1,7 @@
 ghost use mathlib.Core.Path.{_≡_};
 ghost use Prim.Native.Nat.{ℕ, _+_, _*_, _<_, _≤_};
-ghost use lib.ListN.{length, getD, set};
+ghost use lib.ListN.{length, getD, set, replicate};
+ghost use Rattle.graph.specs.Lists.{over};
 ghost use Rattle.words.specs.Fields.{node, half, Put, PutHalf};
 
 // Internal: field k of node v.
@@ -33,4 +34,14 @@ pub fn put_half(work: &mut [u32], n: usize, h: usize, k: usize, x: usize)
     ensures { λ _. ⌜ PutHalf n k h x (now (work .entry)) (now (work .exit)) ⌝ }
 {
     work[16 * n + 2 * h + k] = x as u32;
+}
+
+// Internal: sets the first count words to 0.
+pub fn clear(work: &mut [u32], count: usize)
+    requires { ⌜ count ≤ length (now work) ⌝ }
+    ensures { λ _. ⌜ now (work .exit) ≡ over (replicate count 0) (now (work .entry)) ⌝ }
+{
+    for i in 0..count {
+        work[i] = 0;
+    }
 }

@@ -3,7 +3,7 @@ use mathlib.Core.Path.{_≡_, refl}
 use lib.ListN.{getD}
 use native.Mathlib.Omega.{arith}
 use borrow.Author.Needs.{needs}
-use Rattle.contraction.proofs.TableLaws.{written-all, written-length, written-more}
+use Rattle.graph.proofs.TableLaws.{written-all, written-length, written-more}
 use Rattle.contraction.proofs.filling.fill_map.Statement.{statement}
 use Rattle.graph.specs.Lists.{over, table}
 use Rattle.words.specs.Fields.{node}

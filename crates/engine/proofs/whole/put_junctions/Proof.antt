@@ -6,7 +6,7 @@ use lib.Seq.{sets}
 use native.Mathlib.Omega.{arith}
 use Rattle.graph.specs.Lists.{pairs}
 use Rattle.engine.proofs.CallLaws.{junctions-all, junctions-more, junctions-none}
-use Rattle.engine.proofs.WordLaws.{fill-length}
+use Rattle.step.proofs.WordLaws.{fill-length}
 use Rattle.engine.proofs.whole.put_junctions.Statement.{statement}
 use Rattle.timeline.specs.Events.{activeOf}
 use Rattle.engine.proofs.whole.put_junctions.Tie as tie

@@ -1,0 +1,189 @@
+// The checks of a replay, in document 01's order. They read the tables only.
+ghost use mathlib.Core.Path.{_≡_};
+ghost use Prim.Native.Nat.{_<_, _≤_};
+ghost use lib.ListN.{length, take};
+ghost use Rattle.graph.specs.Lists.{pairs};
+ghost use Rattle.tables.specs.OpenSet.{isOpen};
+ghost use Rattle.tables.specs.Refusal.{firstFault, seek};
+ghost use Rattle.tables.specs.Sizes.{sizeFaults};
+ghost use Rattle.timeline.specs.Replay.{badSegment, eventFault, fault};
+ghost use Rattle.timeline.specs.Call.{lent};
+ghost use Rattle.checks.specs.Check.{eventsFault, refusal};
+
+// A refusal's number and its place; 0 and 0 where nothing is refused.
+pub struct Fault {
+    pub code: usize,
+    pub place: usize,
+}
+
+// The first segment with an end not below n, or m.
+fn bad_segment(n: usize, m: usize, a: &[u16], b: &[u16]) -> usize
+    requires { ⌜ (m ≤ length (now a)) × (m ≤ length (now b)) ⌝ }
+    ensures { λ r. ⌜ r ≡ seek (badSegment n (now (a .entry)) (now (b .entry))) 0 m ⌝ }
+{
+    let mut s: usize = 0;
+    // No segment before s has such an end.
+    while s < m {
+        let u = a[s] as usize;
+        if n <= u {
+            return s;
+        }
+        let v = b[s] as usize;
+        if n <= v {
+            return s;
+        }
+        s += 1;
+    }
+    s
+}
+
+// The fault of one event, where the segments of `held` are open before it: 0, 5, 6 or 7.
+fn event_fault(n: usize, m: usize, held: &[u64; 128], x: u16, y: usize) -> usize
+    requires { ⌜ length (now held) ≡ 128 ⌝ }
+    ensures { λ r. ⌜ r ≡ eventFault n m (isOpen (now (held .entry))) (x, y) ⌝ }
+{
+    let kind = timeline::kind_of(x, n);
+    match kind {
+        timeline::Kind::Query => {
+            if y < n {
+                return 0;
+            }
+            return 5;
+        }
+        timeline::Kind::Opens => {
+            if m <= y {
+                return 5;
+            }
+            let open = segments::contains(held, y);
+            if open {
+                return 6;
+            }
+            return 0;
+        }
+        timeline::Kind::Closes => {
+            if m <= y {
+                return 5;
+            }
+            let open = segments::contains(held, y);
+            if open {
+                return 0;
+            }
+            return 7;
+        }
+        timeline::Kind::Nothing => {
+            return 5;
+        }
+    }
+}
+
+// The first fault of the t events: the open set is handed on from event to event.
+fn bad_event(n: usize, m: usize, t: usize, x: &[u16], y: &[u16]) -> Fault
+    requires { ⌜ (t ≤ length (now x)) × (t ≤ length (now y)) × (m ≤ 8192) × (n ≤ 4096) ⌝ }
+    ensures { λ r. ⌜ refusal r ≡ eventsFault n m (pairs (take t (now (x .entry))) (take t (now (y .entry)))) t ⌝ }
+{
+    let mut held = [0u64; 128];
+    let mut i: usize = 0;
+    // No event before i has a fault, and the set is what is open before i.
+    while i < t {
+        let kind = x[i];
+        let s = y[i] as usize;
+        let code = event_fault(n, m, &held, kind, s);
+        if code > 0 {
+            return Fault {
+                code: code,
+                place: i,
+            };
+        }
+        let next = segments::after_event(held, kind, s);
+        held = next;
+        i += 1;
+    }
+    Fault { code: 0, place: 0 }
+}
+
+// The fault of the sizes.
+fn size_fault(n: usize, m: usize, t: usize) -> Fault
+    ensures { λ r. ⌜ refusal r ≡ firstFault (sizeFaults n m t 0) ⌝ }
+{
+    let sizes = tables::Sizes::check(n, m, t, 0);
+    match sizes {
+        tables::SizesReply::Refused(code, place) => {
+            return Fault {
+                code: code,
+                place: place,
+            };
+        }
+        tables::SizesReply::Within(_) => {
+            return Fault { code: 0, place: 0 };
+        }
+    }
+}
+
+// The faults behind those of the sizes.
+fn check_tables(
+    n: usize,
+    m: usize,
+    t: usize,
+    p: usize,
+    a: &[u16],
+    b: &[u16],
+    x: &[u16],
+    y: &[u16],
+    answers: &[u8],
+    work: &[u32],
+) -> Fault
+    requires { ⌜ (n ≤ 4096) × (m ≤ 8192) × (t ≤ 4096) ⌝ }
+    ensures { λ r. ⌜ refusal r ≡ fault (lent n m t (now (a .entry)) (now (b .entry)) (now (x .entry)) (now (y .entry)) (now (answers .entry)) (now (work .entry))) p ⌝ }
+{
+    if a.len() < m {
+        return Fault { code: 2, place: 0 };
+    }
+    if b.len() < m {
+        return Fault { code: 2, place: 0 };
+    }
+    if x.len() < t {
+        return Fault { code: 2, place: 0 };
+    }
+    if y.len() < t {
+        return Fault { code: 2, place: 0 };
+    }
+    if answers.len() < t {
+        return Fault { code: 2, place: 0 };
+    }
+    if work.len() < 256 * t + 32 * n + 2048 {
+        return Fault { code: 2, place: 0 };
+    }
+    if p < 4 {
+        return Fault { code: 3, place: 0 };
+    }
+    if 12 < p {
+        return Fault { code: 3, place: 0 };
+    }
+    let s = bad_segment(n, m, a, b);
+    if s < m {
+        return Fault { code: 4, place: s };
+    }
+    bad_event(n, m, t, x, y)
+}
+
+// Internal: the first fault of all.
+pub fn check(
+    n: usize,
+    m: usize,
+    t: usize,
+    p: usize,
+    a: &[u16],
+    b: &[u16],
+    x: &[u16],
+    y: &[u16],
+    answers: &[u8],
+    work: &[u32],
+) -> Fault
+    ensures { λ r. ⌜ refusal r ≡ fault (lent n m t (now (a .entry)) (now (b .entry)) (now (x .entry)) (now (y .entry)) (now (answers .entry)) (now (work .entry))) p ⌝ }
+{
+    let f = size_fault(n, m, t);
+    if f.code > 0 {
+        return f;
+    }
+    check_tables(n, m, t, p, a, b, x, y, answers, work)
+}

@@ -1,3 +1,0 @@
-pub mod Area
-pub mod Load
-pub mod Check

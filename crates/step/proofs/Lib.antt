@@ -1,0 +1,5 @@
+pub mod WordLaws
+pub mod EdgeLaws
+pub mod EnterLaws
+pub mod AddingLaws
+pub mod StepLaws
