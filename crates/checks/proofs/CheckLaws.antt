@@ -9,78 +9,35 @@ use lib.ListN.{getD, length, take}
 use lib.Seq.{take-suc}
 use native.Mathlib.Numerals.{add-one}
 use native.Mathlib.Omega.{arith}
-use borrow.Author.Tests.{eq-eqb, eqb-false, eqb-true, le-leb, le-ltb, lt-leb, lt-ltb, ltb-false, ne-eqb}
+use borrow.Author.Tests.{eq-eqb, eqb-false, eqb-true, le-ltb, lt-ltb, ltb-false, ne-eqb}
 use Rattle.graph.proofs.Booleans.{onBool}
 use Rattle.graph.specs.Lists.{pairs}
-use Rattle.tables.proofs.RefusalLaws.{Numbered, fault-silent, seek-at, seek-end}
+use Rattle.tables.proofs.RefusalLaws.{fault-left, fault-silent, seek-at, seek-end, sizes-numbered, skip-silent}
 use Rattle.tables.specs.OpenSet.{isOpen}
-use Rattle.tables.specs.Refusal.{Refusal, Row, firstFault, row, seek}
-use Rattle.tables.specs.Sizes.{SizesOutcome, checkSizes, sizeFaults, sizesOutcome}
-use Rattle.tables.specs.declared.Sizes.{Sizes}
-use Rattle.tables.specs.declared.SizesReply.{SizesReply}
-use Rattle.tables.specs.declared.SizesReply.the-variants.{Refused, Within}
-use Rattle.timeline.proofs.Acceptance.{fault-fine, getD-pairs, length-pairs, skip-silent}
+use Rattle.tables.specs.Refusal.{Refusal, Row, firstFault, row, seek, badEnds}
+use Rattle.tables.specs.Sizes.{sizeFaults}
+use Rattle.timeline.proofs.Acceptance.{fault-fine, getD-pairs, length-pairs}
 use Rattle.timeline.proofs.Networks.{after-append}
 use Rattle.checks.specs.Check.{eventsFault, faultOf}
 use Rattle.timeline.specs.Events.{Event, SegmentSet, after, afterAll, kindOf}
-use Rattle.timeline.specs.Replay.{Lent, badSegment, eventFault, fault, faultAt, faults, given, listFaults, required, shareFaults, shortTables}
+use Rattle.timeline.specs.Replay.{Lent, eventFault, fault, faultAt, faults, given, listFaults, required, shareFaults, shortTables}
 use Rattle.timeline.specs.Windows.{atStart, openBefore}
 use Rattle.timeline.specs.declared.Kind.{Kind}
 use Rattle.timeline.specs.declared.Kind.the-variants.{Closes, Nothing, Opens, Query}
-
--- ---- segments, from s on
-module _ (n m s : ℕ) (a b : List ℕ) where
-  pub bad-from : n ≤ getD a s 0 → badSegment n a b s ≡ true
-  bad-from l = rw (le-leb n (getD a s 0) l) refl
-
-  pub bad-to : getD a s 0 < n → n ≤ getD b s 0 → badSegment n a b s ≡ true
-  bad-to k l = rw (lt-leb n (getD a s 0) k, le-leb n (getD b s 0) l) refl
-
-  pub bad-not : getD a s 0 < n → getD b s 0 < n → badSegment n a b s ≡ false
-  bad-not k l = rw (lt-leb n (getD a s 0) k, lt-leb n (getD b s 0) l) refl
-
-  pub found-here : (f : ℕ → Bool) → s < m → ((u : ℕ) → u < s → f u ≡ false) → f s ≡ true → s ≡ seek f 0 m
-  found-here f l h t = sym (seek-at f 0 m s (omega arith) (omega arith) t (λ u p q. h u q))
-
-  pub found-none : (f : ℕ → Bool) → s ≡ m → ((u : ℕ) → u < s → f u ≡ false) → s ≡ seek f 0 m
-  found-none f e h = e ∙ sym (seek-end f 0 m (λ u p q. h u (omega arith)) ∙ omega arith)
 
 -- what holds below s and at s holds below s + 1
 pub below-next : (f : ℕ → Bool) (s : ℕ) → ((u : ℕ) → u < s → f u ≡ false) → f s ≡ false → (u : ℕ) → u < s + 1 → f u ≡ false
 below-next f s h t u l = onBool (eqb u s) (λ q. ap f (eqb-true u s q) ∙ t) (λ q. let ne : ¬ (u ≡ s) = eqb-false u s q in h u (omega arith))
 
 -- ---- the sizes
-pub sizes-code : (n m t k : ℕ) {o : SizesOutcome} → o ≡ checkSizes n m t k → (o .code, o .place) ≡ firstFault (sizeFaults n m t k)
-sizes-code n m t k e = ap (λ (o : SizesOutcome). (o .code, o .place)) e
-
-module _ (n m t : ℕ) {r : SizesReply} (e : sizesOutcome r ≡ checkSizes n m t 0) where
-  pub sizes-refused : (c i : ℕ) → r ≡ Refused c i → (c, i) ≡ firstFault (sizeFaults n m t 0)
-  sizes-refused c i q = sizes-code n m t 0 (ap sizesOutcome (sym q) ∙ e)
-
-  pub sizes-within : (s : Sizes) → r ≡ Within s → (0, 0) ≡ firstFault (sizeFaults n m t 0)
-  sizes-within s q = sizes-code n m t 0 (ap sizesOutcome (sym q) ∙ e)
-
-size-numbered : (n m t k : ℕ) → Numbered (sizeFaults n m t k)
-size-numbered n m t k = (λ h. omega arith, (λ h. omega arith, (λ h. omega arith, (λ h. omega arith, tt))))
-
--- a fault of the first list is one of both
-first-left : (rs bs : List Row) → 0 < firstFault rs .0 → firstFault (rs ++ bs) ≡ firstFault rs
-first-left [] bs h = absurd (omega arith)
-first-left (r ∷ rs) bs h = go (r .test) h (first-left rs bs)
-  where
-    go : (b : Bool) → 0 < (cond b (r .code, r .place) (firstFault rs)) .0 → (0 < firstFault rs .0 → firstFault (rs ++ bs) ≡ firstFault rs)
-        → cond b (r .code, r .place) (firstFault (rs ++ bs)) ≡ cond b (r .code, r .place) (firstFault rs)
-    go true h f = refl
-    go false h f = f h
-
 module _ (l : Lent) (p : ℕ) where
   pub size-refused : (f : Refusal) → f ≡ firstFault (sizeFaults (l .n) (l .m) (l .t) 0) → 0 < f .0 → f ≡ fault l p
   unfolding fault faults
-  size-refused f e h = e ∙ sym (first-left (sizeFaults (l .n) (l .m) (l .t) 0) (shortTables l ++ shareFaults p ++ listFaults l) (omega (arith, ap (λ (f : Refusal). f .0) e)))
+  size-refused f e h = e ∙ sym (fault-left (sizeFaults (l .n) (l .m) (l .t) 0) (shortTables l ++ shareFaults p ++ listFaults l) (λ z. omega (arith, ap (λ (f : Refusal). f .0) e)))
 
 pub size-within : (n m t : ℕ) (f : Refusal) → f ≡ firstFault (sizeFaults n m t 0) → f .0 ≡ 0 → (n ≤ 4096) × (m ≤ 8192) × (t ≤ 4096)
 size-within n m t f e h =
-    let s = fault-silent (sizeFaults n m t 0) (size-numbered n m t 0) (ap (λ (f : Refusal). f .0) (sym e) ∙ h) in
+    let s = fault-silent (sizeFaults n m t 0) (sizes-numbered n m t 0) (ap (λ (f : Refusal). f .0) (sym e) ∙ h) in
     (ltb-false 4096 n (s .0), ltb-false 8192 m (s .1 .0), ltb-false 4096 t (s .1 .1 .0))
 
 -- ---- the tables and the share
@@ -102,7 +59,7 @@ module _ (l : Lent) (p : ℕ) (n-fits : l .n ≤ 4096) (m-fits : l .m ≤ 8192) 
         (le-ltb (length (l .a)) (l .m) a, (le-ltb (length (l .b)) (l .m) b, (le-ltb (length (l .x)) (l .t) x, (le-ltb (length (l .y)) (l .t) y, (le-ltb (length (l .answers)) (l .t) q, (le-ltb (length (l .work)) (required (l .t) (l .n)) w, tt))))))
         ∙ skip-silent (shareFaults p) (listFaults l) (le-ltb p 4 u, (le-ltb 12 p v, tt))
 
-    pub segment-refused : (s : ℕ) → s ≡ seek (badSegment (l .n) (l .a) (l .b)) 0 (l .m) → s < l .m → (4, s) ≡ fault l p
+    pub segment-refused : (s : ℕ) → s ≡ seek (badEnds (l .n) (l .a) (l .b)) 0 (l .m) → s < l .m → (4, s) ≡ fault l p
     unfolding listFaults
     segment-refused s e h =
         sym (list-fault
@@ -114,12 +71,12 @@ module _ (l : Lent) (p : ℕ) (n-fits : l .n ≤ 4096) (m-fits : l .m ≤ 8192) 
             let i : ℕ = seek (λ i. not (eqb (faultAt l i) 0)) 0 (l .t) in
             row (ltb i (l .t)) (faultAt l i) i ∷ []
 
-    pub events-refused : (s : ℕ) (f : Refusal) → s ≡ seek (badSegment (l .n) (l .a) (l .b)) 0 (l .m) → l .m ≤ s
+    pub events-refused : (s : ℕ) (f : Refusal) → s ≡ seek (badEnds (l .n) (l .a) (l .b)) 0 (l .m) → l .m ≤ s
         → f ≡ eventsFault (l .n) (l .m) (pairs (take (l .t) (l .x)) (take (l .t) (l .y))) (l .t) → f ≡ fault l p
     unfolding listFaults eventsFault faultOf faultAt given openBefore
     events-refused s f e h g =
         g ∙ sym (list-fault
-        ∙ ap (λ (c : Bool). cond c (4, seek (badSegment (l .n) (l .a) (l .b)) 0 (l .m)) (firstFault rest)) (le-ltb _ (l .m) (subst (λ (k : ℕ). l .m ≤ k) e h)))
+        ∙ ap (λ (c : Bool). cond c (4, seek (badEnds (l .n) (l .a) (l .b)) 0 (l .m)) (firstFault rest)) (le-ltb _ (l .m) (subst (λ (k : ℕ). l .m ≤ k) e h)))
       where
         rest : List Row
         rest =
@@ -190,7 +147,7 @@ module _ {n m t : ℕ} {x y held : List ℕ} {i : ℕ} (p : Passing n m t x y he
   pub event-refused : 0 < r → (r, i) ≡ eventsFault n m evs t
   unfolding eventsFault
   event-refused h =
-      let s : i ≡ seek (λ i. not (eqb (faultOf n m evs i) 0)) 0 t = found-here n t i [] [] (λ i. not (eqb (faultOf n m evs i) 0)) l (p .fine) (ap not (ne-eqb (faultOf n m evs i) 0 (λ z. omega (arith, fault-is)))) in
+      let s : i ≡ seek (λ i. not (eqb (faultOf n m evs i) 0)) 0 t = sym (seek-at (λ i. not (eqb (faultOf n m evs i) 0)) 0 t i (omega arith) (omega arith) (ap not (ne-eqb (faultOf n m evs i) 0 (λ z. omega (arith, fault-is)))) (λ u _ k. p .fine u k)) in
       ap (λ (k : ℕ). (k, i)) fault-is
       ∙ sym (ap (λ (k : ℕ). cond (ltb k t) (faultOf n m evs k, k) (0, 0)) (sym s) ∙ ap (λ (c : Bool). cond c (faultOf n m evs i, i) (0, 0)) (lt-ltb i t l))
 
@@ -212,7 +169,7 @@ pub events-pass : {n m t : ℕ} {x y held : List ℕ} {i : ℕ} → Passing n m 
 unfolding eventsFault
 events-pass {n} {m} {t} {x} {y} {held} {i} p q =
     let evs = pairs (take t x) (take t y) in
-    let s : i ≡ seek (λ i. not (eqb (faultOf n m evs i) 0)) 0 t = found-none n t i [] [] (λ i. not (eqb (faultOf n m evs i) 0)) q (p .fine) in
+    let s : i ≡ seek (λ i. not (eqb (faultOf n m evs i) 0)) 0 t = q ∙ sym (seek-end (λ i. not (eqb (faultOf n m evs i) 0)) 0 t (λ u _ k. p .fine u (omega arith)) ∙ omega arith) in
     sym (ap (λ (k : ℕ). cond (ltb k t) (faultOf n m evs k, k) (0, 0)) (sym s) ∙ ap (λ (c : Bool). cond c (faultOf n m evs i, i) (0, 0)) (le-ltb i t (omega arith)))
 
 pub passing-none : (n m t : ℕ) (x y held : List ℕ) → length held ≡ 128 → isOpen held ≡ atStart → Passing n m t x y held 0

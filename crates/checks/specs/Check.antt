@@ -8,7 +8,7 @@ use Rattle.tables.specs.Refusal.{Refusal, seek}
 use Rattle.timeline.specs.Events.{Event, afterAll}
 use Rattle.timeline.specs.Replay.{eventFault}
 use Rattle.timeline.specs.Windows.{atStart}
-use Rattle.checks.specs.declared.Fault.{Fault}
+use Rattle.tables.specs.declared.Fault.{Fault}
 
 -- a fault as a refusal: its number and its place
 abbrev pub refusal : Fault → Refusal

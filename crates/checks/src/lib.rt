@@ -1,41 +1,13 @@
 // The checks of a replay, in document 01's order. They read the tables only.
+use tables::Fault;
 ghost use mathlib.Core.Path.{_≡_};
 ghost use Prim.Native.Nat.{_<_, _≤_};
 ghost use lib.ListN.{length, take};
 ghost use Rattle.graph.specs.Lists.{pairs};
 ghost use Rattle.tables.specs.OpenSet.{isOpen};
-ghost use Rattle.tables.specs.Refusal.{firstFault, seek};
-ghost use Rattle.tables.specs.Sizes.{sizeFaults};
-ghost use Rattle.timeline.specs.Replay.{badSegment, eventFault, fault};
+ghost use Rattle.timeline.specs.Replay.{eventFault, fault};
 ghost use Rattle.timeline.specs.Call.{lent};
 ghost use Rattle.checks.specs.Check.{eventsFault, refusal};
-
-// A refusal's number and its place; 0 and 0 where nothing is refused.
-pub struct Fault {
-    pub code: usize,
-    pub place: usize,
-}
-
-// The first segment with an end not below n, or m.
-fn bad_segment(n: usize, m: usize, a: &[u16], b: &[u16]) -> usize
-    requires { ⌜ (m ≤ length (now a)) × (m ≤ length (now b)) ⌝ }
-    ensures { λ r. ⌜ r ≡ seek (badSegment n (now (a .entry)) (now (b .entry))) 0 m ⌝ }
-{
-    let mut s: usize = 0;
-    // No segment before s has such an end.
-    while s < m {
-        let u = a[s] as usize;
-        if n <= u {
-            return s;
-        }
-        let v = b[s] as usize;
-        if n <= v {
-            return s;
-        }
-        s += 1;
-    }
-    s
-}
 
 // The fault of one event, where the segments of `held` are open before it: 0, 5, 6 or 7.
 fn event_fault(n: usize, m: usize, held: &[u64; 128], x: u16, y: usize) -> usize
@@ -101,24 +73,6 @@ fn bad_event(n: usize, m: usize, t: usize, x: &[u16], y: &[u16]) -> Fault
     Fault { code: 0, place: 0 }
 }
 
-// The fault of the sizes.
-fn size_fault(n: usize, m: usize, t: usize) -> Fault
-    ensures { λ r. ⌜ refusal r ≡ firstFault (sizeFaults n m t 0) ⌝ }
-{
-    let sizes = tables::Sizes::check(n, m, t, 0);
-    match sizes {
-        tables::SizesReply::Refused(code, place) => {
-            return Fault {
-                code: code,
-                place: place,
-            };
-        }
-        tables::SizesReply::Within(_) => {
-            return Fault { code: 0, place: 0 };
-        }
-    }
-}
-
 // The faults behind those of the sizes.
 fn check_tables(
     n: usize,
@@ -159,7 +113,7 @@ fn check_tables(
     if 12 < p {
         return Fault { code: 3, place: 0 };
     }
-    let s = bad_segment(n, m, a, b);
+    let s = tables::first_bad_ends(n, m, a, b);
     if s < m {
         return Fault { code: 4, place: s };
     }
@@ -181,7 +135,7 @@ pub fn check(
 ) -> Fault
     ensures { λ r. ⌜ refusal r ≡ fault (lent n m t (now (a .entry)) (now (b .entry)) (now (x .entry)) (now (y .entry)) (now (answers .entry)) (now (work .entry))) p ⌝ }
 {
-    let f = size_fault(n, m, t);
+    let f = tables::size_fault(n, m, t, 0);
     if f.code > 0 {
         return f;
     }

@@ -1,60 +1,19 @@
 -- Laws of the call's faults: the first fault of two lists of rows, the searches of the two loops, what holds where nothing is refused, and the call's outcome in both cases.
 -- Assumes nothing.
-use Prim.Native.Nat.{_*_, _+_, _-_, _<_, _≤_, suc, ℕ}
-use mathlib.Core.Bool.{Bool, _||_, cond, false, true}
+use Prim.Native.Nat.{_*_, _+_, _-_, _<_, _≤_, ℕ}
+use mathlib.Core.Bool.{Bool, _||_, false, true}
 use mathlib.Core.List.{List, [], _++_, _∷_}
 use mathlib.Core.Path.{_∙_, _≡_, ap, refl, sym}
 use lib.Dec.{eqb, leb, ltb}
 use lib.ListN.{getD, length}
 use native.Mathlib.Omega.{arith}
-use borrow.Author.Tests.{eq-eqb, le-leb, le-ltb, leb-false, lt-leb, lt-ltb, ltb-false, ne-eqb}
-use Rattle.contraction.specs.Call.{Lent, Outcome, badEdge, badEntry, contraction, done, fault, faults, refused, required, shortTables}
+use borrow.Author.Tests.{eq-eqb, le-ltb, leb-false, lt-ltb, ltb-false, ne-eqb}
+use Rattle.contraction.specs.Call.{Lent, Outcome, badEntry, contraction, done, fault, faults, refused, required, shortTables}
 use Rattle.contraction.specs.Reply.{outcome}
 use Rattle.contraction.specs.declared.ContractReply.the-variants.{Refused}
-use Rattle.tables.proofs.RefusalLaws.{Numbered, Silent, fault-silent, numbered-append, seek-none, silent-fault, silent-left, silent-right}
-use Rattle.tables.specs.Refusal.{Refusal, Row, firstFault, row, seek}
+use Rattle.tables.proofs.RefusalLaws.{Numbered, fault-silent, numbered-append, seek-none, silent-fault, silent-left, silent-right, fault-left, fault-right, sizes-numbered}
+use Rattle.tables.specs.Refusal.{Refusal, Row, firstFault, row, seek, badEnds}
 use Rattle.tables.specs.Sizes.{sizeFaults}
-
--- ---- the first fault of two lists of rows
-pub fault-left : (rs bs : List Row) → ¬ (firstFault rs .0 ≡ 0) → firstFault (rs ++ bs) ≡ firstFault rs
-fault-left [] bs n = absurd (n refl)
-fault-left (r ∷ rs) bs n = go (r .test) n (fault-left rs bs)
-  where
-    go : (b : Bool) → ¬ (cond b (r .code, r .place) (firstFault rs) .0 ≡ 0) → (¬ (firstFault rs .0 ≡ 0) → firstFault (rs ++ bs) ≡ firstFault rs)
-        → cond b (r .code, r .place) (firstFault (rs ++ bs)) ≡ cond b (r .code, r .place) (firstFault rs)
-    go true n ih = refl
-    go false n ih = ih n
-
-pub fault-right : (rs bs : List Row) → Numbered rs → firstFault rs .0 ≡ 0 → firstFault (rs ++ bs) ≡ firstFault bs
-fault-right rs bs n z = go rs (fault-silent rs n z)
-  where
-    go : (rs : List Row) → Silent rs → firstFault (rs ++ bs) ≡ firstFault bs
-    go [] s = refl
-    go (r ∷ rs) s = ap (λ (b : Bool). cond b (r .code, r .place) (firstFault (rs ++ bs))) (s .0) ∙ go rs (s .1)
-
--- ---- the loops' searches
-module _ (p : ℕ → Bool) (s m : ℕ) where
-  pub seek-more : s < m → p s ≡ false → seek p s (m - s) ≡ seek p (s + 1) (m - (s + 1))
-  seek-more l q = let e : m - s ≡ suc (m - (s + 1)) = omega arith in rw (e, q) refl
-
-  pub seek-here : s < m → p s ≡ true → seek p s (m - s) ≡ s
-  seek-here l q = let e : m - s ≡ suc (m - (s + 1)) = omega arith in rw (e, q) refl
-
-  pub seek-past : m ≤ s → seek p s (m - s) ≡ s
-  seek-past l = let e : m - s ≡ 0 = omega arith in rw e refl
-
-pub seek-start : (p : ℕ → Bool) (m : ℕ) → seek p 0 m ≡ seek p 0 (m - 0)
-seek-start p m = let e : m - 0 ≡ m = omega arith in rw e refl
-
-module _ (n : ℕ) (from to : List ℕ) (s : ℕ) where
-  pub bad-from : n ≤ getD from s 0 → badEdge n from to s ≡ true
-  bad-from l = rw (le-leb n (getD from s 0) l) refl
-
-  pub bad-to : getD from s 0 < n → n ≤ getD to s 0 → badEdge n from to s ≡ true
-  bad-to k l = rw (lt-leb n (getD from s 0) k, le-leb n (getD to s 0) l) refl
-
-  pub good-edge : getD from s 0 < n → getD to s 0 < n → badEdge n from to s ≡ false
-  good-edge k l = rw (lt-leb n (getD from s 0) k, lt-leb n (getD to s 0) l) refl
 
 or-left : (a b : Bool) → a || b ≡ false → a ≡ false
 or-left false b e = refl
@@ -89,15 +48,12 @@ pub record Sound (l : Lent) : Type 0 where
   pub ends : (s : ℕ) → s < l .m → (getD (l .from) s 0 < l .n) × (getD (l .to) s 0 < l .n)
   pub entries : (i : ℕ) → i < l .k → getD (l .active) i 0 < l .n
 
-size-numbers : (n m k : ℕ) → Numbered (sizeFaults n m 0 k)
-size-numbers n m k = ((λ e. omega arith), ((λ e. omega arith), ((λ e. omega arith), ((λ e. omega arith), tt))))
-
 length-numbers : (l : Lent) → Numbered (shortTables l)
 length-numbers l = ((λ e. omega arith), ((λ e. omega arith), ((λ e. omega arith), ((λ e. omega arith), ((λ e. omega arith), ((λ e. omega arith), ((λ e. omega arith), tt)))))))
 
 pub sizes-within : {n m k c p : ℕ} → (c, p) ≡ firstFault (sizeFaults n m 0 k) → c ≡ 0 → Within n m k
 sizes-within {n} {m} {k} e z =
-    let s = fault-silent (sizeFaults n m 0 k) (size-numbers n m k) (sym (ap (λ (f : Refusal). f .0) e) ∙ z) in
+    let s = fault-silent (sizeFaults n m 0 k) (sizes-numbered n m 0 k) (sym (ap (λ (f : Refusal). f .0) e) ∙ z) in
     record { nodes = ltb-false 4096 n (s .0); edges = ltb-false 8192 m (s .1 .0); entries = ltb-false 8192 k (s .1 .1 .1 .0) }
 
 pub lengths-long : (l : Lent) {c p : ℕ} → (c, p) ≡ firstFault (shortTables l) → c ≡ 0 → Long l
@@ -115,7 +71,7 @@ lengths-long l e z =
 
 module _ (l : Lent) where
   abbrev edgeAt : ℕ
-  edgeAt = seek (badEdge (l .n) (l .from) (l .to)) 0 (l .m)
+  edgeAt = seek (badEnds (l .n) (l .from) (l .to)) 0 (l .m)
 
   abbrev entryAt : ℕ
   entryAt = seek (badEntry (l .n) (l .active)) 0 (l .k)
@@ -130,7 +86,7 @@ module _ (l : Lent) where
   module _ {c p : ℕ} (e : (c, p) ≡ firstFault (sizeFaults (l .n) (l .m) 0 (l .k))) (z : c ≡ 0) where
     rest : fault l ≡ firstFault (shortTables l ++ placed)
     unfolding fault faults
-    rest = fault-right (sizeFaults (l .n) (l .m) 0 (l .k)) (shortTables l ++ placed) (size-numbers (l .n) (l .m) (l .k)) (sym (ap (λ (f : Refusal). f .0) e) ∙ z)
+    rest = fault-right (sizeFaults (l .n) (l .m) 0 (l .k)) (shortTables l ++ placed) (sizes-numbered (l .n) (l .m) 0 (l .k)) (sym (ap (λ (f : Refusal). f .0) e) ∙ z)
 
     pub length-refused : {c p : ℕ} → (c, p) ≡ firstFault (shortTables l) → ¬ (c ≡ 0) → (c, p) ≡ fault l
     length-refused e n = e ∙ sym (rest ∙ fault-left (shortTables l) placed (λ z. n (ap (λ (f : Refusal). f .0) e ∙ z)))
@@ -153,7 +109,7 @@ module _ (l : Lent) where
   unfolding fault faults
   sound z =
       let sizes = sizeFaults (l .n) (l .m) 0 (l .k) in
-      let numbers = numbered-append sizes (shortTables l ++ placed) (size-numbers (l .n) (l .m) (l .k)) (numbered-append (shortTables l) placed (length-numbers l) ((λ e. omega arith), ((λ e. omega arith), tt))) in
+      let numbers = numbered-append sizes (shortTables l ++ placed) (sizes-numbered (l .n) (l .m) 0 (l .k)) (numbered-append (shortTables l) placed (length-numbers l) ((λ e. omega arith), ((λ e. omega arith), tt))) in
       let s = fault-silent (sizes ++ shortTables l ++ placed) numbers z in
       let t = silent-right sizes (shortTables l ++ placed) s in
       let u = silent-right (shortTables l) placed t in
@@ -161,7 +117,7 @@ module _ (l : Lent) where
         within = sizes-within (sym (silent-fault sizes (silent-left sizes (shortTables l ++ placed) s))) refl;
         long = lengths-long l (sym (silent-fault (shortTables l) (silent-left (shortTables l) placed t))) refl;
         ends = λ i j.
-            let q = seek-none (badEdge (l .n) (l .from) (l .to)) (l .m) i (u .0) j in
+            let q = seek-none (badEnds (l .n) (l .from) (l .to)) (l .m) i (u .0) j in
             let a = leb (l .n) (getD (l .from) i 0) in
             let b = leb (l .n) (getD (l .to) i 0) in
             (leb-false (l .n) (getD (l .from) i 0) (or-left a b q), leb-false (l .n) (getD (l .to) i 0) (or-right a b q));

@@ -10,7 +10,7 @@ use lib.Seq.{length-take-le}
 use native.Mathlib.Omega.{arith}
 use borrow.Author.Tests.{eqb-false, eqb-true, lt-ltb}
 use Rattle.contraction.proofs.FaultLaws.{Sound}
-use Rattle.contraction.proofs.LoadLaws.{firsts-mem}
+use Rattle.graph.proofs.ActiveLists.{in-firsts}
 use Rattle.graph.proofs.ActiveLists.{canonical-repeats, small-repeats}
 use Rattle.graph.proofs.TableLaws.{over-equal, pairs-table, table-map, take-table}
 use Rattle.graph.proofs.Lists.{table-length, table-mem}
@@ -126,7 +126,7 @@ module _ (l : Lent) (s : Sound l) where
     -- field 0 of an entry is its number
     number-at : (a : ℕ) → List·Memᴰ a (entries l) → node 0 w₂ a ≡ r .σ a
     number-at a m =
-        let (i, j, q) = table-mem (node 1 w) 0 d a (subst (λ (xs : List ℕ). List·Memᴰ a xs) (sym given-active) (firsts-mem (entries l) a m)) in
+        let (i, j, q) = table-mem (node 1 w) 0 d a (subst (λ (xs : List ℕ). List·Memᴰ a xs) (sym given-active) (in-firsts (entries l) a m)) in
         ap (node 0 w₂) q ∙ r .numbers i (omega arith) ∙ ap (r .σ) (sym q)
 
     -- ---- what the fills ask

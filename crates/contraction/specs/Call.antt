@@ -1,14 +1,14 @@
 -- The contraction as a public call: what it is lent, its faults in their order, what it returns, and what each lent table holds afterwards.
 -- The contraction itself is defined in the crate graph, specs/Contraction. Assumes nothing: these are definitions.
 use Prim.Native.Nat.{ℕ, _+_, _*_}
-use mathlib.Core.Bool.{Bool, true, false, _||_}
+use mathlib.Core.Bool.{Bool, true, false}
 use mathlib.Core.List.{List, [], _∷_, _++_, map}
 use lib.Dec.{eqb, leb, ltb}
 use lib.ListN.{length, getD, take, replicate}
 use Rattle.graph.specs.Lists.{pairs, over}
 use Rattle.graph.specs.Graph.{Edge}
 use Rattle.graph.specs.Contraction.{Contracted, contract}
-use Rattle.tables.specs.Refusal.{Row, row, Refusal, firstFault, seek}
+use Rattle.tables.specs.Refusal.{Row, row, Refusal, badEnds, firstFault, seek}
 use Rattle.tables.specs.Sizes.{sizeFaults}
 
 -- the sizes and the tables that are lent
@@ -36,10 +36,7 @@ unfoldable pub entries : Lent → List ℕ
 entries l = take (l .k) (l .active)
 
 -- ---- faults
--- edge s has an end not below n; active entry i is not below n
-abbrev pub badEdge : ℕ → List ℕ → List ℕ → ℕ → Bool
-badEdge n from to s = leb n (getD from s 0) || leb n (getD to s 0)
-
+-- active entry i is not below n
 abbrev pub badEntry : ℕ → List ℕ → ℕ → Bool
 badEntry n active i = leb n (getD active i 0)
 
@@ -58,7 +55,7 @@ shortTables l =
 -- 1, 2, then 4 at the first edge with an end not below n, then 8 at the first active entry not below n
 unfoldable pub faults : Lent → List Row
 faults l =
-    let e : ℕ = seek (badEdge (l .n) (l .from) (l .to)) 0 (l .m) in
+    let e : ℕ = seek (badEnds (l .n) (l .from) (l .to)) 0 (l .m) in
     let a : ℕ = seek (badEntry (l .n) (l .active)) 0 (l .k) in
     sizeFaults (l .n) (l .m) 0 (l .k) ++ shortTables l ++ row (ltb e (l .m)) 4 e ∷ row (ltb a (l .k)) 8 a ∷ []
 

@@ -1,30 +1,14 @@
--- What the functions that load the words give: the different active nodes entered, the ends of the edges stored, and both together.
+-- What loading a graph gives: all active entries entered, the ends of the edges stored, and both together.
 -- Assumes nothing: these are definitions.
 use Prim.Native.Nat.{_*_, _+_, _<_, _≤_, ℕ}
-use mathlib.Core.List.{List, [], _++_, _∷_}
+use mathlib.Core.List.{List}
 use mathlib.Core.Path.{_≡_}
 use lib.Dec.{eqb}
 use lib.ListN.{getD, length, take}
 use Rattle.core.specs.Core.{Loaded, activeIn, edgesIn}
-use Rattle.graph.specs.Lists.{firsts, pairs, table}
+use Rattle.graph.specs.Lists.{firsts, pairs}
+use Rattle.loading.specs.Loading.{Entered, Past}
 use Rattle.words.specs.Fields.{half, node}
-
--- from the words a to b every entry from i on stays
-abbrev pub Past : ℕ → List ℕ → List ℕ → Type 0
-Past i a b = (j : ℕ) → i ≤ j → getD b j 0 ≡ getD a j 0
-
--- The entries S are entered: act lists the d different ones in order of first appearance, and mark is one more than a node's place among them.
-pub record Entered (n : ℕ) (S : List ℕ) (d : ℕ) (mark act : ℕ → ℕ) : Type 0 where
-  pub active : table act 0 d ≡ firsts eqb S
-  pub below : (i : ℕ) → i < d → act i < n
-  pub marked : (i : ℕ) → i < d → mark (act i) ≡ i + 1
-  pub marks : (v : ℕ) → v < n → 0 < mark v → (i : ℕ) × (i < d) × (act i ≡ v)
-
--- from a to b one more entry v is entered: r different ones in place of d
-pub record Entering (n d v : ℕ) (a b : List ℕ) (r : ℕ) : Type 0 where
-  pub same : length b ≡ length a
-  pub past : Past (16 * n) a b
-  pub more : (S : List ℕ) → Entered n S d (node 0 a) (node 1 a) → Entered n (S ++ (v ∷ [])) r (node 0 b) (node 1 b)
 
 -- from a to b all of S are entered
 pub record Entries (n : ℕ) (S : List ℕ) (a b : List ℕ) (d : ℕ) : Type 0 where

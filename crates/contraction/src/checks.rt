@@ -1,33 +1,11 @@
 // The faults of an input, in document 01's order: sizes, lengths, ends of edges, active entries.
-use tables::Sizes;
-use tables::SizesReply;
+use tables::Fault;
 ghost use mathlib.Core.Path.{_≡_};
 ghost use Prim.Native.Nat.{_≤_};
 ghost use lib.ListN.{length};
 ghost use Rattle.tables.specs.Refusal.{firstFault, seek};
-ghost use Rattle.tables.specs.Sizes.{sizeFaults};
-ghost use Rattle.contraction.specs.Call.{required, badEdge, badEntry, shortTables, fault};
+ghost use Rattle.contraction.specs.Call.{required, badEntry, shortTables, fault};
 ghost use Rattle.contraction.specs.Reply.{lent};
-
-// A refusal's number and its place; 0 and 0 where nothing is refused.
-pub(crate) struct Fault {
-    pub(crate) code: usize,
-    pub(crate) place: usize,
-}
-
-// Refusal 1: sizes past their limits.
-fn size_fault(n: usize, m: usize, k: usize) -> Fault
-    ensures { λ r. ⌜ (r .code, r .place) ≡ firstFault (sizeFaults n m 0 k) ⌝ }
-{
-    let sizes = Sizes::check(n, m, 0, k);
-    match sizes {
-        SizesReply::Within(_) => Fault { code: 0, place: 0 },
-        SizesReply::Refused(code, place) => Fault {
-            code: code,
-            place: place,
-        },
-    }
-}
 
 // The words that a contraction of n nodes and m edges needs.
 pub(crate) fn required(n: usize, m: usize) -> usize
@@ -77,24 +55,6 @@ fn length_fault(
     Fault { code: 0, place: 0 }
 }
 
-// The first edge with an end not below n, or m.
-fn first_bad_edge(n: usize, m: usize, from: &[u16], to: &[u16]) -> usize
-    requires { ⌜ (m ≤ length (now from)) × (m ≤ length (now to)) ⌝ }
-    ensures { λ r. ⌜ r ≡ seek (badEdge n (now (from .entry)) (now (to .entry))) 0 m ⌝ }
-{
-    let mut s: usize = 0;
-    while s < m {
-        if n <= from[s] as usize {
-            return s;
-        }
-        if n <= to[s] as usize {
-            return s;
-        }
-        s += 1;
-    }
-    s
-}
-
 // The first active entry not below n, or k.
 fn first_bad_entry(n: usize, k: usize, active: &[u16]) -> usize
     requires { ⌜ k ≤ length (now active) ⌝ }
@@ -125,7 +85,7 @@ pub(crate) fn first_fault(
 ) -> Fault
     ensures { λ r. ⌜ (r .code, r .place) ≡ fault (lent n m k (now (from .entry)) (now (to .entry)) (now (active .entry)) (now (map .entry)) (now («out_from» .entry)) (now («out_to» .entry)) (now (work .entry))) ⌝ }
 {
-    let sizes = size_fault(n, m, k);
+    let sizes = tables::size_fault(n, m, 0, k);
     if sizes.code != 0 {
         return sizes;
     }
@@ -133,7 +93,7 @@ pub(crate) fn first_fault(
     if lengths.code != 0 {
         return lengths;
     }
-    let e = first_bad_edge(n, m, from, to);
+    let e = tables::first_bad_ends(n, m, from, to);
     if e < m {
         return Fault { code: 4, place: e };
     }

@@ -25,8 +25,8 @@ use Rattle.windows.proofs.DescentLaws.{open-one, sound-good}
 use Rattle.timeline.proofs.Networks.{network-start}
 use Rattle.segments.proofs.SegmentLaws.{none-open}
 use Rattle.step.proofs.StepLaws.{active-length, sound-fine}
-use Rattle.step.proofs.WordLaws.{mid-sets, sets-append}
-use Rattle.graph.proofs.TableLaws.{pairs-at, pairs-length}
+use Rattle.step.proofs.WordLaws.{mid-sets}
+use Rattle.graph.proofs.TableLaws.{sets-append, pairs-at, pairs-length}
 use Rattle.step.specs.Area.{Area, SmallArea, Sound, StepReady, Stepped}
 use Rattle.windows.specs.Descent.{Replied, WindowDone, WindowReady}
 use Rattle.timeline.specs.Call.{lent, outcome}

@@ -4,7 +4,8 @@ use Prim.Native.Nat.{_+_, _-_, _<_, _≤_, suc, zero, ℕ}
 use mathlib.Core.List.{List, [], _++_, _∷_, map}
 use mathlib.Core.Path.{_∙_, _≡_, ap, ap₂, refl, sym}
 use lib.ListN.{List·getD-append, drop, getD, length, length-append, length-drop, replicate, set, take}
-use lib.Seq.{ext-getD, getD-append-add, getD-drop}
+use lib.Seq.{ext-getD, getD-append-add, getD-drop, sets}
+use native.Mathlib.Nat.{add-zero}
 use native.Mathlib.Numerals.{add-one}
 use native.Mathlib.Omega.{arith}
 use Rattle.graph.proofs.Lists.{table-length}
@@ -57,6 +58,11 @@ pairs-at [] y i a b = absurd (omega arith)
 pairs-at (x ∷ xs) [] i a b = absurd (omega arith)
 pairs-at (x ∷ xs) (y ∷ ys) zero a b = refl
 pairs-at (x ∷ xs) (y ∷ ys) (suc i) a b = pairs-at xs ys i (omega arith) (omega arith)
+
+-- ---- texts written one after the other
+pub sets-append : (xs l : List ℕ) (i : ℕ) (ys : List ℕ) → sets l i (xs ++ ys) ≡ sets (sets l i xs) (i + length xs) ys
+sets-append [] l i ys = rw add-zero refl
+sets-append (x ∷ xs) l i ys = sets-append xs (set l i x) (suc i) ys ∙ ap (λ (k : ℕ). sets (sets (set l i x) (suc i) xs) k ys) (omega arith)
 
 -- ---- over
 pub over-length : (xs t : List ℕ) → length xs ≤ length t → length (over xs t) ≡ length t

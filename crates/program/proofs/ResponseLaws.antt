@@ -1,9 +1,9 @@
 -- Laws of the response: what a header says of its input, the tables that are filled from the input, and the print of a reply.
 -- Assumes nothing.
 use Prim.Native.Nat.{_*_, _+_, _<_, _≤_, ℕ}
-use mathlib.Core.Bool.{Bool, false, not, true}
+use mathlib.Core.Bool.{false, true}
 use mathlib.Core.List.{List, [], _++_, _∷_}
-use mathlib.Core.Path.{_∙_, _≡_, ap, ap₂, fun-ext, refl, subst, sym}
+use mathlib.Core.Path.{_∙_, _≡_, ap, ap₂, fun-ext, sym}
 use lib.Dec.{eqb, ltb}
 use lib.ListN.{List·getD-eq-default, drop, getD, length, length-append, length-drop, replicate, take}
 use lib.Seq.{getD-take, length-take-le, take-all}
@@ -11,20 +11,17 @@ use native.Mathlib.Omega.{arith}
 use borrow.Author.Tests.{eqb-true, ltb-false, ltb-true, not-false}
 use Rattle.graph.proofs.Booleans.{onBool}
 use Rattle.graph.specs.Lists.{pairs}
-use Rattle.program.proofs.ReadingLaws.{filled-take, many-events, many-junctions, many-segments, other-length, words16-length}
-use Rattle.program.proofs.TextLaws.{decimal-most, word-at}
-use Rattle.program.specs.Printing.{Wrote, eventAt, printedOf}
-use Rattle.program.specs.Reading.{Filled, HeaderOutcome, Read, checkInput, headerOutcome}
-use Rattle.program.specs.declared.reading.Header.{Header}
-use Rattle.program.specs.declared.reading.Header.the-variants.{Refused, Sizes}
+use Rattle.reading.proofs.ReadingLaws.{filled-take, many-events, many-junctions, many-segments, other-length, words16-length, word-at}
+use Rattle.printing.proofs.TextLaws.{decimal-most}
+use Rattle.printing.specs.Printing.{eventAt, printedOf}
+use Rattle.reading.specs.Reading.{Filled, HeaderOutcome, Read, checkInput, headerOutcome}
+use Rattle.reading.specs.declared.Header.the-variants.{Refused, Sizes}
 use Rattle.tables.proofs.RefusalLaws.{fault-silent}
-use Rattle.tables.specs.Refusal.{Refusal}
 use Rattle.timeline.proofs.Acceptance.{getD-pairs, length-pairs}
 use Rattle.timeline.specs.Call.{lent}
 use Rattle.timeline.specs.Events.{Event}
 use Rattle.timeline.specs.Program.{decimal, eventsOf, inputFault, inputFaults, inputLength, inputLent, junctionsOf, outputWith, printed, refusedLine, segmentsOf, shareOf, totalsLine, words16}
 use Rattle.timeline.specs.Replay.{Lent, Outcome, given, replay}
-use Rattle.timeline.specs.Windows.{event}
 
 -- ---- the header
 module _ (I : List ℕ) where

@@ -1,12 +1,10 @@
 // The program's reading, printing and response as functions on slices; the program `replay` itself only reads, calls and writes.
-mod printing;
-mod reading;
 mod response;
 
 ghost use Prim.Native.Nat.{_≤_};
 ghost use lib.ListN.{length};
 ghost use Rattle.timeline.specs.Program.{outputWith};
-ghost use Rattle.program.specs.Printing.{Wrote};
+ghost use Rattle.printing.specs.Printing.{Wrote};
 
 // Internal: writes the program's output for its input at the front of `out`, with the work table that it lends, and answers the output's length.
 pub fn respond(input: &[u8], work: &mut [u32], out: &mut [u8]) -> usize

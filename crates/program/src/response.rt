@@ -1,13 +1,12 @@
 // The response to an input of the right length: the tables filled from it, the replay, and its reply in print.
-ghost use mathlib.Core.Path.{_≡_};
 ghost use mathlib.Core.List.{List};
 ghost use Prim.Native.Nat.{ℕ, _*_, _≤_};
 ghost use lib.ListN.{length};
 ghost use Rattle.timeline.specs.Call.{outcome};
 ghost use Rattle.timeline.specs.Program.{inputLent, printed};
 ghost use Rattle.timeline.specs.Replay.{replay};
-ghost use Rattle.program.specs.Printing.{Wrote, eventAt, printedOf};
-ghost use Rattle.program.specs.Reading.{Read};
+ghost use Rattle.printing.specs.Printing.{Wrote, eventAt, printedOf};
+ghost use Rattle.reading.specs.Reading.{Read};
 
 // Prints a reply to t events.
 pub(crate) fn put_reply(
@@ -22,11 +21,11 @@ pub(crate) fn put_reply(
 {
     match reply {
         timeline::ReplayReply::Done(totals) => {
-            let at = crate::printing::put_queries(out, t, x, answers);
-            return crate::printing::put_totals(out, at, totals.queries, totals.open, totals.kept);
+            let at = printing::put_queries(out, t, x, answers);
+            return printing::put_totals(out, at, totals.queries, totals.open, totals.kept);
         }
         timeline::ReplayReply::Refused(code, place) => {
-            return crate::printing::put_refused(out, 0, code, place);
+            return printing::put_refused(out, 0, code, place);
         }
     }
 }
@@ -49,10 +48,10 @@ pub(crate) fn replay_input(
     let mut x = [0u16; 32];
     let mut y = [0u16; 32];
     let mut answers = [0u8; 32];
-    crate::reading::fill(input, 4, m, &mut a);
-    crate::reading::fill(input, 4 + m, m, &mut b);
-    crate::reading::fill(input, 4 + 2 * m, t, &mut x);
-    crate::reading::fill(input, 4 + 2 * m + t, t, &mut y);
+    reading::fill(input, 4, m, &mut a);
+    reading::fill(input, 4 + m, m, &mut b);
+    reading::fill(input, 4 + 2 * m, t, &mut x);
+    reading::fill(input, 4 + 2 * m + t, t, &mut y);
     let xs = &x[..t];
     let reply = engine::replay(
         n,

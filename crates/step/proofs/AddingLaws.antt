@@ -26,7 +26,8 @@ use Rattle.segments.proofs.SegmentLaws.{insert-more}
 use Rattle.step.proofs.WordLaws.{drop-back, front-get, take-whole}
 use Rattle.graph.proofs.TableLaws.{pairs-at, pairs-length}
 use Rattle.timeline.specs.Events.{Event, SegmentSet, activeOf, closes, ends, named, opens, pick}
-use Rattle.step.specs.Load.{AddReady, Added, AddedOne, Edged, PutEdge, adds, isAdded}
+use Rattle.loading.specs.Loading.{PutEdge}
+use Rattle.step.specs.Load.{AddReady, Added, AddedOne, Edged, adds, isAdded}
 use Rattle.segments.specs.Sets.{NamesSegments, more}
 use Rattle.words.specs.Fields.{half, node}
 

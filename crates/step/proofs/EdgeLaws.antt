@@ -20,19 +20,9 @@ use Rattle.graph.specs.Graph.{Edge, NodeSet}
 use Rattle.graph.specs.Lists.{pairs, table}
 use Rattle.step.proofs.WordLaws.{drop-back, front-get, take-whole}
 use Rattle.step.specs.Area.{areaEdges}
-use Rattle.step.specs.Load.{Copied, EdgesReady, Edged, PutEdge}
-use Rattle.words.proofs.FieldLaws.{update-other, update-same}
-use Rattle.words.specs.Fields.{PutHalf, half, node}
-
-pub put-edge : (n j a b : ℕ) {w w₁ w₂ : List ℕ} → PutHalf n 0 (2 * j) a w w₁ → PutHalf n 0 (2 * j + 1) b w₁ w₂ → PutEdge n j a b w w₂
-put-edge n j a b {w} {w₁} {w₂} p q =
-    record {
-      same = q .same ∙ p .same;
-      first = ap (λ f. f (2 * j)) (q .here) ∙ update-other (half n 0 w₁) (2 * j + 1) b (2 * j) (λ e. omega arith) ∙ ap (λ f. f (2 * j)) (p .here) ∙ update-same (half n 0 w) (2 * j) a;
-      second = ap (λ f. f (2 * j + 1)) (q .here) ∙ update-same (half n 0 w₁) (2 * j + 1) b;
-      else = λ h l. ap (λ f. f h) (q .here) ∙ update-other (half n 0 w₁) (2 * j + 1) b h (λ e. omega arith) ∙ ap (λ f. f h) (p .here) ∙ update-other (half n 0 w) (2 * j) a h (λ e. omega arith);
-      nodes = λ i l v u. q .nodes i l v u ∙ p .nodes i l v u;
-    }
+use Rattle.loading.specs.Loading.{PutEdge}
+use Rattle.step.specs.Load.{Copied, EdgesReady, Edged}
+use Rattle.words.specs.Fields.{half, node}
 
 -- the first j edges, and the edge behind them
 edges-ext : (n j i : ℕ) (w z : List ℕ) → ((h : ℕ) → h < 2 * (i + j) → half n 0 z h ≡ half n 0 w h)
@@ -119,8 +109,8 @@ module _ {e m s n j : ℕ} {w z : List ℕ} (q : EdgesReady e m s n w) (k : Copy
       let r = q .nodes j l in
       (omega (arith, r .0, reads (2 * e + j) (omega (arith, q .few))), omega (arith, r .1, reads (6 * e + j) (omega (arith, q .few))))
 
-  pub copying-need : (16 * n + 4 * j + 4 ≤ length (take (length z - s) (drop s z))) × (getD z (2 * e + j) 0 < n) × (getD z (6 * e + j) 0 < n) × (n ≤ 65536) × (j < 32768)
-  copying-need = (rw (length-take, length-drop) (omega (arith, q .room, k .long)), copying-ends .0, copying-ends .1, q .many, omega (arith, q .few, q .much))
+  pub copying-need : (16 * n + 4 * j + 4 ≤ length (take (length z - s) (drop s z))) × (getD z (2 * e + j) 0 < 65536) × (getD z (6 * e + j) 0 < 65536) × (n ≤ 65536) × (j < 32768)
+  copying-need = (rw (length-take, length-drop) (omega (arith, q .room, k .long)), omega (arith, copying-ends .0, q .many), omega (arith, copying-ends .1, q .many), q .many, omega (arith, q .few, q .much))
 
   pub copying-more : (zs : List ℕ) → PutEdge n j (getD z (2 * e + j) 0) (getD z (6 * e + j) 0) (take (length z - s) (drop s z)) zs → Copying e m s n w (putMid s (length z - s) z zs) (j + 1)
   copying-more zs p =

@@ -32,6 +32,7 @@ use Rattle.step.proofs.AddingLaws.{adds-cut}
 use Rattle.timeline.proofs.Networks.{middle, part-small}
 use Rattle.step.proofs.WordLaws.{drop-back, drop-sets, front-get, low-map, map-ext, mid-before, mid-less, mid-sets, mid-take, take-less, take-sets, take-whole}
 use Rattle.graph.proofs.TableLaws.{pairs-at, pairs-length, table-equal}
+use Rattle.loading.proofs.LoadingLaws.{entered-most}
 use Rattle.step.specs.Area.{Area, SmallArea, Sound, StepReady, Stepped, areaEdges}
 use Rattle.timeline.specs.Events.{Event, activeOf, afterAll, closes, ends, named, opens}
 use Rattle.step.specs.Load.{ActiveReady, Actives, AddReady, Added, Copied, EdgesReady, adds}
@@ -246,10 +247,10 @@ module _ {x y : List ℕ} {at n lo c nodes edges₀ : ℕ} {held w : List ℕ} (
   field j l v u = ap (λ q. node j q v) same-L ∙ C .edged .nodes j l v u ∙ B .edged .nodes j l v u
 
   list-L : table (node 1 L) 0 k ≡ firsts eqb T
-  list-L = table-equal (node 1 L) (node 1 (drop s w₁)) 0 k (λ j a b. field 1 (omega arith) j (omega (arith, A .entered .few))) ∙ A .entered .list
+  list-L = table-equal (node 1 L) (node 1 (drop s w₁)) 0 k (λ j a b. field 1 (omega arith) j (omega (arith, entered-most (A .entered)))) ∙ A .entered .active
 
   active-L : (i : ℕ) → i < k → node 1 L i ≡ node 1 (drop s w₁) i
-  active-L i l = field 1 (omega arith) i (omega (arith, A .entered .few))
+  active-L i l = field 1 (omega arith) i (omega (arith, entered-most (A .entered)))
 
   pub loaded : Loaded nodes m k L
   loaded =
@@ -258,10 +259,10 @@ module _ {x y : List ℕ} {at n lo c nodes edges₀ : ℕ} {held w : List ℕ} (
         few = st .many;
         much = omega (arith, C .most, st .area .few, st .much);
         room = rw (length-take, length-drop) (omega (arith, C .most, st .room));
-        less = e .few;
+        less = entered-most e;
         ends = rw same-L (C .edged .ends);
-        active = λ i l. rw (active-L i l) (e .low i l);
-        marked = λ i l. ap (node 0 L) (active-L i l) ∙ field 0 (omega arith) _ (e .low i l) ∙ e .marked i l;
+        active = λ i l. rw (active-L i l) (e .below i l);
+        marked = λ i l. ap (node 0 L) (active-L i l) ∙ field 0 (omega arith) _ (e .below i l) ∙ e .marked i l;
         marks = λ v u p.
             let q : 0 < node 0 (drop s w₁) v = omega (arith, field 0 (omega arith) v u) in
             let (i, li, z) = e .marks v u q in

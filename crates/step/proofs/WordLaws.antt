@@ -6,16 +6,12 @@ use mathlib.Core.List.{List, List·Memᴰ, List·Memᴰ·head, List·Memᴰ·tai
 use mathlib.Core.Path.{_∙_, _≡_, ap, ap₂, refl, sym}
 use lib.ListN.{drop, drop-of-length-le, getD, length, length-drop, length-take, set, take}
 use lib.Seq.{drop-at, drop-cons, drop-set-lt, getD-drop, getD-set-other, getD-take, length-sets, length-take-le, sets, sets-eq, take-add, take-all, take-at, take-set-le, take-take}
-use native.Mathlib.Nat.{add-zero}
 use native.Mathlib.Omega.{arith}
 use borrow.Rule.Slice.PartMut.{putMid}
 use Rattle.graph.proofs.Lists.{table-length}
+use Rattle.graph.proofs.TableLaws.{sets-append}
 use Rattle.graph.specs.Lists.{table}
 use Rattle.words.specs.Fields.{node}
-
-pub sets-append : (xs l : List ℕ) (i : ℕ) (ys : List ℕ) → sets l i (xs ++ ys) ≡ sets (sets l i xs) (i + length xs) ys
-sets-append [] l i ys = rw add-zero refl
-sets-append (x ∷ xs) l i ys = sets-append xs (set l i x) (suc i) ys ∙ ap (λ (k : ℕ). sets (sets (set l i x) (suc i) xs) k ys) (omega arith)
 
 pub table-append : (f : ℕ → ℕ) (i m n : ℕ) → table f i (m + n) ≡ table f i m ++ table f (i + m) n
 table-append f i zero n = let a : 0 + n ≡ n = omega arith in let b : i + 0 ≡ i = omega arith in rw (a, b) refl

@@ -4,12 +4,11 @@ use Prim.Native.Nat.{_*_, _+_, _<_, _≤_, ℕ}
 use mathlib.Core.Bool.{Bool, _&&_, _||_, cond, false, not, true}
 use mathlib.Core.List.{List, [], _∷_}
 use mathlib.Core.Path.{_≡_}
-use lib.Dec.{eqb}
 use lib.ListN.{drop, getD, length, take}
-use Rattle.core.specs.Core.{activeIn, edgesIn}
+use Rattle.core.specs.Core.{edgesIn}
 use Rattle.graph.specs.Cut.{cut}
 use Rattle.graph.specs.Graph.{Edge, NodeSet}
-use Rattle.graph.specs.Lists.{firsts}
+use Rattle.loading.specs.Loading.{Entered, PutEdge}
 use Rattle.segments.specs.Sets.{NamesSegments, more}
 use Rattle.tables.specs.OpenSet.{isOpen}
 use Rattle.step.specs.Area.{areaEdges}
@@ -28,36 +27,12 @@ pub record ActiveReady (from count s n : ℕ) (w : List ℕ) : Type 0 where
   pub many : n ≤ 65536
   pub nodes : (i : ℕ) → i < count → getD w (from + i) 0 < n
 
--- k different active nodes are entered: those of the list T, in order of first appearance
-pub record Entered (n k : ℕ) (T w : List ℕ) : Type 0 where
-  pub list : activeIn k w ≡ firsts eqb T
-  pub few : k ≤ n
-  pub low : (i : ℕ) → i < k → node 1 w i < n
-  pub marked : (i : ℕ) → i < k → node 0 w (node 1 w i) ≡ i + 1
-  pub marks : (v : ℕ) → v < n → 0 < node 0 w v → (i : ℕ) × (i < k) × (node 1 w i ≡ v)
-
--- some are entered, and there is room for one more
-pub record Enters (n k v : ℕ) (w : List ℕ) : Type 0 where
-  pub T : List ℕ
-  pub entered : Entered n k T w
-  pub low : v < n
-  pub room : 16 * n ≤ length w
-  pub few : n ≤ 65536
-
 -- those at the `count` words from `from` on are entered
 pub record Actives (from count s n : ℕ) (w z : List ℕ) (k : ℕ) : Type 0 where
   pub front : take s z ≡ take s w
-  pub entered : Entered n k (take count (drop from w)) (drop s z)
+  pub entered : Entered n (take count (drop from w)) k (node 0 (drop s z)) (node 1 (drop s z))
 
 -- ---- edges
--- edge j is written
-pub record PutEdge (n j a b : ℕ) (w z : List ℕ) : Type 0 where
-  pub same : length z ≡ length w
-  pub first : half n 0 z (2 * j) ≡ a
-  pub second : half n 0 z (2 * j + 1) ≡ b
-  pub else : (h : ℕ) → h < 2 * j → half n 0 z h ≡ half n 0 w h
-  pub nodes : (i : ℕ) → i < 16 → (v : ℕ) → v < n → node i z v ≡ node i w v
-
 -- the m edges of an area of e events, before s, join nodes below n
 pub record EdgesReady (e m s n : ℕ) (w : List ℕ) : Type 0 where
   pub front : 10 * e ≤ s

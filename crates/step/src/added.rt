@@ -37,7 +37,7 @@ pub(crate) fn add_event(
         return m;
     }
     segments::insert(seen, y);
-    crate::load::put_edge(work, n, m, a, b);
+    loading::put_edge(work, n, m, a, b);
     m + 1
 }
 

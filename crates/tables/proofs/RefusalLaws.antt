@@ -1,14 +1,16 @@
 -- Laws of refusals: where a list of faults refuses nothing no test holds, and the other way round; and what the first number that passes a test says of those before it.
 -- Assumes nothing.
-use Prim.Native.Nat.{_+_, _<_, _≤_, suc, zero, ℕ}
+use Prim.Native.Nat.{_+_, _-_, _<_, _≤_, suc, zero, ℕ}
 use mathlib.Core.Bool.{Bool, cond, false, true}
 use mathlib.Core.List.{List, [], _++_, _∷_}
 use mathlib.Core.Path.{_∙_, _≡_, ap, refl}
 use lib.Dec.{eqb, ltb}
+use lib.ListN.{getD}
 use native.Mathlib.Omega.{arith}
-use borrow.Author.Tests.{eqb-false, eqb-true, ltb-false}
+use borrow.Author.Tests.{eqb-false, eqb-true, le-leb, lt-leb, ltb-false}
 use Rattle.graph.proofs.Booleans.{onBool}
-use Rattle.tables.specs.Refusal.{Row, firstFault, seek}
+use Rattle.tables.specs.Refusal.{Row, badEnds, firstFault, seek}
+use Rattle.tables.specs.Sizes.{sizeFaults}
 
 -- ---- faults
 -- no test holds
@@ -44,6 +46,26 @@ silent-right (r ∷ rs) bs s = silent-right rs bs (s .1)
 pub numbered-append : (rs bs : List Row) → Numbered rs → Numbered bs → Numbered (rs ++ bs)
 numbered-append [] bs s t = t
 numbered-append (r ∷ rs) bs s t = (s .0, numbered-append rs bs (s .1) t)
+
+-- ---- the first fault of two lists of rows
+pub fault-left : (rs bs : List Row) → ¬ (firstFault rs .0 ≡ 0) → firstFault (rs ++ bs) ≡ firstFault rs
+fault-left [] bs n = absurd (n refl)
+fault-left (r ∷ rs) bs n = go (r .test) n (fault-left rs bs)
+  where
+    go : (b : Bool) → ¬ (cond b (r .code, r .place) (firstFault rs) .0 ≡ 0) → (¬ (firstFault rs .0 ≡ 0) → firstFault (rs ++ bs) ≡ firstFault rs)
+        → cond b (r .code, r .place) (firstFault (rs ++ bs)) ≡ cond b (r .code, r .place) (firstFault rs)
+    go true n ih = refl
+    go false n ih = ih n
+
+pub skip-silent : (rs bs : List Row) → Silent rs → firstFault (rs ++ bs) ≡ firstFault bs
+skip-silent [] bs s = refl
+skip-silent (r ∷ rs) bs s = ap (λ (b : Bool). cond b (r .code, r .place) (firstFault (rs ++ bs))) (s .0) ∙ skip-silent rs bs (s .1)
+
+pub fault-right : (rs bs : List Row) → Numbered rs → firstFault rs .0 ≡ 0 → firstFault (rs ++ bs) ≡ firstFault bs
+fault-right rs bs n z = skip-silent rs bs (fault-silent rs n z)
+
+pub sizes-numbered : (n m t k : ℕ) → Numbered (sizeFaults n m t k)
+sizes-numbered n m t k = (λ h. omega arith, (λ h. omega arith, (λ h. omega arith, (λ h. omega arith, tt))))
 
 -- ---- the first that passes
 -- what is found passes
@@ -81,3 +103,27 @@ seek-at f i (suc k) j a b t n = onBool (eqb i j)
 pub seek-end : (f : ℕ → Bool) (i k : ℕ) → ((u : ℕ) → i ≤ u → u < i + k → f u ≡ false) → seek f i k ≡ i + k
 seek-end f i zero n = omega arith
 seek-end f i (suc k) n = ap (λ (c : Bool). cond c i (seek f (i + 1) k)) (n i (omega arith) (omega arith)) ∙ seek-end f (i + 1) k (λ u p l. n u (omega arith) (omega arith)) ∙ omega arith
+
+-- ---- the loops' searches
+module _ (p : ℕ → Bool) (s m : ℕ) where
+  pub seek-more : s < m → p s ≡ false → seek p s (m - s) ≡ seek p (s + 1) (m - (s + 1))
+  seek-more l q = let e : m - s ≡ suc (m - (s + 1)) = omega arith in rw (e, q) refl
+
+  pub seek-here : s < m → p s ≡ true → seek p s (m - s) ≡ s
+  seek-here l q = let e : m - s ≡ suc (m - (s + 1)) = omega arith in rw (e, q) refl
+
+  pub seek-past : m ≤ s → seek p s (m - s) ≡ s
+  seek-past l = let e : m - s ≡ 0 = omega arith in rw e refl
+
+pub seek-start : (p : ℕ → Bool) (m : ℕ) → seek p 0 m ≡ seek p 0 (m - 0)
+seek-start p m = let e : m - 0 ≡ m = omega arith in rw e refl
+
+module _ (n : ℕ) (from to : List ℕ) (s : ℕ) where
+  pub bad-from : n ≤ getD from s 0 → badEnds n from to s ≡ true
+  bad-from l = rw (le-leb n (getD from s 0) l) refl
+
+  pub bad-to : getD from s 0 < n → n ≤ getD to s 0 → badEnds n from to s ≡ true
+  bad-to k l = rw (lt-leb n (getD from s 0) k, le-leb n (getD to s 0) l) refl
+
+  pub good-ends : getD from s 0 < n → getD to s 0 < n → badEnds n from to s ≡ false
+  good-ends k l = rw (lt-leb n (getD from s 0) k, lt-leb n (getD to s 0) l) refl

@@ -1,8 +1,10 @@
 -- Refusals: a call is refused by the first fault that holds of a list of faults, in the order of document 01's table, each with its number and its place.
 -- Each call lists its own faults. Assumes nothing: these are definitions.
 use Prim.Native.Nat.{_+_, suc, zero, ℕ}
-use mathlib.Core.Bool.{Bool, cond}
+use mathlib.Core.Bool.{Bool, _||_, cond}
 use mathlib.Core.List.{List, [], _∷_}
+use lib.Dec.{leb}
+use lib.ListN.{getD}
 
 -- a test, and the number and the place that are returned where it holds
 pub record Row : Type 0 where
@@ -25,3 +27,7 @@ firstFault (r ∷ rs) = cond (r .test) (r .code, r .place) (firstFault rs)
 abbrev pub seek : (ℕ → Bool) → ℕ → ℕ → ℕ
 seek f i zero = i
 seek f i (suc k) = cond (f i) i (seek f (i + 1) k)
+
+-- refusal 4: segment or edge s has an end not below n
+abbrev pub badEnds : ℕ → List ℕ → List ℕ → ℕ → Bool
+badEnds n from to s = leb n (getD from s 0) || leb n (getD to s 0)

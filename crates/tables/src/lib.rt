@@ -6,7 +6,10 @@ pub use openset::count;
 pub use openset::is_open;
 pub use openset::opened;
 ghost use mathlib.Core.Path.{_≡_};
-ghost use Rattle.tables.specs.Sizes.{sizesOutcome, checkSizes};
+ghost use Prim.Native.Nat.{_≤_};
+ghost use lib.ListN.{length};
+ghost use Rattle.tables.specs.Refusal.{badEnds, firstFault, seek};
+ghost use Rattle.tables.specs.Sizes.{sizesOutcome, checkSizes, sizeFaults};
 ghost use Rattle.tables.specs.Reader.{firstOrNone};
 
 // The sizes of a replay (n junctions, m segments, t events) or of a contraction (n nodes, m edges, k active entries), within the limits.
@@ -55,6 +58,45 @@ impl Sizes {
             k: k,
         })
     }
+}
+
+// Internal: a refusal's number and its place; 0 and 0 where nothing is refused.
+pub struct Fault {
+    pub code: usize,
+    pub place: usize,
+}
+
+// Internal: refusal 1, as a fault.
+pub fn size_fault(n: usize, m: usize, t: usize, k: usize) -> Fault
+    ensures { λ r. ⌜ (r .code, r .place) ≡ firstFault (sizeFaults n m t k) ⌝ }
+{
+    let sizes = Sizes::check(n, m, t, k);
+    match sizes {
+        SizesReply::Within(_) => Fault { code: 0, place: 0 },
+        SizesReply::Refused(code, place) => Fault {
+            code: code,
+            place: place,
+        },
+    }
+}
+
+// Internal: refusal 4: the first segment or edge with an end not below n, or m.
+pub fn first_bad_ends(n: usize, m: usize, from: &[u16], to: &[u16]) -> usize
+    requires { ⌜ (m ≤ length (now from)) × (m ≤ length (now to)) ⌝ }
+    ensures { λ r. ⌜ r ≡ seek (badEnds n (now (from .entry)) (now (to .entry))) 0 m ⌝ }
+{
+    let mut s: usize = 0;
+    // No segment before s has such an end.
+    while s < m {
+        if n <= from[s] as usize {
+            return s;
+        }
+        if n <= to[s] as usize {
+            return s;
+        }
+        s += 1;
+    }
+    s
 }
 
 // The reader's call: the table's own first t bytes, or its empty part where t is larger than the table.

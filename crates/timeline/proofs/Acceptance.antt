@@ -15,12 +15,12 @@ use Rattle.graph.proofs.Ends.{endsIn-all, endsIn-at}
 use Rattle.graph.specs.Graph.{Edge, NodeSet}
 use Rattle.graph.specs.Lists.{pairs}
 use Rattle.graph.specs.SmallGraph.{endsIn}
-use Rattle.tables.proofs.RefusalLaws.{Numbered, Silent, fault-silent, numbered-append, seek-found, seek-none, silent-left, silent-right}
-use Rattle.tables.specs.Refusal.{Refusal, Row, firstFault}
+use Rattle.tables.proofs.RefusalLaws.{Numbered, Silent, fault-silent, numbered-append, seek-found, seek-none, silent-left, silent-right, skip-silent}
+use Rattle.tables.specs.Refusal.{Refusal, Row, firstFault, badEnds}
 use Rattle.tables.specs.Sizes.{sizeFaults}
 use Rattle.timeline.specs.DemandThree.{Allowed}
 use Rattle.timeline.specs.Events.{Event, SegmentSet, activeOf, asks, closes, ends, opens, pick}
-use Rattle.timeline.specs.Replay.{Lent, badSegment, eventFault, fault, faultAt, faults, given, listFaults, required, shareFaults, shortTables}
+use Rattle.timeline.specs.Replay.{Lent, eventFault, fault, faultAt, faults, given, listFaults, required, shareFaults, shortTables}
 use Rattle.timeline.specs.Windows.{Timeline, Window, active, during, event, openBefore, size}
 use Rattle.timeline.specs.declared.Kind.{Kind}
 use Rattle.timeline.specs.declared.Kind.the-variants.{Closes, Nothing, Opens, Query}
@@ -175,7 +175,7 @@ pub record Accepted (l : Lent) (p : ℕ) : Type 0 where
   pub answers-long : l .t ≤ length (l .answers)
   pub work-long : required (l .t) (l .n) ≤ length (l .work)
   pub share : Allowed p
-  pub ends-fit : (s : ℕ) → s < l .m → badSegment (l .n) (l .a) (l .b) s ≡ false
+  pub ends-fit : (s : ℕ) → s < l .m → badEnds (l .n) (l .a) (l .b) s ≡ false
   pub events-fine : (i : ℕ) → i < l .t → faultAt l i ≡ 0
 
 list-numbered : (l : Lent) → Numbered (listFaults l)
@@ -213,7 +213,7 @@ accepted-from l p h =
       answers-long = ltb-false (length (l .answers)) (l .t) (b .1 .1 .1 .1 .0);
       work-long = ltb-false (length (l .work)) (required (l .t) (l .n)) (b .1 .1 .1 .1 .1 .0);
       share = (ltb-false p 4 (c .0), ltb-false 12 p (c .1 .0));
-      ends-fit = λ s k. seek-none (badSegment (l .n) (l .a) (l .b)) (l .m) s (e .0) k;
+      ends-fit = λ s k. seek-none (badEnds (l .n) (l .a) (l .b)) (l .m) s (e .0) k;
       events-fine = λ i k. eqb-true (faultAt l i) 0 (not-false (eqb (faultAt l i) 0) (seek-none (λ i. not (eqb (faultAt l i) 0)) (l .t) i (e .1 .0) k));
     }
 
@@ -253,10 +253,6 @@ module _ (l : Lent) (p : ℕ) (a : Accepted l p) where
 -- ---- with another allowed share nothing changes
 share-silent : (p : ℕ) → Allowed p → Silent (shareFaults p)
 share-silent p a = (le-ltb p 4 (a .0), (le-ltb 12 p (a .1), tt))
-
-pub skip-silent : (rs bs : List Row) → Silent rs → firstFault (rs ++ bs) ≡ firstFault bs
-skip-silent [] bs s = refl
-skip-silent (r ∷ rs) bs s = ap (λ (b : Bool). cond b (r .code, r .place) (firstFault (rs ++ bs))) (s .0) ∙ skip-silent rs bs (s .1)
 
 first-append : (rs bs cs : List Row) → firstFault bs ≡ firstFault cs → firstFault (rs ++ bs) ≡ firstFault (rs ++ cs)
 first-append [] bs cs h = h

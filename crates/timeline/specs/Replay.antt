@@ -1,13 +1,13 @@
 -- The replay as a public call: what it is lent, its faults in their order, the answer bytes and the three numbers, and what each lent table holds afterwards.
 -- Assumes nothing: these are definitions.
 use Prim.Native.Nat.{_*_, _+_, ℕ}
-use mathlib.Core.Bool.{Bool, _||_, cond, false, not, true}
+use mathlib.Core.Bool.{Bool, cond, false, not, true}
 use mathlib.Core.List.{List, [], _++_, _∷_, map}
-use lib.Dec.{eqb, leb, ltb}
-use lib.ListN.{getD, length, replicate, take}
+use lib.Dec.{eqb, ltb}
+use lib.ListN.{length, replicate, take}
 use Rattle.graph.specs.Graph.{answer}
 use Rattle.graph.specs.Lists.{filter, over, pairs, range}
-use Rattle.tables.specs.Refusal.{Refusal, Row, firstFault, row, seek}
+use Rattle.tables.specs.Refusal.{Refusal, Row, firstFault, row, seek, badEnds}
 use Rattle.tables.specs.Sizes.{sizeFaults}
 use Rattle.timeline.specs.Events.{Event, SegmentSet, asks, kindOf}
 use Rattle.timeline.specs.Windows.{Timeline, edgesOf, event, kept, openBefore, size}
@@ -53,10 +53,6 @@ abbrev pub required : ℕ → ℕ → ℕ
 required t n = 256 * t + 32 * n + 2048
 
 -- ---- faults
--- segment s has an end not below n
-abbrev pub badSegment : ℕ → List ℕ → List ℕ → ℕ → Bool
-badSegment n a b s = leb n (getD a s 0) || leb n (getD b s 0)
-
 -- the fault of an event, where the segments of o are open before it and there are n junctions and m segments: 0, 5, 6 or 7
 unfoldable pub eventFault : ℕ → ℕ → SegmentSet → Event → ℕ
 eventFault n m o e = elim (kindOf n (e .0)) [
@@ -88,7 +84,7 @@ shareFaults p = row (ltb p 4) 3 0 ∷ row (ltb 12 p) 3 0 ∷ []
 -- 1, 2, 3, then 4 at the first segment with an end not below N, then the first event that shows 5, 6 or 7
 unfoldable pub listFaults : Lent → List Row
 listFaults l =
-    let s : ℕ = seek (badSegment (l .n) (l .a) (l .b)) 0 (l .m) in
+    let s : ℕ = seek (badEnds (l .n) (l .a) (l .b)) 0 (l .m) in
     let i : ℕ = seek (λ i. not (eqb (faultAt l i) 0)) 0 (l .t) in
     row (ltb s (l .m)) 4 s ∷ row (ltb i (l .t)) (faultAt l i) i ∷ []
 

@@ -1,5 +1,5 @@
-use Rattle.program.specs.Reading.{headerOutcome}
-use Rattle.program.proofs.TextLaws.{wrote-as}
+use Rattle.reading.specs.Reading.{headerOutcome}
+use Rattle.printing.proofs.TextLaws.{wrote-as}
 use Rattle.program.proofs.ResponseLaws.{header-read, output-accepted, output-refused, refused-most}
 use native.Mathlib.Omega.{arith}
 use mathlib.Core.Path.{_∙_, ap, sym}

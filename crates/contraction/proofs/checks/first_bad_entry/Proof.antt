@@ -4,7 +4,7 @@ use lib.ListN.{getD}
 use native.Mathlib.Omega.{arith}
 use borrow.Author.Needs.{needs}
 use borrow.Author.Tests.{le-leb, lt-leb}
-use Rattle.contraction.proofs.FaultLaws.{seek-here, seek-more, seek-past, seek-start}
+use Rattle.tables.proofs.RefusalLaws.{seek-here, seek-more, seek-past, seek-start}
 use Rattle.contraction.proofs.checks.first_bad_entry.Statement.{statement}
 use Rattle.contraction.specs.Call.{badEntry}
 use Rattle.tables.specs.Refusal.{seek}

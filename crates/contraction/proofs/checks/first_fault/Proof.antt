@@ -22,20 +22,20 @@ length-fault-requires c κs = let w = sizes-within (c .before .before .size-faul
 returns-2 : tie.Need-returns-2
 returns-2 c = length-refused (given (c .before .before .before .before .before .before .before .before .before .before .before .before .before)) (c .before .before .before .before .before .size-fault .ensures) (omega arith) (c .before .before .length-fault .ensures) (λ e. omega arith)
 
-first-bad-edge-requires : tie.Need-first-bad-edge-requires
-first-bad-edge-requires c κs = let w = lengths-long (given (c .before .before .before .before .before .before .before .before .before .before .before .before .before)) (c .before .before .length-fault .ensures) (omega arith) in (w .from-length, w .to-length)
+first-bad-ends-requires : tie.Need-first-bad-ends-requires
+first-bad-ends-requires c κs = let w = lengths-long (given (c .before .before .before .before .before .before .before .before .before .before .before .before .before)) (c .before .before .length-fault .ensures) (omega arith) in (w .from-length, w .to-length)
 
 returns-3 : tie.Need-returns-3
-returns-3 c = edge-refused (given (c .before .before .before .before .before .before .before .before .before .before .before .before .before .before .before)) (c .before .before .before .before .before .before .before .size-fault .ensures) (omega arith) (c .before .before .before .before .length-fault .ensures) (omega arith) _ (c .before .first-bad-edge .ensures) (c .if3 .taken)
+returns-3 c = edge-refused (given (c .before .before .before .before .before .before .before .before .before .before .before .before .before .before .before)) (c .before .before .before .before .before .before .before .size-fault .ensures) (omega arith) (c .before .before .before .before .length-fault .ensures) (omega arith) _ (c .before .first-bad-ends .ensures) (c .if3 .taken)
 
 first-bad-entry-requires : tie.Need-first-bad-entry-requires
 first-bad-entry-requires c κs = lengths-long (given (c .before .before .before .before .before .before .before .before .before .before .before .before .before .before .before)) (c .before .before .before .before .length-fault .ensures) (omega arith) .active-length
 
 returns-4 : tie.Need-returns-4
-returns-4 c = entry-refused (given (c .before .before .before .before .before .before .before .before .before .before .before .before .before .before .before .before .before)) (c .before .before .before .before .before .before .before .before .before .size-fault .ensures) (omega arith) (c .before .before .before .before .before .before .length-fault .ensures) (omega arith) _ _ (c .before .before .before .first-bad-edge .ensures) (c .before .before .if3 .left) (c .before .first-bad-entry .ensures) (c .if4 .taken)
+returns-4 c = entry-refused (given (c .before .before .before .before .before .before .before .before .before .before .before .before .before .before .before .before .before)) (c .before .before .before .before .before .before .before .before .before .size-fault .ensures) (omega arith) (c .before .before .before .before .before .before .length-fault .ensures) (omega arith) _ _ (c .before .before .before .first-bad-ends .ensures) (c .before .before .if3 .left) (c .before .first-bad-entry .ensures) (c .if4 .taken)
 
 returns-5 : tie.Need-returns-5
-returns-5 c = none-refused (given (c .before .before .before .before .before .before .before .before .before .before .before .before .before .before .before .before .before)) (c .before .before .before .before .before .before .before .before .before .size-fault .ensures) (omega arith) (c .before .before .before .before .before .before .length-fault .ensures) (omega arith) _ _ (c .before .before .before .first-bad-edge .ensures) (c .before .before .if3 .left) (c .before .first-bad-entry .ensures) (c .if4 .left)
+returns-5 c = none-refused (given (c .before .before .before .before .before .before .before .before .before .before .before .before .before .before .before .before .before)) (c .before .before .before .before .before .before .before .before .before .size-fault .ensures) (omega arith) (c .before .before .before .before .before .before .length-fault .ensures) (omega arith) _ _ (c .before .before .before .first-bad-ends .ensures) (c .before .before .if3 .left) (c .before .first-bad-entry .ensures) (c .if4 .left)
 
 pub first-fault-spec : {M : Type 1} → statement M
 first-fault-spec =
@@ -45,7 +45,7 @@ first-fault-spec =
     returns
     length-fault-requires
     returns-2
-    first-bad-edge-requires
+    first-bad-ends-requires
     returns-3
     first-bad-entry-requires
     returns-4

@@ -1,7 +1,7 @@
 use Rattle.timeline.specs.declared.ReplayReply.{ReplayReply}
 use Rattle.timeline.specs.Call.{outcome}
-use Rattle.program.specs.Printing.{eventAt, printedOf}
-use Rattle.program.proofs.TextLaws.{wrote-as, wrote-then}
+use Rattle.printing.specs.Printing.{eventAt, printedOf}
+use Rattle.printing.proofs.TextLaws.{wrote-as, wrote-then}
 use Rattle.program.proofs.ResponseLaws.{refused-most, totals-most}
 use native.Mathlib.Omega.{arith}
 use mathlib.Core.Path.{ap, sym}

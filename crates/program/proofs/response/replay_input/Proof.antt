@@ -1,4 +1,4 @@
-use Rattle.program.proofs.TextLaws.{wrote-as}
+use Rattle.printing.proofs.TextLaws.{wrote-as}
 use Rattle.program.proofs.ResponseLaws.{replied, table-is}
 use native.Mathlib.Omega.{arith}
 use lib.Seq.{length-take-le}

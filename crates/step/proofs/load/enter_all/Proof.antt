@@ -1,12 +1,12 @@
 -- Each word of the list is entered behind the front.
 use Prim.Native.Nat.{_-_}
 use native.Mathlib.Omega.{arith}
-use Rattle.step.proofs.EnterLaws.{Entering, entering-all, entering-more, entering-need, entering-none, reads}
+use Rattle.step.proofs.EnterLaws.{EnteredSoFar, entering-all, entering-more, entering-need, entering-none, reads}
 use Rattle.step.proofs.load.enter_all.Statement.{statement}
 use Rattle.step.proofs.load.enter_all.Tie as tie
 
 abbrev Inv-loop : tie.InvT-loop
-Inv-loop work₀ from count s n k₀ i₀ work k i = Entering from count s n work₀ work k i
+Inv-loop work₀ from count s n k₀ i₀ work k i = EnteredSoFar from count s n work₀ work k i
 
 abbrev μ-loop : tie.MeasureT-loop
 μ-loop work₀ from count s n k₀ i₀ work k i = count - i
@@ -48,7 +48,7 @@ loop-less : tie.Need-loop-less Inv-loop μ-loop
 loop-less c = omega arith
 
 loop-again : tie.Need-loop-again Inv-loop μ-loop
-loop-again c = entering-more (c .before .before .before .before .before .before .before .before .pre) (c .before .before .before .before .before .before .loop .inv) (omega arith) (c .before .before .enter .result) (c .before .before .enter .last .0) (omega arith) (c .before .before .enter .ensures)
+loop-again c = entering-more (c .before .before .before .before .before .before .before .before .pre) (c .before .before .before .before .before .before .loop .inv) (omega arith) (c .before .before .enter .result) (c .before .before .enter .last .0) (c .before .before .enter .ensures)
 
 same-length : tie.Need-same-length Inv-loop μ-loop
 same-length c = c .before .loop .inv .long
