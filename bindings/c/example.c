@@ -1,14 +1,16 @@
 /*
  * Replays document 01's example, a triangle whose segments open one after the other, with
- * two queries of junctions 0 and 2, and prints what the program `replay` prints.
+ * two queries of junctions 0 and 2, and prints what the program `replay` prints. An argument
+ * is taken as the share in the place of 8.
  */
 #include <stdio.h>
+#include <stdlib.h>
 
 #include "lumzhasel.h"
 
-enum { JUNCTIONS = 3, SEGMENTS = 3, EVENTS = 5, SHARE = 8 };
+enum { JUNCTIONS = 3, SEGMENTS = 3, EVENTS = 5 };
 
-int main(void)
+int main(int argc, char **argv)
 {
     const uint16_t a[SEGMENTS] = {0, 1, 2};
     const uint16_t b[SEGMENTS] = {1, 2, 0};
@@ -16,9 +18,10 @@ int main(void)
     const uint16_t y[EVENTS] = {0, 1, 2, 2, 2};
     uint8_t answers[EVENTS] = {0};
     static uint32_t work[LUM_REPLAY_WORK(JUNCTIONS, EVENTS)];
+    size_t share = argc > 1 ? strtoul(argv[1], NULL, 10) : 8;
 
     struct lum_replay_reply r = lum_replay(
-        JUNCTIONS, SEGMENTS, EVENTS, SHARE,
+        JUNCTIONS, SEGMENTS, EVENTS, share,
         a, SEGMENTS, b, SEGMENTS, x, EVENTS, y, EVENTS,
         answers, EVENTS, work, sizeof work / sizeof work[0]);
 
