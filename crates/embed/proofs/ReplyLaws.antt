@@ -1,15 +1,19 @@
 -- What a struct says is what the reply does that it was written from. A refusal's number is not 0, so that the code 0 is the one of accepted calls alone.
--- In order: the sizes, the contraction, the replay; of each, the accepted reply and the refusal. Assumes nothing.
+-- In order: the sizes, the contraction, the replay, of each the accepted reply and the refusal; the reader's part. Assumes nothing.
 use Prim.Native.Nat.{ℕ}
 use mathlib.Core.Bool.{Bool, false, true}
 use mathlib.Core.List.{List}
 use mathlib.Core.Path.{_∙_, _≡_, ap, refl, sym}
-use lib.Dec.{eqb}
+use lib.Dec.{eqb, leb}
+use lib.ListN.{length, take}
+use lib.Seq.{length-take-le}
+use borrow.Author.Tests.{leb-true}
 use Rattle.contraction.specs.Call as contraction
 use Rattle.contraction.specs.Reply as contracting
 use Rattle.contraction.specs.declared.ContractReply.{ContractReply}
 use Rattle.contraction.specs.declared.ContractReply.the-variants as contracts
 use Rattle.graph.proofs.Booleans.{contradict, onBool}
+use Rattle.tables.specs.Reader.{firstOrNone}
 use Rattle.tables.specs.Sizes.{SizesOutcome, checkSizes, sizesOutcome}
 use Rattle.tables.specs.declared.Sizes.{Sizes}
 use Rattle.tables.specs.declared.SizesReply.{SizesReply}
@@ -66,3 +70,9 @@ module _ (l : timeline.Lent) (p : ℕ) (answers work : List ℕ) {r : ReplayRepl
   replay-refused {c} {i} g =
       let says : replaying.outcome (replays.Refused c i) answers work ≡ timeline.replay l p = ap (λ (r : ReplayReply). replaying.outcome r answers work) (sym g) ∙ e in
       ap (λ (b : Bool). record { accepted = b; code = c; place = i; queries = 0; opened = 0; kept = 0; answers = answers; work = work }) (replay-code l p answers work says) ∙ says
+
+-- ---- the reader's part is as many bytes from the table's start as it is long
+pub part-first : (table : List ℕ) (t : ℕ) → take (length (firstOrNone table t)) table ≡ firstOrNone table t
+part-first table t = onBool (leb t (length table))
+    (λ h. rw h (ap (λ (k : ℕ). take k table) (length-take-le t table (leb-true t (length table) h))))
+    (λ h. rw h refl)

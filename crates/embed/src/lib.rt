@@ -4,7 +4,7 @@ use tables::Sizes;
 use tables::SizesReply;
 use timeline::ReplayReply;
 ghost use mathlib.Core.Path.{_≡_};
-ghost use lib.ListN.{length};
+ghost use lib.ListN.{length, take};
 ghost use Rattle.contraction.specs.Call.{contraction};
 ghost use Rattle.contraction.specs.Reply as contracting;
 ghost use Rattle.tables.specs.Reader.{firstOrNone};
@@ -71,10 +71,11 @@ pub extern "C" fn lum_sizes(n: usize, m: usize, t: usize, k: usize) -> LumSizesR
     }
 }
 
-// The reader's call. The part that it hands back begins where the table does, so its length says all.
+// The reader's call. The part that it hands back begins where the table does, so that its length says all.
 #[no_mangle]
 pub extern "C" fn lum_answers(table: &[u8], t: usize) -> usize
     ensures { λ r. ⌜ r ≡ length (firstOrNone (now (table .entry)) t) ⌝ }
+    ensures { λ r. ⌜ take r (now (table .entry)) ≡ firstOrNone (now (table .entry)) t ⌝ }
 {
     let part = tables::answers(table, t);
     part.len()
