@@ -9,6 +9,9 @@
 //! repository's top first. The package itself is not proved. It hands slices on as pointers and
 //! lengths, in one module, and names the refusals.
 //!
+//! A call keeps nothing and allocates nothing. A replay of 4,096 events needs a thread with some 256 KB of stack, which
+//! is measured and not proved; the main thread and the threads of `std::thread` have more.
+//!
 //! Tables may be longer than they must be. Entries past the stated sizes are ignored, and none of
 //! them changes. A refused call changes no table.
 //!

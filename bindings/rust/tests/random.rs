@@ -146,3 +146,24 @@ fn large_lists() {
         assert!(l.compare().reply.is_ok());
     }
 }
+
+#[test]
+fn the_stack_that_is_named_is_enough() {
+    for p in 4..=12 {
+        let run = move || {
+            let mut r = Numbers::from(130_000);
+            let mut l = random_list(&mut r, 4096, 8192, 4096);
+            while l.t < 4096 {
+                l.t += 1;
+                l.x.push(0);
+                l.y.push(0);
+                l.answers.push(0);
+                l.work.extend([0; 256]);
+            }
+            l.p = p;
+            l.call().reply.is_ok()
+        };
+        let thread = std::thread::Builder::new().stack_size(256 * 1024).spawn(run).unwrap();
+        assert!(thread.join().unwrap());
+    }
+}
