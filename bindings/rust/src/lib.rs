@@ -9,8 +9,9 @@
 //! repository's top first. The package itself is not proved. It hands slices on as pointers and
 //! lengths, in one module, and names the refusals.
 //!
-//! A call keeps nothing and allocates nothing. A replay of 4,096 events needs a thread with some 256 KB of stack, which
-//! is measured and not proved; the main thread and the threads of `std::thread` have more.
+//! A call keeps nothing and allocates nothing. It takes stack: replays of 4,096 events ran on a
+//! thread with 256 KB for each share, and not on one with 128 KB for the share 4. This is measured
+//! and not proved; fewer events take less, and a thread of `std::thread` has 2 MB by default.
 //!
 //! Tables may be longer than they must be. Entries past the stated sizes are ignored, and none of
 //! them changes. A refused call changes no table.
