@@ -1,0 +1,40 @@
+/*
+ * Replays document 01's example, a triangle whose segments open one after the other, with
+ * two queries of junctions 0 and 2, and prints what the program `replay` prints. An argument
+ * is taken as the share in the place of 8.
+ */
+#include <stdio.h>
+#include <stdlib.h>
+
+#include "lumzhasel.h"
+
+enum { JUNCTIONS = 3, SEGMENTS = 3, EVENTS = 5 };
+
+int main(int argc, char **argv)
+{
+    const uint16_t a[SEGMENTS] = {0, 1, 2};
+    const uint16_t b[SEGMENTS] = {1, 2, 0};
+    const uint16_t x[EVENTS] = {LUM_OPENS, LUM_OPENS, 0, LUM_OPENS, 0};
+    const uint16_t y[EVENTS] = {0, 1, 2, 2, 2};
+    uint8_t answers[EVENTS] = {0};
+    static uint32_t work[LUM_REPLAY_WORK(JUNCTIONS, EVENTS)];
+    size_t share = argc > 1 ? strtoul(argv[1], NULL, 10) : 8;
+
+    struct lum_replay_reply r = lum_replay(
+        JUNCTIONS, SEGMENTS, EVENTS, share,
+        a, SEGMENTS, b, SEGMENTS, x, EVENTS, y, EVENTS,
+        answers, EVENTS, work, sizeof work / sizeof work[0]);
+
+    if (r.code != LUM_ACCEPTED) {
+        printf("refused %zu at %zu\n", r.code, r.place);
+        return 1;
+    }
+    size_t given = lum_answers(answers, EVENTS, EVENTS);
+    for (size_t i = 0; i < given; i++) {
+        if (answers[i] != 3) {
+            printf("%zu %u\n", i, (unsigned)answers[i]);
+        }
+    }
+    printf("asks %zu open %zu kept %zu\n", r.queries, r.open, r.kept);
+    return 0;
+}

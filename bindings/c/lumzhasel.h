@@ -1,0 +1,177 @@
+/*
+ * Lumzhasel from C and C++: the replay of a road network, the contraction, the
+ * check of sizes and the reader's call. Each call is proved, for all inputs, to
+ * return and to leave in the lent tables exactly what the definitions say
+ * (crates/embed/src/lib.rt). Link target/staticlib/libembed.a, which
+ * `rt staticlib embed` writes; it is for x86-64 Linux and needs only memcpy and
+ * memset of the C library.
+ *
+ * WHAT THE CALLER OWES. The proofs begin where these hold, and no call can check them:
+ *  - Each pointer points to at least as many entries as the length after it says,
+ *    all of them initialised, also those of the tables that are written.
+ *  - Each pointer is non-null and aligned for its type, even where its length is 0:
+ *    a table without entries may be any such pointer, for example one to a
+ *    variable of that type.
+ *  - A table that is written (no `const`) overlaps no other table of the call.
+ *    Tables that are only read may overlap each other.
+ *  - While a call runs nothing else writes its tables, and nothing else reads
+ *    those that it writes.
+ *  - A table takes at most PTRDIFF_MAX bytes.
+ *
+ * A call keeps nothing after it returns, allocates nothing, and reads and writes
+ * nothing but its tables, so that calls on different tables may run at the same time.
+ * It takes stack: replays of 4,096 events ran on a thread with 256 KB for each share, and
+ * not on one with 128 KB for the share 4. This is measured and not proved; fewer events
+ * take less.
+ *
+ * TABLES may be longer than they must be. Entries past the stated sizes are ignored,
+ * and none of them changes.
+ *
+ * REPLIES. `code` is 0 where the call is accepted, and `place` is then 0. Otherwise
+ * `code` is the refusal's number, `place` its place, every other number of the reply
+ * is 0, and every table is as it was lent: a refusal changes nothing. The refusals:
+ *
+ *  code                 place    when
+ *  LUM_SIZES        1   0        n > 4,096, m > 8,192, t > 4,096 or k > 8,192
+ *  LUM_SHORT        2   0        a table is shorter than its least length
+ *  LUM_SHARE        3   0        p is below 4 or above 12 (replay)
+ *  LUM_END          4   segment  the first segment (edge) with an end not below n
+ *  LUM_EVENT        5   event    x or y names no junction, segment or kind of event (replay)
+ *  LUM_OPEN_TWICE   6   event    opens an open segment (replay)
+ *  LUM_NOT_OPEN     7   event    closes a closed segment (replay)
+ *  LUM_ENTRY        8   entry    the first active entry not below n (contraction)
+ *
+ * The first that holds counts, in this order: 1, 2, 3, 4, then 8 in the contraction;
+ * in the replay then the first event that shows 5, 6 or 7, and 5 precedes the others
+ * at one event. Places are counted from 0.
+ */
+#ifndef LUMZHASEL_H
+#define LUMZHASEL_H
+
+#include <stddef.h>
+#include <stdint.h>
+
+#ifdef __cplusplus
+extern "C" {
+#endif
+
+/* The limits. */
+#define LUM_MOST_JUNCTIONS 4096u
+#define LUM_MOST_SEGMENTS 8192u
+#define LUM_MOST_EVENTS 4096u
+#define LUM_MOST_ENTRIES 8192u
+
+/* The replies' codes. */
+#define LUM_ACCEPTED 0u
+#define LUM_SIZES 1u
+#define LUM_SHORT 2u
+#define LUM_SHARE 3u
+#define LUM_END 4u
+#define LUM_EVENT 5u
+#define LUM_OPEN_TWICE 6u
+#define LUM_NOT_OPEN 7u
+#define LUM_ENTRY 8u
+
+/* The x of an event that opens or closes the segment in its y. */
+#define LUM_OPENS 65535u
+#define LUM_CLOSES 65534u
+
+/* The least length of the replay's work table, for n at most 4,096 and t at most 4,096. */
+#define LUM_REPLAY_WORK(n, t) (256u * (size_t)(t) + 32u * (size_t)(n) + 2048u)
+
+/* The least length of the contraction's work table, for n at most 4,096 and m at most 8,192. */
+#define LUM_CONTRACT_WORK(n, m) (16u * (size_t)(n) + 8u * (size_t)(m) + 512u)
+
+struct lum_sizes_reply {
+    size_t code, place;
+    size_t n, m, t, k; /* the sizes as they were given */
+};
+
+struct lum_contract_reply {
+    size_t code, place;
+    size_t nodes; /* of the small graph */
+    size_t edges;
+};
+
+struct lum_replay_reply {
+    size_t code, place;
+    size_t queries; /* the queries in the list */
+    size_t open;    /* the segments open at its end */
+    size_t kept;    /* the nodes of the small graphs, summed over all windows */
+};
+
+/*
+ * Checks sizes: n junctions, m segments and t events of a replay (k = 0), or n nodes,
+ * m edges and k active entries of a contraction (t = 0). Refused by 1 alone. The other
+ * calls make this check themselves.
+ */
+struct lum_sizes_reply lum_sizes(size_t n, size_t m, size_t t, size_t k);
+
+/*
+ * The reader's call: the table's own first t bytes, or its empty part where t is larger
+ * than the table. The part begins at `table`; its length is returned, t or 0. Nothing is
+ * refused and nothing written.
+ */
+size_t lum_answers(const uint8_t *table, size_t table_len, size_t t);
+
+/*
+ * Contracts the graph of n nodes and m edges, edge s between from[s] and to[s], to its
+ * first k active entries. An edge may join a node to itself, parallel edges count each,
+ * and active entries may repeat.
+ *
+ *  table     least length       afterwards, where the call is accepted
+ *  from, to  m                  (read)
+ *  active    k                  (read)
+ *  map       k                  map[i] is the new number of active[i], for i below k
+ *  out_from  2k                 the first `edges` entries: the smaller end of each edge
+ *  out_to    2k                 the first `edges` entries: the larger end of each edge
+ *  work      16n + 8m + 512     0 over that length
+ *
+ * No other entry changes. The new nodes are numbered from 0: those that hold an active
+ * node in order of first appearance in `active`, then the others by their smallest node.
+ * Edges ascend by their first end, then by their second. Refused by 1, 2, 4 and 8.
+ */
+struct lum_contract_reply lum_contract(
+    size_t n, size_t m, size_t k,
+    const uint16_t *from, size_t from_len,
+    const uint16_t *to, size_t to_len,
+    const uint16_t *active, size_t active_len,
+    uint16_t *map, size_t map_len,
+    uint16_t *out_from, size_t out_from_len,
+    uint16_t *out_to, size_t out_to_len,
+    uint32_t *work, size_t work_len);
+
+/*
+ * Replays t events over n junctions and m segments, with the share p, 4 to 12. Segment s
+ * joins a[s] and b[s], both ways; every segment is closed at the start. Event i is
+ *
+ *  x[i]             y[i]
+ *  0 to n - 1       junction   a query of x[i] and y[i]
+ *  LUM_OPENS        segment    it opens
+ *  LUM_CLOSES       segment    it closes
+ *
+ *  table     least length            afterwards, where the call is accepted
+ *  a, b      m                       (read)
+ *  x, y      t                       (read)
+ *  answers   t                       the first t entries: the answer bytes
+ *  work      256t + 32n + 2,048      0 over that length
+ *
+ * No other entry changes. The answer byte of a query is 2 where the junctions are joined
+ * and stay joined whichever single open segment is removed, 1 where they are joined and
+ * some single removal parts them, 0 where they are not joined; an event that opens or
+ * closes has 3. The share changes `kept` and no answer. Refused by 1 to 7.
+ */
+struct lum_replay_reply lum_replay(
+    size_t n, size_t m, size_t t, size_t p,
+    const uint16_t *a, size_t a_len,
+    const uint16_t *b, size_t b_len,
+    const uint16_t *x, size_t x_len,
+    const uint16_t *y, size_t y_len,
+    uint8_t *answers, size_t answers_len,
+    uint32_t *work, size_t work_len);
+
+#ifdef __cplusplus
+}
+#endif
+
+#endif

@@ -1,0 +1,232 @@
+//! Document 01's cases, as calls show them, and the limits.
+
+mod common;
+
+use common::{graph, list, List};
+use lumzhasel::{answers, check_sizes, Reason, Refusal, Sizes, CLOSES, OPENS};
+
+// The answer bytes of an accepted list with the share 8, and kept aside its numbers.
+fn bytes(n: usize, segments: &[(u16, u16)], events: &[(u16, u16)]) -> Vec<u8> {
+    let l = list(n, 8, segments, events);
+    let got = l.compare();
+    assert!(got.reply.is_ok());
+    got.answers
+}
+
+fn refusal(l: &List) -> (usize, usize) {
+    l.compare().reply.unwrap_err()
+}
+
+fn example(p: usize) -> List {
+    let events = [(OPENS, 0), (OPENS, 1), (0, 2), (OPENS, 2), (0, 2)];
+    list(3, p, &[(0, 1), (1, 2), (2, 0)], &events)
+}
+
+#[test]
+fn the_example() {
+    let got = example(8).compare();
+    assert_eq!(got.answers, [3, 3, 1, 3, 2]);
+    assert_eq!(got.reply, Ok((2, 3, 19)));
+    let other = example(12).compare();
+    assert_eq!(other.answers, got.answers);
+    assert_eq!(other.reply, Ok((2, 3, 20)));
+}
+
+#[test]
+fn a_junction_with_itself() {
+    assert_eq!(bytes(2, &[], &[(1, 1)]), [2]);
+}
+
+#[test]
+fn nothing_open() {
+    assert_eq!(bytes(2, &[], &[(0, 1)]), [0]);
+    assert_eq!(bytes(2, &[(0, 1)], &[(0, 1)]), [0]);
+}
+
+#[test]
+fn one_segment_and_two() {
+    assert_eq!(bytes(2, &[(0, 1)], &[(OPENS, 0), (0, 1)]), [3, 1]);
+    assert_eq!(
+        bytes(2, &[(0, 1), (0, 1)], &[(OPENS, 0), (OPENS, 1), (0, 1)]),
+        [3, 3, 2]
+    );
+}
+
+#[test]
+fn a_segment_from_a_junction_to_itself() {
+    assert_eq!(bytes(2, &[(0, 0)], &[(OPENS, 0), (0, 1)]), [3, 0]);
+}
+
+#[test]
+fn a_path_is_contracted() {
+    let got = graph(3, &[(0, 1), (1, 2)], &[0, 2]).compare();
+    assert_eq!(got.reply, Ok((2, 1)));
+    assert_eq!((got.out_from[0], got.out_to[0]), (0, 1));
+    assert_eq!(got.map, [0, 1]);
+}
+
+#[test]
+fn a_star_is_contracted() {
+    let got = graph(4, &[(3, 0), (3, 1), (3, 2)], &[0, 1, 2]).compare();
+    assert_eq!(got.reply, Ok((4, 3)));
+    assert_eq!(got.out_from[..3], [0, 1, 2]);
+    assert_eq!(got.out_to[..3], [3, 3, 3]);
+}
+
+#[test]
+fn a_triangle_is_contracted() {
+    let got = graph(3, &[(0, 1), (1, 2), (2, 0)], &[0, 1, 2]).compare();
+    assert_eq!(got.reply, Ok((1, 0)));
+    assert_eq!(got.map, [0, 0, 0]);
+}
+
+#[test]
+fn no_active_entries_and_repeated_ones() {
+    assert_eq!(graph(3, &[(0, 1), (1, 2)], &[]).compare().reply, Ok((0, 0)));
+    let got = graph(2, &[], &[1, 1]).compare();
+    assert_eq!(got.reply, Ok((1, 0)));
+    assert_eq!(got.map, [0, 0]);
+}
+
+#[test]
+fn the_shares() {
+    for p in 0..20 {
+        let reply = example(p).compare().reply;
+        assert_eq!(reply.is_ok(), (4..=12).contains(&p));
+        if let Err(e) = reply {
+            assert_eq!(e, (3, 0));
+        }
+    }
+}
+
+#[test]
+fn the_limits_of_a_replay() {
+    let most = list(4096, 8, &vec![(0, 4095); 8192], &vec![(0, 4095); 4096]);
+    let got = most.call();
+    assert_eq!(got.reply.map(|r| (r.0, r.1)), Ok((4096, 0)));
+    assert!(got.answers.iter().all(|b| *b == 0));
+    assert!(list(4096, 8, &[], &[]).call().reply.is_ok());
+    assert_eq!(list(4097, 8, &[], &[]).call().reply, Err((1, 0)));
+    let mut more = most.clone();
+    more.m += 1;
+    assert_eq!(more.call().reply, Err((1, 0)));
+    let mut more = most.clone();
+    more.t += 1;
+    assert_eq!(more.call().reply, Err((1, 0)));
+}
+
+#[test]
+fn the_limits_of_a_contraction() {
+    let most = graph(4096, &vec![(0, 4095); 8192], &vec![4095; 8192]);
+    assert_eq!(most.call().reply, Ok((1, 0)));
+    for grow in [
+        |g: &mut common::Graph| g.n += 1,
+        |g: &mut common::Graph| g.m += 1,
+        |g: &mut common::Graph| g.k += 1,
+    ] {
+        let mut more = most.clone();
+        grow(&mut more);
+        assert_eq!(more.call().reply, Err((1, 0)));
+    }
+}
+
+#[test]
+fn the_sizes() {
+    let most = Sizes {
+        n: 4096,
+        m: 8192,
+        t: 4096,
+        k: 8192,
+    };
+    assert_eq!(check_sizes(4096, 8192, 4096, 8192), Ok(most));
+    assert_eq!(check_sizes(1, 2, 3, 4), Ok(Sizes { n: 1, m: 2, t: 3, k: 4 }));
+    let refused = Err(Refusal {
+        reason: Reason::Sizes,
+        place: 0,
+    });
+    assert_eq!(check_sizes(4097, 0, 0, 0), refused);
+    assert_eq!(check_sizes(0, 8193, 0, 0), refused);
+    assert_eq!(check_sizes(0, 0, 4097, 0), refused);
+    assert_eq!(check_sizes(0, 0, 0, 8193), refused);
+    assert_eq!(check_sizes(usize::MAX, usize::MAX, usize::MAX, usize::MAX), refused);
+}
+
+#[test]
+fn an_empty_list() {
+    assert_eq!(list(3, 8, &[(0, 1)], &[]).compare().reply, Ok((0, 0, 0)));
+    assert_eq!(list(0, 8, &[], &[]).compare().reply, Ok((0, 0, 0)));
+}
+
+#[test]
+fn closed_and_open_segments() {
+    assert_eq!(refusal(&list(2, 8, &[(0, 1)], &[(CLOSES, 0)])), (7, 0));
+    assert_eq!(refusal(&list(2, 8, &[(0, 1)], &[(OPENS, 0), (OPENS, 0)])), (6, 1));
+    assert_eq!(
+        refusal(&list(2, 8, &[(0, 1)], &[(OPENS, 0), (CLOSES, 0), (CLOSES, 0)])),
+        (7, 2)
+    );
+    assert_eq!(
+        bytes(2, &[(0, 1)], &[(OPENS, 0), (CLOSES, 0), (OPENS, 0), (0, 1)]),
+        [3, 3, 3, 1]
+    );
+}
+
+#[test]
+fn the_order_of_refusals() {
+    let mut l = list(2, 3, &[(0, 2)], &[(2, 0)]);
+    l.work.pop();
+    l.n = 4097;
+    assert_eq!(refusal(&l), (1, 0));
+    l.n = 2;
+    assert_eq!(refusal(&l), (2, 0));
+    l.work.push(0);
+    assert_eq!(refusal(&l), (3, 0));
+    l.p = 4;
+    assert_eq!(refusal(&l), (4, 0));
+    l.b[0] = 1;
+    assert_eq!(refusal(&l), (5, 0));
+    l.x[0] = 1;
+    assert!(l.compare().reply.is_ok());
+
+    let mut g = graph(2, &[(0, 2)], &[1, 2]);
+    assert_eq!(g.compare().reply, Err((4, 0)));
+    g.to[0] = 1;
+    assert_eq!(g.compare().reply, Err((8, 1)));
+}
+
+#[test]
+fn the_reader() {
+    let table = [3, 1, 2];
+    for t in 0..6 {
+        let part = answers(&table, t);
+        assert_eq!(part, if t <= 3 { &table[..t] } else { &table[..0] });
+        assert_eq!(part.as_ptr(), table.as_ptr());
+    }
+    assert!(answers(&[], 0).is_empty());
+    assert!(answers(&table, usize::MAX).is_empty());
+}
+
+#[test]
+fn where_replays_go_astray() {
+    // Unjoined junctions with open segments elsewhere.
+    assert_eq!(
+        bytes(4, &[(0, 1), (2, 3)], &[(OPENS, 0), (OPENS, 1), (0, 2)]),
+        [3, 3, 0]
+    );
+    // A segment that is fixed before a window and closes in it.
+    assert_eq!(
+        bytes(2, &[(0, 1)], &[(OPENS, 0), (0, 1), (CLOSES, 0), (0, 1)]),
+        [3, 1, 3, 0]
+    );
+    // An active node of degree 2 stays.
+    assert_eq!(graph(3, &[(0, 1), (1, 2)], &[0, 1, 2]).compare().reply, Ok((3, 2)));
+}
+
+#[test]
+fn a_refusal_in_words() {
+    let refused = Refusal {
+        reason: Reason::OpenTwice,
+        place: 4,
+    };
+    assert_eq!(refused.to_string(), "refused 6 at 4: the event opens an open segment");
+}

@@ -1,0 +1,566 @@
+//! A slow version of the calls, written from document 01 alone, and what the tests share: random numbers,
+//! and calls held to the slow version in their reply and in every lent entry afterwards.
+#![allow(dead_code)]
+
+use lumzhasel::{contract, replay, CLOSES, OPENS};
+
+pub type Edge = (usize, usize);
+
+// ---- the slow version
+
+/// The least node that each node is joined to.
+pub fn components(n: usize, edges: &[Edge]) -> Vec<usize> {
+    let mut least: Vec<usize> = (0..n).collect();
+    loop {
+        let mut changed = false;
+        for &(u, v) in edges {
+            let low = least[u].min(least[v]);
+            changed |= least[u] != low || least[v] != low;
+            least[u] = low;
+            least[v] = low;
+        }
+        if !changed {
+            return least;
+        }
+    }
+}
+
+/// The components of a graph, and those after the removal of each edge in turn.
+pub struct Removals {
+    whole: Vec<usize>,
+    without: Vec<Vec<usize>>,
+}
+
+impl Removals {
+    pub fn of(n: usize, edges: &[Edge]) -> Removals {
+        let without = (0..edges.len()).map(|e| {
+            let left: Vec<Edge> = edges
+                .iter()
+                .enumerate()
+                .filter(|(i, _)| *i != e)
+                .map(|(_, e)| *e)
+                .collect();
+            components(n, &left)
+        });
+        Removals {
+            whole: components(n, edges),
+            without: without.collect(),
+        }
+    }
+
+    pub fn answer(&self, u: usize, v: usize) -> u8 {
+        if self.whole[u] != self.whole[v] {
+            return 0;
+        }
+        if self.without.iter().all(|c| c[u] == c[v]) {
+            return 2;
+        }
+        1
+    }
+}
+
+/// A contraction's result: the number of each active entry, and the edges.
+pub struct Small {
+    pub nodes: usize,
+    pub map: Vec<usize>,
+    pub edges: Vec<Edge>,
+}
+
+pub fn slow_contract(n: usize, edges: &[Edge], active: &[usize]) -> Small {
+    let removals = Removals::of(n, edges);
+    // A class is named by its smallest node.
+    let class: Vec<usize> = (0..n)
+        .map(|v| (0..=v).find(|&u| removals.answer(u, v) == 2).unwrap())
+        .collect();
+    // Taking a class away leaves parts; those that hold an active node are counted.
+    let active_parts = |c: usize| {
+        let left: Vec<Edge> = edges
+            .iter()
+            .copied()
+            .filter(|&(u, v)| class[u] != c && class[v] != c)
+            .collect();
+        let part = components(n, &left);
+        let mut parts: Vec<usize> = active
+            .iter()
+            .copied()
+            .filter(|&v| class[v] != c && removals.answer(v, c) != 0)
+            .map(|v| part[v])
+            .collect();
+        parts.sort();
+        parts.dedup();
+        parts.len()
+    };
+    let holds_active = |c: usize| active.iter().any(|&v| class[v] == c);
+    let kept = |c: usize| class[c] == c && (holds_active(c) || active_parts(c) >= 3);
+    let mut order: Vec<usize> = Vec::new();
+    for &v in active {
+        if !order.contains(&class[v]) {
+            order.push(class[v]);
+        }
+    }
+    for c in (0..n).filter(|&c| kept(c)) {
+        if !order.contains(&c) {
+            order.push(c);
+        }
+    }
+    // Two kept classes are joined where a route between them meets no third.
+    let mut joined: Vec<Edge> = Vec::new();
+    for i in 0..order.len() {
+        for j in i + 1..order.len() {
+            let third = |v: usize| order.contains(&class[v]) && class[v] != order[i] && class[v] != order[j];
+            let left: Vec<Edge> = edges.iter().copied().filter(|&(u, v)| !third(u) && !third(v)).collect();
+            let part = components(n, &left);
+            let meets =
+                (0..n).any(|u| class[u] == order[i] && (0..n).any(|v| class[v] == order[j] && part[u] == part[v]));
+            if meets {
+                joined.push((i, j));
+            }
+        }
+    }
+    Small {
+        nodes: order.len(),
+        map: active
+            .iter()
+            .map(|&v| order.iter().position(|&c| c == class[v]).unwrap())
+            .collect(),
+        edges: joined,
+    }
+}
+
+/// What a replay is lent.
+#[derive(Clone, Debug, PartialEq)]
+pub struct List {
+    pub n: usize,
+    pub m: usize,
+    pub t: usize,
+    pub p: usize,
+    pub a: Vec<u16>,
+    pub b: Vec<u16>,
+    pub x: Vec<u16>,
+    pub y: Vec<u16>,
+    pub answers: Vec<u8>,
+    pub work: Vec<u32>,
+}
+
+/// The reply and the written tables: three numbers, or a refusal's number and place.
+#[derive(Debug, PartialEq)]
+pub struct Replayed {
+    pub reply: Result<(usize, usize, usize), (usize, usize)>,
+    pub answers: Vec<u8>,
+    pub work: Vec<u32>,
+}
+
+fn windows(first: usize, n: usize, p: usize, all: &mut Vec<(usize, usize)>) {
+    all.push((first, n));
+    if n >= 2 {
+        let cut = (n * p / 16).max(1);
+        windows(first, cut, p, all);
+        windows(first + cut, n - cut, p, all);
+    }
+}
+
+impl List {
+    fn required(&self) -> usize {
+        256 * self.t + 32 * self.n + 2048
+    }
+
+    /// The set of open segments before event i.
+    fn open_before(&self, i: usize) -> Vec<bool> {
+        let mut open = vec![false; self.m];
+        for e in 0..i {
+            match self.x[e] {
+                OPENS => open[self.y[e] as usize] = true,
+                CLOSES => open[self.y[e] as usize] = false,
+                _ => {}
+            }
+        }
+        open
+    }
+
+    fn fault(&self) -> Option<(usize, usize)> {
+        if self.n > 4096 || self.m > 8192 || self.t > 4096 {
+            return Some((1, 0));
+        }
+        let short_network = self.a.len() < self.m || self.b.len() < self.m;
+        let short_list = self.x.len() < self.t || self.y.len() < self.t || self.answers.len() < self.t;
+        if short_network || short_list || self.work.len() < self.required() {
+            return Some((2, 0));
+        }
+        if self.p < 4 || self.p > 12 {
+            return Some((3, 0));
+        }
+        for s in 0..self.m {
+            if self.a[s] as usize >= self.n || self.b[s] as usize >= self.n {
+                return Some((4, s));
+            }
+        }
+        let mut open = vec![false; self.m];
+        for i in 0..self.t {
+            let (x, y) = (self.x[i], self.y[i] as usize);
+            if (x as usize) < self.n {
+                if y >= self.n {
+                    return Some((5, i));
+                }
+                continue;
+            }
+            if (x != OPENS && x != CLOSES) || y >= self.m {
+                return Some((5, i));
+            }
+            if x == OPENS && open[y] {
+                return Some((6, i));
+            }
+            if x == CLOSES && !open[y] {
+                return Some((7, i));
+            }
+            open[y] = x == OPENS;
+        }
+        None
+    }
+
+    fn segments(&self, counts: impl Fn(usize) -> bool) -> Vec<Edge> {
+        (0..self.m)
+            .filter(|&s| counts(s))
+            .map(|s| (self.a[s] as usize, self.b[s] as usize))
+            .collect()
+    }
+
+    fn kept(&self) -> usize {
+        let mut all = Vec::new();
+        if self.t > 0 {
+            windows(0, self.t, self.p, &mut all);
+        }
+        all.iter()
+            .map(|&(first, n)| {
+                let open = self.open_before(first);
+                let mut named = vec![false; self.m];
+                let mut active = Vec::new();
+                for i in first..first + n {
+                    let (x, y) = (self.x[i], self.y[i] as usize);
+                    if x == OPENS || x == CLOSES {
+                        named[y] = true;
+                        active.extend([self.a[y] as usize, self.b[y] as usize]);
+                    } else {
+                        active.extend([x as usize, y]);
+                    }
+                }
+                slow_contract(self.n, &self.segments(|s| open[s] && !named[s]), &active).nodes
+            })
+            .sum()
+    }
+
+    pub fn slow(&self) -> Replayed {
+        let (mut answers, mut work) = (self.answers.clone(), self.work.clone());
+        if let Some(refusal) = self.fault() {
+            return Replayed {
+                reply: Err(refusal),
+                answers,
+                work,
+            };
+        }
+        let mut queries = 0;
+        for (i, byte) in answers.iter_mut().enumerate().take(self.t) {
+            *byte = 3;
+            if self.x[i] != OPENS && self.x[i] != CLOSES {
+                let open = self.open_before(i);
+                let removals = Removals::of(self.n, &self.segments(|s| open[s]));
+                *byte = removals.answer(self.x[i] as usize, self.y[i] as usize);
+                queries += 1;
+            }
+        }
+        let open = self.open_before(self.t).iter().filter(|o| **o).count();
+        work[..self.required()].fill(0);
+        Replayed {
+            reply: Ok((queries, open, self.kept())),
+            answers,
+            work,
+        }
+    }
+
+    /// The call's reply and tables.
+    pub fn call(&self) -> Replayed {
+        let lent = self.clone();
+        let (mut answers, mut work) = (self.answers.clone(), self.work.clone());
+        let r = replay(
+            lent.n,
+            lent.m,
+            lent.t,
+            lent.p,
+            &lent.a,
+            &lent.b,
+            &lent.x,
+            &lent.y,
+            &mut answers,
+            &mut work,
+        );
+        assert_eq!(&lent, self, "a table that is only read was written");
+        let reply = match r {
+            Ok(t) => Ok((t.queries, t.open, t.kept)),
+            Err(e) => Err((e.reason.code(), e.place)),
+        };
+        Replayed { reply, answers, work }
+    }
+
+    /// Calls the replay, holds it to the slow version, and hands its outcome back.
+    pub fn compare(&self) -> Replayed {
+        let (got, want) = (self.call(), self.slow());
+        assert!(
+            got == want,
+            "{self:?}\ngot {:?} {:?}\nwant {:?} {:?}",
+            got.reply,
+            got.answers,
+            want.reply,
+            want.answers
+        );
+        got
+    }
+}
+
+/// What a contraction is lent.
+#[derive(Clone, Debug, PartialEq)]
+pub struct Graph {
+    pub n: usize,
+    pub m: usize,
+    pub k: usize,
+    pub from: Vec<u16>,
+    pub to: Vec<u16>,
+    pub active: Vec<u16>,
+    pub map: Vec<u16>,
+    pub out_from: Vec<u16>,
+    pub out_to: Vec<u16>,
+    pub work: Vec<u32>,
+}
+
+/// The reply and the written tables: nodes and edges, or a refusal's number and place.
+#[derive(Debug, PartialEq)]
+pub struct Contracted {
+    pub reply: Result<(usize, usize), (usize, usize)>,
+    pub map: Vec<u16>,
+    pub out_from: Vec<u16>,
+    pub out_to: Vec<u16>,
+    pub work: Vec<u32>,
+}
+
+impl Graph {
+    fn required(&self) -> usize {
+        16 * self.n + 8 * self.m + 512
+    }
+
+    fn fault(&self) -> Option<(usize, usize)> {
+        if self.n > 4096 || self.m > 8192 || self.k > 8192 {
+            return Some((1, 0));
+        }
+        let short_in = self.from.len() < self.m || self.to.len() < self.m || self.active.len() < self.k;
+        let short_out = self.map.len() < self.k || self.out_from.len() < 2 * self.k || self.out_to.len() < 2 * self.k;
+        if short_in || short_out || self.work.len() < self.required() {
+            return Some((2, 0));
+        }
+        for e in 0..self.m {
+            if self.from[e] as usize >= self.n || self.to[e] as usize >= self.n {
+                return Some((4, e));
+            }
+        }
+        (0..self.k).find(|&i| self.active[i] as usize >= self.n).map(|i| (8, i))
+    }
+
+    pub fn slow(&self) -> Contracted {
+        let mut map = self.map.clone();
+        let (mut out_from, mut out_to) = (self.out_from.clone(), self.out_to.clone());
+        let mut work = self.work.clone();
+        if let Some(refusal) = self.fault() {
+            return Contracted {
+                reply: Err(refusal),
+                map,
+                out_from,
+                out_to,
+                work,
+            };
+        }
+        let edges: Vec<Edge> = (0..self.m)
+            .map(|e| (self.from[e] as usize, self.to[e] as usize))
+            .collect();
+        let active: Vec<usize> = self.active[..self.k].iter().map(|v| *v as usize).collect();
+        let small = slow_contract(self.n, &edges, &active);
+        for (i, v) in small.map.iter().enumerate() {
+            map[i] = *v as u16;
+        }
+        for (i, (u, v)) in small.edges.iter().enumerate() {
+            out_from[i] = *u as u16;
+            out_to[i] = *v as u16;
+        }
+        work[..self.required()].fill(0);
+        Contracted {
+            reply: Ok((small.nodes, small.edges.len())),
+            map,
+            out_from,
+            out_to,
+            work,
+        }
+    }
+
+    /// The call's reply and tables.
+    pub fn call(&self) -> Contracted {
+        let lent = self.clone();
+        let mut map = self.map.clone();
+        let (mut out_from, mut out_to) = (self.out_from.clone(), self.out_to.clone());
+        let mut work = self.work.clone();
+        let r = contract(
+            lent.n,
+            lent.m,
+            lent.k,
+            &lent.from,
+            &lent.to,
+            &lent.active,
+            &mut map,
+            &mut out_from,
+            &mut out_to,
+            &mut work,
+        );
+        assert_eq!(&lent, self, "a table that is only read was written");
+        let reply = match r {
+            Ok(c) => Ok((c.nodes, c.edges)),
+            Err(e) => Err((e.reason.code(), e.place)),
+        };
+        Contracted {
+            reply,
+            map,
+            out_from,
+            out_to,
+            work,
+        }
+    }
+
+    /// Calls the contraction, holds it to the slow version, and hands its outcome back.
+    pub fn compare(&self) -> Contracted {
+        let (got, want) = (self.call(), self.slow());
+        assert!(
+            got == want,
+            "{self:?}\ngot {:?} {:?}\nwant {:?} {:?}",
+            got.reply,
+            got.map,
+            want.reply,
+            want.map
+        );
+        got
+    }
+}
+
+// ---- inputs
+
+/// Numbers that look random and are the same in each run.
+pub struct Numbers(u64);
+
+impl Numbers {
+    pub fn from(seed: u64) -> Numbers {
+        Numbers(seed.wrapping_mul(0x9E37_79B9_7F4A_7C15) | 1)
+    }
+
+    fn next(&mut self) -> u64 {
+        self.0 ^= self.0 << 13;
+        self.0 ^= self.0 >> 7;
+        self.0 ^= self.0 << 17;
+        self.0 >> 16
+    }
+
+    /// A number below k.
+    pub fn below(&mut self, k: usize) -> usize {
+        self.next() as usize % k
+    }
+
+    /// k entries of junk.
+    pub fn junk(&mut self, k: usize) -> Vec<u16> {
+        (0..k).map(|_| self.next() as u16).collect()
+    }
+}
+
+/// A list with tables as long as they must be and zeros in those that are written.
+pub fn list(n: usize, p: usize, segments: &[(u16, u16)], events: &[(u16, u16)]) -> List {
+    let (m, t) = (segments.len(), events.len());
+    List {
+        n,
+        m,
+        t,
+        p,
+        a: segments.iter().map(|s| s.0).collect(),
+        b: segments.iter().map(|s| s.1).collect(),
+        x: events.iter().map(|e| e.0).collect(),
+        y: events.iter().map(|e| e.1).collect(),
+        answers: vec![0; t],
+        work: vec![0; 256 * t + 32 * n + 2048],
+    }
+}
+
+/// A graph with tables as long as they must be and zeros in those that are written.
+pub fn graph(n: usize, edges: &[(u16, u16)], active: &[u16]) -> Graph {
+    let (m, k) = (edges.len(), active.len());
+    Graph {
+        n,
+        m,
+        k,
+        from: edges.iter().map(|e| e.0).collect(),
+        to: edges.iter().map(|e| e.1).collect(),
+        active: active.to_vec(),
+        map: vec![0; k],
+        out_from: vec![0; 2 * k],
+        out_to: vec![0; 2 * k],
+        work: vec![0; 16 * n + 8 * m + 512],
+    }
+}
+
+/// A list without a fault, of at most these sizes.
+pub fn random_list(r: &mut Numbers, junctions: usize, segments: usize, events: usize) -> List {
+    let n = 1 + r.below(junctions);
+    let m = r.below(segments + 1);
+    let t = r.below(events + 1);
+    let ends: Vec<(u16, u16)> = (0..m).map(|_| (r.below(n) as u16, r.below(n) as u16)).collect();
+    let mut open = vec![false; m];
+    let mut told = Vec::new();
+    for _ in 0..t {
+        if m == 0 || r.below(3) == 0 {
+            told.push((r.below(n) as u16, r.below(n) as u16));
+            continue;
+        }
+        let s = r.below(m);
+        told.push((if open[s] { CLOSES } else { OPENS }, s as u16));
+        open[s] = !open[s];
+    }
+    list(n, 4 + r.below(9), &ends, &told)
+}
+
+/// A graph without a fault, of at most these sizes.
+pub fn random_graph(r: &mut Numbers, nodes: usize, edges: usize, entries: usize) -> Graph {
+    let n = 1 + r.below(nodes);
+    let m = r.below(edges + 1);
+    let k = r.below(entries + 1);
+    let ends: Vec<(u16, u16)> = (0..m).map(|_| (r.below(n) as u16, r.below(n) as u16)).collect();
+    let active: Vec<u16> = (0..k).map(|_| r.below(n) as u16).collect();
+    graph(n, &ends, &active)
+}
+
+impl List {
+    /// Lengthens each table by some junk, and fills the written ones with it.
+    pub fn fill_with_junk(&mut self, r: &mut Numbers) {
+        for table in [&mut self.a, &mut self.b, &mut self.x, &mut self.y] {
+            let more = r.below(4);
+            table.extend(r.junk(more));
+        }
+        let (t, w) = (self.answers.len() + r.below(4), self.work.len() + r.below(4));
+        self.answers = r.junk(t).iter().map(|v| *v as u8).collect();
+        self.work = r.junk(w).iter().map(|v| 65537 * *v as u32).collect();
+    }
+}
+
+impl Graph {
+    /// Lengthens each table by some junk, and fills the written ones with it.
+    pub fn fill_with_junk(&mut self, r: &mut Numbers) {
+        for table in [&mut self.from, &mut self.to, &mut self.active] {
+            let more = r.below(4);
+            table.extend(r.junk(more));
+        }
+        for table in [&mut self.map, &mut self.out_from, &mut self.out_to] {
+            let long = table.len() + r.below(4);
+            *table = r.junk(long);
+        }
+        let w = self.work.len() + r.below(4);
+        self.work = r.junk(w).iter().map(|v| 65537 * *v as u32).collect();
+    }
+}

@@ -1,0 +1,169 @@
+//! Random lists and graphs against the slow version: replies and every lent entry afterwards.
+
+mod common;
+
+use common::{random_graph, random_list, Numbers};
+
+#[test]
+fn small_lists() {
+    for seed in 0..4000 {
+        let mut r = Numbers::from(seed);
+        let mut l = random_list(&mut r, 6, 9, 14);
+        l.fill_with_junk(&mut r);
+        assert!(l.compare().reply.is_ok());
+    }
+}
+
+#[test]
+fn middle_lists() {
+    for seed in 0..60 {
+        let mut r = Numbers::from(10_000 + seed);
+        let l = random_list(&mut r, 24, 32, 90);
+        assert!(l.compare().reply.is_ok());
+    }
+}
+
+#[test]
+fn shares_change_kept_alone() {
+    for seed in 0..200 {
+        let mut r = Numbers::from(20_000 + seed);
+        let mut l = random_list(&mut r, 12, 16, 40);
+        let first = l.call();
+        for p in 4..=12 {
+            l.p = p;
+            let other = l.call();
+            assert_eq!(other.answers, first.answers);
+            assert_eq!(other.work, first.work);
+            assert_eq!(other.reply.map(|r| (r.0, r.1)), first.reply.map(|r| (r.0, r.1)));
+        }
+    }
+}
+
+#[test]
+fn small_graphs() {
+    for seed in 0..6000 {
+        let mut r = Numbers::from(30_000 + seed);
+        let mut g = random_graph(&mut r, 9, 10, 8);
+        g.fill_with_junk(&mut r);
+        assert!(g.compare().reply.is_ok());
+    }
+}
+
+#[test]
+fn middle_graphs() {
+    for seed in 0..60 {
+        let mut r = Numbers::from(40_000 + seed);
+        let g = random_graph(&mut r, 40, 42, 20);
+        assert!(g.compare().reply.is_ok());
+    }
+}
+
+#[test]
+fn damaged_lists() {
+    let mut seen = [0; 8];
+    for seed in 0..6000 {
+        let mut r = Numbers::from(50_000 + seed);
+        let mut l = random_list(&mut r, 5, 6, 10);
+        l.fill_with_junk(&mut r);
+        for _ in 0..1 + r.below(2) {
+            damage(&mut l, &mut r);
+        }
+        let got = l.compare();
+        seen[got.reply.map_or_else(|e| e.0, |_| 0)] += 1;
+    }
+    assert!(seen.iter().all(|k| *k > 0), "a reply was never seen: {seen:?}");
+}
+
+// Changes a size, the share, a length or an entry.
+fn damage(l: &mut common::List, r: &mut Numbers) {
+    let value = match r.below(5) {
+        0 => l.n as u16,
+        1 => l.m as u16,
+        2 => 65534,
+        3 => 65535,
+        _ => r.below(8) as u16,
+    };
+    let place = r.below(12);
+    match r.below(10) {
+        0 => l.p = r.below(16),
+        1 => l.n = r.below(8),
+        2 => l.m = r.below(8),
+        3 => l.t = r.below(12),
+        4 => l.n = 4090 + r.below(14),
+        5 => l.a.truncate(l.a.len().saturating_sub(1 + r.below(3))),
+        6 => l.answers.truncate(l.answers.len().saturating_sub(1 + r.below(3))),
+        k => {
+            let table = match k {
+                7 => &mut l.a,
+                8 => &mut l.x,
+                _ => &mut l.y,
+            };
+            if place < table.len() {
+                table[place] = value;
+            }
+        }
+    }
+}
+
+#[test]
+fn damaged_graphs() {
+    let mut seen = [0; 9];
+    for seed in 0..6000 {
+        let mut r = Numbers::from(60_000 + seed);
+        let mut g = random_graph(&mut r, 6, 8, 8);
+        g.fill_with_junk(&mut r);
+        let place = r.below(8);
+        match r.below(8) {
+            0 => g.n = r.below(8),
+            1 => g.m = r.below(10),
+            2 => g.k = r.below(10),
+            3 => g.m = 8190 + r.below(5),
+            4 => g.work.truncate(16 * g.n + 8 * g.m + 511),
+            k => {
+                let value = (g.n + r.below(2)) as u16;
+                let table = match k {
+                    5 => &mut g.from,
+                    6 => &mut g.to,
+                    _ => &mut g.active,
+                };
+                if place < table.len() {
+                    table[place] = value;
+                }
+            }
+        }
+        seen[g.compare().reply.map_or_else(|e| e.0, |_| 0)] += 1;
+    }
+    for code in [0, 1, 2, 4, 8] {
+        assert!(seen[code] > 0, "a reply was never seen: {seen:?}");
+    }
+}
+
+#[test]
+fn large_lists() {
+    for seed in 0..4 {
+        let mut r = Numbers::from(120_000 + seed);
+        let l = random_list(&mut r, 120, 150, 400);
+        assert!(l.compare().reply.is_ok());
+    }
+}
+
+#[test]
+fn the_stack_that_is_named_is_enough() {
+    for p in 4..=12 {
+        let run = move || {
+            let mut r = Numbers::from(130_000);
+            let mut l = random_list(&mut r, 4096, 8192, 4096);
+            while l.t < 4096 {
+                l.t += 1;
+                l.x.push(0);
+                l.y.push(0);
+                l.answers.push(0);
+                l.work.extend([0; 256]);
+            }
+            l.p = p;
+            l.call().reply.is_ok()
+        };
+        let thread = std::thread::Builder::new().stack_size(256 * 1024).spawn(run).unwrap();
+        assert!(thread.join().unwrap());
+    }
+}

@@ -1,0 +1,129 @@
+//! Each table one entry short, tables filled with junk, and refusals that leave every table as it was.
+
+mod common;
+
+use common::{random_graph, random_list, Graph, List, Numbers};
+
+#[test]
+fn a_replay_with_one_table_short() {
+    for seed in 0..200 {
+        let mut r = Numbers::from(70_000 + seed);
+        let mut l = random_list(&mut r, 6, 8, 12);
+        l.answers = r.junk(l.answers.len()).iter().map(|v| *v as u8).collect();
+        l.work = r.junk(l.work.len()).iter().map(|v| *v as u32).collect();
+        assert!(l.compare().reply.is_ok());
+        let shorten: [fn(&mut List) -> bool; 6] = [
+            |l| l.a.pop().is_some(),
+            |l| l.b.pop().is_some(),
+            |l| l.x.pop().is_some(),
+            |l| l.y.pop().is_some(),
+            |l| l.answers.pop().is_some(),
+            |l| l.work.pop().is_some(),
+        ];
+        for pop in shorten {
+            let mut short = l.clone();
+            if pop(&mut short) {
+                let got = short.compare();
+                assert_eq!(got.reply, Err((2, 0)));
+                assert_eq!((got.answers, got.work), (short.answers, short.work));
+            }
+        }
+    }
+}
+
+#[test]
+fn a_contraction_with_one_table_short() {
+    for seed in 0..200 {
+        let mut r = Numbers::from(80_000 + seed);
+        let mut g = random_graph(&mut r, 6, 8, 6);
+        for table in [&mut g.map, &mut g.out_from, &mut g.out_to] {
+            *table = r.junk(table.len());
+        }
+        g.work = r.junk(g.work.len()).iter().map(|v| *v as u32).collect();
+        assert!(g.compare().reply.is_ok());
+        let shorten: [fn(&mut Graph) -> bool; 7] = [
+            |g| g.from.pop().is_some(),
+            |g| g.to.pop().is_some(),
+            |g| g.active.pop().is_some(),
+            |g| g.map.pop().is_some(),
+            |g| g.out_from.pop().is_some(),
+            |g| g.out_to.pop().is_some(),
+            |g| g.work.pop().is_some(),
+        ];
+        for pop in shorten {
+            let mut short = g.clone();
+            if pop(&mut short) {
+                let got = short.compare();
+                assert_eq!(got.reply, Err((2, 0)));
+                assert_eq!((got.map, got.work), (short.map, short.work));
+                assert_eq!((got.out_from, got.out_to), (short.out_from, short.out_to));
+            }
+        }
+    }
+}
+
+#[test]
+fn junk_changes_no_answer() {
+    for seed in 0..500 {
+        let mut r = Numbers::from(90_000 + seed);
+        let clean = random_list(&mut r, 8, 10, 16);
+        let mut filled = clean.clone();
+        filled.fill_with_junk(&mut r);
+        let (plain, got) = (clean.compare(), filled.compare());
+        assert_eq!(got.reply, plain.reply);
+        assert_eq!(got.answers[..clean.t], plain.answers[..]);
+        assert_eq!(got.answers[clean.t..], filled.answers[clean.t..]);
+        let required = clean.work.len();
+        assert!(got.work[..required].iter().all(|w| *w == 0));
+        assert_eq!(got.work[required..], filled.work[required..]);
+    }
+}
+
+#[test]
+fn junk_changes_no_contraction() {
+    for seed in 0..500 {
+        let mut r = Numbers::from(100_000 + seed);
+        let clean = random_graph(&mut r, 8, 9, 8);
+        let mut filled = clean.clone();
+        filled.fill_with_junk(&mut r);
+        let (plain, got) = (clean.compare(), filled.compare());
+        assert_eq!(got.reply, plain.reply);
+        let (k, edges) = (clean.k, got.reply.unwrap().1);
+        assert_eq!(got.map[..k], plain.map[..]);
+        assert_eq!(got.map[k..], filled.map[k..]);
+        assert_eq!(got.out_from[..edges], plain.out_from[..edges]);
+        assert_eq!(got.out_from[edges..], filled.out_from[edges..]);
+        assert_eq!(got.out_to[..edges], plain.out_to[..edges]);
+        assert_eq!(got.out_to[edges..], filled.out_to[edges..]);
+    }
+}
+
+#[test]
+fn refusals_change_nothing() {
+    for seed in 0..500 {
+        let mut r = Numbers::from(110_000 + seed);
+        let mut l = random_list(&mut r, 6, 8, 12);
+        l.fill_with_junk(&mut r);
+        l.p = 3;
+        let got = l.compare();
+        assert_eq!(got.reply, Err((3, 0)));
+        assert_eq!((got.answers, got.work), (l.answers.clone(), l.work.clone()));
+        l.p = 8;
+        if l.t > 0 {
+            // The last event names nothing, so that all others are looked at first.
+            l.x[l.t - 1] = 5000;
+            let got = l.compare();
+            assert_eq!(got.reply, Err((5, l.t - 1)));
+            assert_eq!((got.answers, got.work), (l.answers, l.work));
+        }
+        let mut g = random_graph(&mut r, 6, 8, 6);
+        g.fill_with_junk(&mut r);
+        if g.k > 0 {
+            g.active[g.k - 1] = g.n as u16;
+            let got = g.compare();
+            assert_eq!(got.reply, Err((8, g.k - 1)));
+            assert_eq!((got.map, got.work), (g.map, g.work));
+            assert_eq!((got.out_from, got.out_to), (g.out_from, g.out_to));
+        }
+    }
+}
