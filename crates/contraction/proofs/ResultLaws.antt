@@ -15,7 +15,7 @@ use Rattle.graph.proofs.ActiveLists.{canonical-repeats, small-repeats}
 use Rattle.graph.proofs.TableLaws.{over-equal, pairs-table, table-map, take-table}
 use Rattle.graph.proofs.Lists.{table-length, table-mem}
 use Rattle.contraction.specs.Call.{Lent, done, edges, entries, required}
-use Rattle.contraction.specs.Loading.{Loadable, Prepared}
+use Rattle.transfer.specs.Transfer.{Loadable, Prepared}
 use Rattle.contraction.specs.Reply.{outcome}
 use Rattle.contraction.specs.declared.ContractReply.the-variants.{Done}
 use Rattle.core.specs.Core.{Reduced, activeIn, edgesIn, edgesOut}

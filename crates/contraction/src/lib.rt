@@ -1,7 +1,5 @@
 // The contraction as a public call: the checks in document 01's order, the graph loaded into words, its contraction, and the reply's tables filled.
 mod checks;
-mod filling;
-mod input;
 
 ghost use mathlib.Core.Path.{_≡_};
 ghost use Rattle.contraction.specs.Call.{fault, done, contraction};
@@ -29,13 +27,13 @@ fn contracted(
     requires { ⌜ fault (lent n m k (now from) (now to) (now active) (now map) (now «out_from») (now «out_to») (now work)) .0 ≡ 0 ⌝ }
     ensures { λ r. ⌜ outcome r (now (map .exit)) (now («out_from» .exit)) (now («out_to» .exit)) (now (work .exit)) ≡ done (lent n m k (now (from .entry)) (now (to .entry)) (now (active .entry)) (now (map .entry)) (now («out_from» .entry)) (now («out_to» .entry)) (now (work .entry))) ⌝ }
 {
-    let d = input::load(work, n, m, k, from, to, active);
+    let d = transfer::load(work, n, m, k, from, to, active);
     let small = core::reduce(work, n, m, d);
     let nodes = small.nodes;
     let edges = small.edges;
-    filling::fill_map(work, n, k, active, map);
-    filling::fill_ends(work, edges, 4, out_from);
-    filling::fill_ends(work, edges, 5, out_to);
+    transfer::fill_map(work, n, k, active, map);
+    transfer::fill_ends(work, edges, 4, out_from);
+    transfer::fill_ends(work, edges, 5, out_to);
     words::clear(work, checks::required(n, m));
     ContractReply::Done(nodes, edges)
 }

@@ -2,10 +2,10 @@ use Prim.Native.Nat.{_-_, _≤_}
 use mathlib.Core.Path.{_≡_, refl}
 use native.Mathlib.Omega.{arith}
 use borrow.Author.Needs.{needs}
-use Rattle.contraction.proofs.LoadLaws.{edges-more, edges-none}
-use Rattle.contraction.proofs.input.load_edges.Statement.{statement}
-use Rattle.contraction.specs.Loading.{Edges}
-use Rattle.contraction.proofs.input.load_edges.Tie as tie
+use Rattle.transfer.proofs.TransferLaws.{edges-more, edges-none}
+use Rattle.transfer.proofs.load_edges.Statement.{statement}
+use Rattle.transfer.specs.Transfer.{Edges}
+use Rattle.transfer.proofs.load_edges.Tie as tie
 
 abbrev Inv-loop : tie.InvT-loop
 Inv-loop work₀ n m from to s₀ work s = (s ≤ m) × Edges n m from to work₀ work s

@@ -5,10 +5,10 @@ use lib.Seq.{take-suc}
 use native.Mathlib.Numerals.{add-one}
 use native.Mathlib.Omega.{arith}
 use borrow.Author.Needs.{needs}
-use Rattle.contraction.proofs.LoadLaws.{entries-more, entries-none}
-use Rattle.contraction.proofs.input.enter_active.Statement.{statement}
-use Rattle.contraction.specs.Loading.{Entries}
-use Rattle.contraction.proofs.input.enter_active.Tie as tie
+use Rattle.transfer.proofs.TransferLaws.{entries-more, entries-none}
+use Rattle.transfer.proofs.enter_active.Statement.{statement}
+use Rattle.transfer.specs.Transfer.{Entries}
+use Rattle.transfer.proofs.enter_active.Tie as tie
 
 abbrev Inv-loop : tie.InvT-loop
 Inv-loop work₀ n k active d₀ i₀ work d i = (i ≤ k) × Entries n (take i active) work₀ work d

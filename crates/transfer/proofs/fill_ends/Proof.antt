@@ -3,10 +3,10 @@ use mathlib.Core.Path.{_≡_, refl}
 use native.Mathlib.Omega.{arith}
 use borrow.Author.Needs.{needs}
 use Rattle.graph.proofs.TableLaws.{written-all, written-length, written-more}
-use Rattle.contraction.proofs.filling.fill_ends.Statement.{statement}
+use Rattle.transfer.proofs.fill_ends.Statement.{statement}
 use Rattle.graph.specs.Lists.{over, table}
 use Rattle.words.specs.Fields.{node}
-use Rattle.contraction.proofs.filling.fill_ends.Tie as tie
+use Rattle.transfer.proofs.fill_ends.Tie as tie
 
 abbrev Inv-loop : tie.InvT-loop
 Inv-loop work e j out₀ i₀ out i = (i ≤ e) × (out ≡ over (table (node j work) 0 i) out₀)

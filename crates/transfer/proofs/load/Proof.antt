@@ -1,8 +1,8 @@
 use native.Mathlib.Omega.{arith}
 use borrow.Author.Needs.{needs}
-use Rattle.contraction.proofs.LoadLaws.{cleared-length, cleared-marks, prepared}
-use Rattle.contraction.proofs.input.load.Statement.{statement}
-use Rattle.contraction.proofs.input.load.Tie as tie
+use Rattle.transfer.proofs.TransferLaws.{cleared-length, cleared-marks, prepared}
+use Rattle.transfer.proofs.load.Statement.{statement}
+use Rattle.transfer.proofs.load.Tie as tie
 
 mul-clear : tie.Need-mul-clear
 mul-clear c = search needs

@@ -8,7 +8,7 @@ use lib.ListN.{getD, length, length-replicate, replicate, take}
 use native.Mathlib.Omega.{arith}
 use borrow.Author.Tests.{eqb-false, eqb-true}
 use Rattle.graph.proofs.TableLaws.{over-length, over-past, pairs-table, table-equal}
-use Rattle.contraction.specs.Loading.{Edges, Entries, Loadable, Prepared}
+use Rattle.transfer.specs.Transfer.{Edges, Entries, Loadable, Prepared}
 use Rattle.graph.proofs.Booleans.{onBool}
 use Rattle.loading.proofs.LoadingLaws.{entered-most, entered-none, zeros-marks}
 use Rattle.loading.specs.Loading.{Entering, Past, PutEdge}

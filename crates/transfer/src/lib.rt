@@ -1,9 +1,10 @@
-// The input as the words that the contraction takes: the different active nodes in order of first appearance, and the ends of the edges.
+// The lent 16-bit tables put into the words that the contraction takes, and its result read back into them.
 ghost use mathlib.Core.Path.{_≡_};
 ghost use Prim.Native.Nat.{ℕ, _+_, _*_, _<_, _≤_};
 ghost use lib.ListN.{length, getD, take};
 ghost use Rattle.words.specs.Fields.{node};
-ghost use Rattle.contraction.specs.Loading.{Entries, Edges, Loadable, Prepared};
+ghost use Rattle.transfer.specs.Transfer.{Entries, Edges, Loadable, Prepared};
+ghost use Rattle.graph.specs.Lists.{table, over};
 
 // Enters the first k active entries; the count of different active nodes.
 fn enter_active(work: &mut [u32], n: usize, k: usize, active: &[u16]) -> usize
@@ -30,8 +31,8 @@ fn load_edges(work: &mut [u32], n: usize, m: usize, from: &[u16], to: &[u16])
     }
 }
 
-// Loads the graph; the count of different active nodes.
-pub(crate) fn load(
+// Internal: loads the graph; the count of different active nodes.
+pub fn load(
     work: &mut [u32],
     n: usize,
     m: usize,
@@ -47,4 +48,26 @@ pub(crate) fn load(
     let d = enter_active(work, n, k, active);
     load_edges(work, n, m, from, to);
     d
+}
+
+// Internal: the new numbers of the first k active entries.
+pub fn fill_map(work: &[u32], n: usize, k: usize, active: &[u16], map: &mut [u16])
+    requires { ⌜ (16 * n ≤ length (now work)) × (k ≤ length (now active)) × (k ≤ length (now map)) × ((i : ℕ) → i < k → (getD (now active) i 0 < n) × (node 0 (now work) (getD (now active) i 0) < 65536)) ⌝ }
+    ensures { λ _. ⌜ now (map .exit) ≡ over (table (λ i. node 0 (now (work .entry)) (getD (now (active .entry)) i 0)) 0 k) (now (map .entry)) ⌝ }
+{
+    for i in 0..k {
+        let x = words::get(work, active[i] as usize, 0);
+        map[i] = x as u16;
+    }
+}
+
+// Internal: field j of the first e nodes: an end of each edge.
+pub fn fill_ends(work: &[u32], e: usize, j: usize, out: &mut [u16])
+    requires { ⌜ (16 * e ≤ length (now work)) × (e ≤ length (now out)) × (j < 16) × ((i : ℕ) → i < e → node j (now work) i < 65536) ⌝ }
+    ensures { λ _. ⌜ now (out .exit) ≡ over (table (node j (now (work .entry))) 0 e) (now (out .entry)) ⌝ }
+{
+    for i in 0..e {
+        let x = words::get(work, i, j);
+        out[i] = x as u16;
+    }
 }

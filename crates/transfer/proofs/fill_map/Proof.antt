@@ -4,10 +4,10 @@ use lib.ListN.{getD}
 use native.Mathlib.Omega.{arith}
 use borrow.Author.Needs.{needs}
 use Rattle.graph.proofs.TableLaws.{written-all, written-length, written-more}
-use Rattle.contraction.proofs.filling.fill_map.Statement.{statement}
+use Rattle.transfer.proofs.fill_map.Statement.{statement}
 use Rattle.graph.specs.Lists.{over, table}
 use Rattle.words.specs.Fields.{node}
-use Rattle.contraction.proofs.filling.fill_map.Tie as tie
+use Rattle.transfer.proofs.fill_map.Tie as tie
 
 abbrev Inv-loop : tie.InvT-loop
 Inv-loop work n k active map₀ i₀ map i = (i ≤ k) × (map ≡ over (table (λ i. node 0 work (getD active i 0)) 0 i) map₀)
