@@ -8,6 +8,7 @@ const NONE: u32 = u32::MAX;
 
 /// One depth-first search over all junctions and all open segments per query. It finds the bridges,
 /// and so the piece and the 2-edge-connected class of every junction; the adjacency is built anew from the open segments.
+#[derive(Default)]
 pub struct Whole {
     open: Vec<u32>,
     /// The place of each segment in `open`.
@@ -29,20 +30,7 @@ pub struct Whole {
 
 impl Whole {
     pub fn new() -> Self {
-        Whole {
-            open: Vec::new(),
-            place: Vec::new(),
-            first: Vec::new(),
-            halves: Vec::new(),
-            found: Vec::new(),
-            low: Vec::new(),
-            piece: Vec::new(),
-            class: Vec::new(),
-            cursor: Vec::new(),
-            by: Vec::new(),
-            path: Vec::new(),
-            waiting: Vec::new(),
-        }
+        Self::default()
     }
 
     fn build(&mut self, n: usize, a: &[u16], b: &[u16]) {
@@ -129,11 +117,10 @@ impl Whole {
         }
     }
 
-    #[allow(clippy::too_many_arguments)]
-    pub fn replay(&mut self, n: usize, m: usize, a: &[u16], b: &[u16], x: &[u16], y: &[u16], answers: &mut [u8]) {
+    pub fn replay(&mut self, n: usize, a: &[u16], b: &[u16], x: &[u16], y: &[u16], answers: &mut [u8]) {
         self.open.clear();
         self.place.clear();
-        self.place.resize(m, 0);
+        self.place.resize(a.len(), 0);
         for ((&x, &y), answer) in x.iter().zip(y).zip(answers) {
             *answer = match x {
                 OPENS => {
@@ -166,45 +153,40 @@ impl Whole {
     }
 }
 
-impl Default for Whole {
-    fn default() -> Self {
-        Self::new()
-    }
-}
-
-/// A junction as the search of a piece needs it. It is new to a search where its stamp is an older one.
-#[derive(Clone, Copy, Default)]
-struct Junction {
-    /// 1 + the first half-edge.
-    head: u32,
-    stamp: u32,
-    found: u32,
-    low: u32,
-}
-
-/// A half-edge in the doubly linked list of its junction. Half-edges 2s and 2s + 1 are segment s.
+/// The open half-edges at a junction stand at the front of its row, which has room for all of them. Half-edges 2s and 2s + 1 are segment s.
 #[derive(Clone, Copy, Default)]
 struct Half {
-    far: u32,
-    /// 1 + the next half-edge, and the one before.
-    next: u32,
-    before: u32,
+    far: u16,
+    half: u16,
 }
 
-/// A junction on the way down: its next half-edge + 1, and the half-edge by which it was found.
+#[derive(Clone, Copy, Default)]
+struct Row {
+    start: u32,
+    end: u32,
+}
+
+/// A junction on the way down: the half-edge by which it was found, what is left of its row, when it was found, and its low point.
 #[derive(Clone, Copy)]
 struct Step {
-    junction: u32,
-    next: u32,
     by: u32,
+    next: u32,
+    end: u32,
+    found: u32,
+    low: u32,
 }
 
 /// One depth-first search per query over the piece of the query's first junction, on adjacency lists that are kept up to date.
 /// It stops as soon as the answer is settled.
 #[derive(Default)]
 pub struct Piece {
-    junctions: Vec<Junction>,
+    rows: Vec<Row>,
     halves: Vec<Half>,
+    /// The place of each open half-edge in `halves`.
+    place: Vec<u32>,
+    /// The time at which a junction was found last. The time goes on from query to query.
+    found: Vec<u32>,
+    time: u32,
     path: Vec<Step>,
 }
 
@@ -213,106 +195,109 @@ impl Piece {
         Self::default()
     }
 
-    fn link(&mut self, v: usize, h: usize, far: u16) {
-        let head = self.junctions[v].head;
-        self.halves[h] = Half { far: far as u32, next: head, before: 0 };
-        if head != 0 {
-            self.halves[head as usize - 1].before = h as u32 + 1;
+    fn start(&mut self, n: usize, a: &[u16], b: &[u16]) {
+        self.rows.clear();
+        self.rows.resize(n, Row::default());
+        for &v in a.iter().chain(b) {
+            self.rows[v as usize].end += 1;
         }
-        self.junctions[v].head = h as u32 + 1;
+        let mut sum = 0;
+        for row in &mut self.rows {
+            row.start = sum;
+            sum += row.end;
+            row.end = row.start;
+        }
+        self.halves.resize(2 * a.len(), Half::default());
+        self.place.resize(2 * a.len(), 0);
+        self.found.clear();
+        self.found.resize(n, 0);
+        self.time = 0;
     }
 
-    fn unlink(&mut self, v: usize, h: usize) {
-        let Half { next, before, .. } = self.halves[h];
-        if next != 0 {
-            self.halves[next as usize - 1].before = before;
-        }
-        if before != 0 {
-            self.halves[before as usize - 1].next = next;
-        } else {
-            self.junctions[v].head = next;
-        }
+    fn link(&mut self, v: u16, half: usize, far: u16) {
+        let row = &mut self.rows[v as usize];
+        self.halves[row.end as usize] = Half { far, half: half as u16 };
+        self.place[half] = row.end;
+        row.end += 1;
     }
 
-    fn find(&mut self, v: u32, by: u32, stamp: u32, time: u32) {
-        let junction = &mut self.junctions[v as usize];
-        junction.stamp = stamp;
-        junction.found = time;
-        junction.low = time;
-        self.path.push(Step { junction: v, next: junction.head, by });
+    fn unlink(&mut self, v: u16, half: usize) {
+        let row = &mut self.rows[v as usize];
+        row.end -= 1;
+        let last = self.halves[row.end as usize];
+        let place = self.place[half];
+        self.halves[place as usize] = last;
+        self.place[last.half as usize] = place;
     }
 
-    fn answer(&mut self, from: u32, to: u32, stamp: u32) -> u8 {
+    fn find(&mut self, v: u16, by: u32) {
+        self.time += 1;
+        self.found[v as usize] = self.time;
+        let row = self.rows[v as usize];
+        self.path.push(Step { by, next: row.start, end: row.end, found: self.time, low: self.time });
+    }
+
+    fn answer(&mut self, from: u16, to: u16) -> u8 {
         if from == to {
             return 2;
         }
+        let before = self.time;
         self.path.clear();
-        let mut time = 0;
-        self.find(from, NONE, stamp, time);
+        self.find(from, NONE);
         // The first `way` junctions of the path lead to `to`, once it is found.
         let mut way = 0;
-        while let Some(top) = self.path.last_mut() {
-            let v = top.junction as usize;
-            if top.next != 0 {
-                let h = top.next - 1;
-                let by = top.by;
-                let half = self.halves[h as usize];
-                top.next = half.next;
-                let far = self.junctions[half.far as usize];
-                if far.stamp != stamp {
-                    time += 1;
-                    self.find(half.far, h, stamp, time);
+        'path: while let Some(top) = self.path.last_mut() {
+            let row = &self.halves[top.next as usize..top.end as usize];
+            for (i, half) in row.iter().enumerate() {
+                let found = self.found[half.far as usize];
+                if found <= before {
+                    top.next += i as u32 + 1;
+                    let half = *half;
+                    self.find(half.far, half.half as u32 ^ 1);
                     if half.far == to {
                         way = self.path.len();
                     }
-                } else if h ^ 1 != by {
-                    let junction = &mut self.junctions[v];
-                    junction.low = junction.low.min(far.found);
+                    continue 'path;
                 }
-                continue;
+                if half.half as u32 != top.by {
+                    top.low = top.low.min(found);
+                }
             }
+            let Step { found, low, .. } = *top;
             self.path.pop();
-            let Junction { found, low, .. } = self.junctions[v];
-            if self.path.len() < way {
+            let depth = self.path.len();
+            if depth < way {
                 if low == found {
                     return 1;
                 }
-                way = self.path.len();
-                if way == 1 {
+                if depth == 1 {
                     return 2;
                 }
+                way = depth;
             }
-            if let Some(parent) = self.path.last() {
-                let parent = &mut self.junctions[parent.junction as usize];
+            if let Some(parent) = self.path.last_mut() {
                 parent.low = parent.low.min(low);
             }
         }
         0
     }
 
-    #[allow(clippy::too_many_arguments)]
-    pub fn replay(&mut self, n: usize, m: usize, a: &[u16], b: &[u16], x: &[u16], y: &[u16], answers: &mut [u8]) {
-        self.junctions.clear();
-        self.junctions.resize(n, Junction::default());
-        self.halves.resize(2 * m, Half::default());
-        let mut stamp = 0;
+    pub fn replay(&mut self, n: usize, a: &[u16], b: &[u16], x: &[u16], y: &[u16], answers: &mut [u8]) {
+        self.start(n, a, b);
         for ((&x, &y), answer) in x.iter().zip(y).zip(answers) {
             let s = y as usize;
             *answer = match x {
                 OPENS => {
-                    self.link(a[s] as usize, 2 * s, b[s]);
-                    self.link(b[s] as usize, 2 * s + 1, a[s]);
+                    self.link(a[s], 2 * s, b[s]);
+                    self.link(b[s], 2 * s + 1, a[s]);
                     3
                 }
                 CLOSES => {
-                    self.unlink(a[s] as usize, 2 * s);
-                    self.unlink(b[s] as usize, 2 * s + 1);
+                    self.unlink(a[s], 2 * s);
+                    self.unlink(b[s], 2 * s + 1);
                     3
                 }
-                _ => {
-                    stamp += 1;
-                    self.answer(x as u32, y as u32, stamp)
-                }
+                _ => self.answer(x, y),
             };
         }
     }

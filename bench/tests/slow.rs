@@ -203,10 +203,10 @@ fn replays() {
         let (answers, totals) = slow_replay(&list, p);
         assert_eq!(plain_replay(&list, p), (answers.clone(), Ok(totals)));
         let mut found = vec![9; t];
-        search::Whole::new().replay(n, m, &list.a, &list.b, &list.x, &list.y, &mut found);
+        search::Whole::new().replay(n, &list.a, &list.b, &list.x, &list.y, &mut found);
         assert_eq!(found, answers);
         found.fill(9);
-        search::Piece::new().replay(n, m, &list.a, &list.b, &list.x, &list.y, &mut found);
+        search::Piece::new().replay(n, &list.a, &list.b, &list.x, &list.y, &mut found);
         assert_eq!(found, answers);
     }
 }
