@@ -7,7 +7,8 @@ fn main() {
     println!("cargo:rerun-if-env-changed=LUM_ARCHIVE");
     let archive = match env::var_os("LUM_ARCHIVE") {
         Some(path) => PathBuf::from(path),
-        None => Path::new(&env::var("CARGO_MANIFEST_DIR").unwrap()).join("../target/staticlib/libembed.a"),
+        None => Path::new(&env::var("CARGO_MANIFEST_DIR").unwrap())
+            .join("../target/staticlib/libembed.a"),
     };
     println!("cargo:rerun-if-changed={}", archive.display());
     println!("cargo:rustc-link-arg-bins={}", archive.display());

@@ -46,7 +46,9 @@ pub fn contract(
     for node in nodes.iter_mut() {
         node[MARK] = 0;
     }
-    let different = active.iter().fold(0, |d, &v| core::enter(nodes, d, v as usize));
+    let different = active
+        .iter()
+        .fold(0, |d, &v| core::enter(nodes, d, v as usize));
     for ((edge, &u), &v) in halves.as_chunks_mut::<2>().0.iter_mut().zip(from).zip(to) {
         edge[0][0] = u as u32;
         edge[1][0] = v as u32;

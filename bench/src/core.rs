@@ -86,7 +86,7 @@ fn spanning_forest(nodes: &mut [Node], halves: &[Half], k: usize) -> usize {
             while h != 0 {
                 let [w, next] = halves[h - 1];
                 if nodes[w as usize][PLACE] == 0 {
-                    append(nodes, &mut seen, w as usize, v, (h + 1) / 2);
+                    append(nodes, &mut seen, w as usize, v, (h - 1) / 2 + 1);
                 }
                 h = next as usize;
             }
@@ -117,7 +117,10 @@ fn merge_edges(nodes: &mut [Node], halves: &[Half], seen: usize) {
         let x = edge[0][0] as usize;
         let y = edge[1][0] as usize;
         let tree_edge = e as u32 + 1;
-        if nodes[x][PLACE] == 0 || nodes[x][TREE_EDGE] == tree_edge || nodes[y][TREE_EDGE] == tree_edge {
+        if nodes[x][PLACE] == 0
+            || nodes[x][TREE_EDGE] == tree_edge
+            || nodes[y][TREE_EDGE] == tree_edge
+        {
             continue;
         }
         let mut a = find(nodes, x);

@@ -38,10 +38,19 @@ pub fn graph(shape: Shape, n: usize, random: &mut Random) -> Graph {
         let below = (v + COLUMNS) % n;
         let near = if e % 2 == 0 { beside } else { below };
         let far = shape == Shape::Random || random.below(16) == 0;
-        let (u, w) = if far { (random.below(n), random.below(n)) } else { (v, near) };
+        let (u, w) = if far {
+            (random.below(n), random.below(n))
+        } else {
+            (v, near)
+        };
         from.push(u as u16);
         to.push(w as u16);
     }
     let active = (0..n / 4).map(|_| random.below(n) as u16).collect();
-    Graph { n, from, to, active }
+    Graph {
+        n,
+        from,
+        to,
+        active,
+    }
 }

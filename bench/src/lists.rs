@@ -82,7 +82,11 @@ impl Network {
         for _ in 0..1 + random.below(8) {
             let here = &self.at[to as usize];
             let s = here[random.below(here.len())] as usize;
-            to = if self.a[s] == to { self.b[s] } else { self.a[s] };
+            to = if self.a[s] == to {
+                self.b[s]
+            } else {
+                self.a[s]
+            };
         }
         (from, to)
     }
@@ -91,9 +95,16 @@ impl Network {
 /// A list that begins with `run` openings; of the events behind them a third open, a sixth close and the rest are queries.
 /// An opening or closing that no segment is left for becomes a query.
 pub fn random_list(n: usize, m: usize, t: usize, run: usize, random: &mut Random) -> List {
-    let ends = |random: &mut Random| -> Vec<u16> { (0..m).map(|_| random.below(n) as u16).collect() };
+    let ends =
+        |random: &mut Random| -> Vec<u16> { (0..m).map(|_| random.below(n) as u16).collect() };
     let (a, b) = (ends(random), ends(random));
-    let mut network = Network { a, b, segments: (0..m as u16).collect(), open: 0, at: vec![Vec::new(); n] };
+    let mut network = Network {
+        a,
+        b,
+        segments: (0..m as u16).collect(),
+        open: 0,
+        at: vec![Vec::new(); n],
+    };
     let (mut x, mut y) = (Vec::with_capacity(t), Vec::with_capacity(t));
     for i in 0..t {
         let event = match if i < run { 0 } else { random.below(6) } {
@@ -105,7 +116,14 @@ pub fn random_list(n: usize, m: usize, t: usize, run: usize, random: &mut Random
         x.push(first);
         y.push(second);
     }
-    List { n, m, a: network.a, b: network.b, x, y }
+    List {
+        n,
+        m,
+        a: network.a,
+        b: network.b,
+        x,
+        y,
+    }
 }
 
 /// A list of t events of a kind: the first quarter are openings.

@@ -25,10 +25,30 @@ fn share(times: &[crate::timing::Time]) -> f64 {
 }
 
 const CURVES: [Curve; 4] = [
-    Curve { name: "search of all", colour: "#b2182b", dash: "2 3", time: |r| r.whole.median },
-    Curve { name: "search of the piece", colour: "#ef8a62", dash: "7 4", time: |r| r.piece.median },
-    Curve { name: "proved replay", colour: "#053061", dash: "none", time: |r| share(&r.proved) },
-    Curve { name: "plain Rust replay", colour: "#4393c3", dash: "10 3 2 3", time: |r| share(&r.plain) },
+    Curve {
+        name: "search of all",
+        colour: "#b2182b",
+        dash: "2 3",
+        time: |r| r.whole.median,
+    },
+    Curve {
+        name: "search of the piece",
+        colour: "#ef8a62",
+        dash: "7 4",
+        time: |r| r.piece.median,
+    },
+    Curve {
+        name: "proved replay",
+        colour: "#053061",
+        dash: "none",
+        time: |r| share(&r.proved),
+    },
+    Curve {
+        name: "plain Rust replay",
+        colour: "#4393c3",
+        dash: "10 3 2 3",
+        time: |r| share(&r.plain),
+    },
 ];
 
 /// A power of ten in microseconds, in words.
@@ -41,12 +61,18 @@ fn label(power: i32) -> String {
 }
 
 pub fn svg(rows: &[ReplayRow]) -> String {
-    let times = || rows.iter().flat_map(|r| CURVES.iter().map(move |c| (c.time)(r)));
+    let times = || {
+        rows.iter()
+            .flat_map(|r| CURVES.iter().map(move |c| (c.time)(r)))
+    };
     let low = times().fold(f64::INFINITY, f64::min).log10().floor() as i32;
     let high = times().fold(0.0, f64::max).log10().ceil() as i32;
     let y = |t: f64| TOP + PANEL_HEIGHT * (high as f64 - t.log10()) / (high - low) as f64;
     let x = |panel: usize, t: usize| {
-        let (first, last) = ((SIZES[0] as f64).log2(), (SIZES[SIZES.len() - 1] as f64).log2());
+        let (first, last) = (
+            (SIZES[0] as f64).log2(),
+            (SIZES[SIZES.len() - 1] as f64).log2(),
+        );
         let part = ((t as f64).log2() - first) / (last - first);
         LEFT + panel as f64 * (PANEL_WIDTH + GAP) + 20.0 + part * (PANEL_WIDTH - 40.0)
     };
@@ -99,9 +125,15 @@ pub fn svg(rows: &[ReplayRow]) -> String {
             bottom + 42.0
         );
         for curve in &CURVES {
-            let points: Vec<(f64, f64)> =
-                rows.iter().filter(|r| r.kind == kind).map(|r| (x(panel, r.events), y((curve.time)(r)))).collect();
-            let line: Vec<String> = points.iter().map(|(x, y)| format!("{x:.1},{y:.1}")).collect();
+            let points: Vec<(f64, f64)> = rows
+                .iter()
+                .filter(|r| r.kind == kind)
+                .map(|r| (x(panel, r.events), y((curve.time)(r))))
+                .collect();
+            let line: Vec<String> = points
+                .iter()
+                .map(|(x, y)| format!("{x:.1},{y:.1}"))
+                .collect();
             let _ = writeln!(
                 out,
                 "<polyline points=\"{}\" fill=\"none\" stroke=\"{}\" stroke-width=\"2\" stroke-dasharray=\"{}\"/>",
@@ -110,7 +142,11 @@ pub fn svg(rows: &[ReplayRow]) -> String {
                 curve.dash
             );
             for (x, y) in points {
-                let _ = writeln!(out, "<circle cx=\"{x:.1}\" cy=\"{y:.1}\" r=\"3\" fill=\"{}\"/>", curve.colour);
+                let _ = writeln!(
+                    out,
+                    "<circle cx=\"{x:.1}\" cy=\"{y:.1}\" r=\"3\" fill=\"{}\"/>",
+                    curve.colour
+                );
             }
         }
     }

@@ -98,7 +98,11 @@ pub fn replay(
     if r.code != 0 {
         return Err(Refusal::new(r.code, r.place));
     }
-    Ok(Totals { queries: r.queries, open: r.open, kept: r.kept })
+    Ok(Totals {
+        queries: r.queries,
+        open: r.open,
+        kept: r.kept,
+    })
 }
 
 #[allow(clippy::too_many_arguments)]

@@ -106,7 +106,9 @@ impl Replay<'_> {
         for node in nodes.iter_mut() {
             node[MARK] = 0;
         }
-        let k = active.iter().fold(0, |k, &v| core::enter(nodes, k, v as usize));
+        let k = active
+            .iter()
+            .fold(0, |k, &v| core::enter(nodes, k, v as usize));
         let pairs = halves.as_chunks_mut::<2>().0;
         for ((edge, &u), &v) in pairs.iter_mut().zip(&small[..w.edges]).zip(large) {
             edge[0][0] = u;
@@ -139,7 +141,12 @@ impl Replay<'_> {
             *u = node[SMALL_END];
             *v = node[LARGE_END];
         }
-        Window { at, events, nodes: count, edges }
+        Window {
+            at,
+            events,
+            nodes: count,
+            edges,
+        }
     }
 
     /// A window of one event: its byte, from the nodes and the edges of its small graph.
@@ -210,7 +217,14 @@ pub fn replay(
     let queries = check_events(n, m, x, y)?;
 
     let work = &mut work[..required(n, t)];
-    let mut replay = Replay { x, y, p, answers, open: Segments::none(), kept: 0 };
+    let mut replay = Replay {
+        x,
+        y,
+        p,
+        answers,
+        open: Segments::none(),
+        kept: 0,
+    };
     if t > 0 {
         for ((&x, &y), ends) in x.iter().zip(y).zip(work.as_chunks_mut::<2>().0) {
             *ends = if names_segment(x) {
@@ -220,11 +234,20 @@ pub fn replay(
             };
         }
         // The window above the whole list has all junctions as its nodes and no edge.
-        let above = Window { at: 0, events: t, nodes: n, edges: 0 };
+        let above = Window {
+            at: 0,
+            events: t,
+            nodes: n,
+            edges: 0,
+        };
         let whole = replay.step(above, 0, t, work);
         replay.window(whole, &mut work[10 * t..]);
     }
     let (open, kept) = (replay.open.count(), replay.kept);
     work.fill(0);
-    Ok(Totals { queries, open, kept })
+    Ok(Totals {
+        queries,
+        open,
+        kept,
+    })
 }

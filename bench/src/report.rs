@@ -51,7 +51,11 @@ pub fn markdown(replays: &[ReplayRow], contractions: &[ContractionRow]) -> Strin
     for r in replays {
         for (i, p) in SHARES.iter().enumerate() {
             let (proved, plain) = (r.proved[i], r.plain[i]);
-            let what = format!("the replay, {} list, T = {}, p = {p}", r.kind.name(), r.events);
+            let what = format!(
+                "the replay, {} list, T = {}, p = {p}",
+                r.kind.name(),
+                r.events
+            );
             let _ = writeln!(
                 out,
                 "| {} | {} | {} | {} | {} | {p} | {} | {} | {} | {} | {} | {} | {} |",

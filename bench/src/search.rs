@@ -3,7 +3,6 @@
 
 use crate::{CLOSES, OPENS};
 
-
 const NONE: u32 = u32::MAX;
 
 /// One depth-first search over all junctions and all open segments per query. It finds the bridges,
@@ -117,7 +116,15 @@ impl Whole {
         }
     }
 
-    pub fn replay(&mut self, n: usize, a: &[u16], b: &[u16], x: &[u16], y: &[u16], answers: &mut [u8]) {
+    pub fn replay(
+        &mut self,
+        n: usize,
+        a: &[u16],
+        b: &[u16],
+        x: &[u16],
+        y: &[u16],
+        answers: &mut [u8],
+    ) {
         self.open.clear();
         self.place.clear();
         self.place.resize(a.len(), 0);
@@ -216,7 +223,10 @@ impl Piece {
 
     fn link(&mut self, v: u16, half: usize, far: u16) {
         let row = &mut self.rows[v as usize];
-        self.halves[row.end as usize] = Half { far, half: half as u16 };
+        self.halves[row.end as usize] = Half {
+            far,
+            half: half as u16,
+        };
         self.place[half] = row.end;
         row.end += 1;
     }
@@ -234,7 +244,13 @@ impl Piece {
         self.time += 1;
         self.found[v as usize] = self.time;
         let row = self.rows[v as usize];
-        self.path.push(Step { by, next: row.start, end: row.end, found: self.time, low: self.time });
+        self.path.push(Step {
+            by,
+            next: row.start,
+            end: row.end,
+            found: self.time,
+            low: self.time,
+        });
     }
 
     fn answer(&mut self, from: u16, to: u16) -> u8 {
@@ -282,7 +298,15 @@ impl Piece {
         0
     }
 
-    pub fn replay(&mut self, n: usize, a: &[u16], b: &[u16], x: &[u16], y: &[u16], answers: &mut [u8]) {
+    pub fn replay(
+        &mut self,
+        n: usize,
+        a: &[u16],
+        b: &[u16],
+        x: &[u16],
+        y: &[u16],
+        answers: &mut [u8],
+    ) {
         self.start(n, a, b);
         for ((&x, &y), answer) in x.iter().zip(y).zip(answers) {
             let s = y as usize;

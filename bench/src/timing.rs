@@ -24,23 +24,29 @@ pub struct Time {
 
 /// Times `one` for each rival and each input.
 fn measure(rivals: usize, inputs: usize, mut one: impl FnMut(usize, usize)) -> Vec<Time> {
-    let mut times = vec![vec![Vec::with_capacity(ROUNDS); inputs]; rivals];
+    let mut times = vec![Vec::with_capacity(ROUNDS); rivals * inputs];
     for round in 0..ROUNDS {
         for input in 0..inputs {
             for i in 0..rivals {
                 let rival = (round + input + i) % rivals;
                 let start = Instant::now();
                 one(rival, input);
-                times[rival][input].push(start.elapsed().as_secs_f64() * 1e6);
+                let elapsed = start.elapsed().as_secs_f64() * 1e6;
+                times[rival * inputs + input].push(elapsed);
             }
         }
     }
-    let average = |of_inputs: &mut Vec<Vec<f64>>| {
-        of_inputs.iter_mut().for_each(|rounds| rounds.sort_by(f64::total_cmp));
-        let of = |i: usize| of_inputs.iter().map(|rounds| rounds[i]).sum::<f64>() / inputs as f64;
-        Time { median: of(ROUNDS / 2), least: of(0) }
+    for rounds in &mut times {
+        rounds.sort_by(f64::total_cmp);
+    }
+    let average = |of_inputs: &[Vec<f64>], place: usize| {
+        of_inputs.iter().map(|rounds| rounds[place]).sum::<f64>() / inputs as f64
     };
-    times.iter_mut().map(average).collect()
+    let time = |of_inputs: &[Vec<f64>]| Time {
+        median: average(of_inputs, ROUNDS / 2),
+        least: average(of_inputs, 0),
+    };
+    times.chunks(inputs).map(time).collect()
 }
 
 pub struct ReplayRow {
@@ -70,12 +76,34 @@ type Replay = fn(
     &mut [u32],
 ) -> Result<replay::Totals, bench::Refusal>;
 
-fn call(f: Replay, l: &List, p: usize, answers: &mut [u8], work: &mut [u32]) -> Result<replay::Totals, bench::Refusal> {
-    f(l.n, l.m, l.events(), p, &l.a, &l.b, &l.x, &l.y, answers, work)
+fn call(
+    f: Replay,
+    l: &List,
+    p: usize,
+    answers: &mut [u8],
+    work: &mut [u32],
+) -> Result<replay::Totals, bench::Refusal> {
+    f(
+        l.n,
+        l.m,
+        l.events(),
+        p,
+        &l.a,
+        &l.b,
+        &l.x,
+        &l.y,
+        answers,
+        work,
+    )
 }
 
 /// All four programs must give the same answers, and the two replays the same numbers.
-fn compare(l: &List, whole: &mut search::Whole, piece: &mut search::Piece, work: &mut [u32]) -> Result<usize, String> {
+fn compare(
+    l: &List,
+    whole: &mut search::Whole,
+    piece: &mut search::Piece,
+    work: &mut [u32],
+) -> Result<usize, String> {
     let t = l.events();
     let mut found = vec![vec![9; t]; 4];
     let mut queries = 0;
@@ -89,10 +117,15 @@ fn compare(l: &List, whole: &mut search::Whole, piece: &mut search::Piece, work:
             Err(r) => return Err(format!("a list is refused: {} at {}", r.code, r.place)),
         }
         if by_proved != by_plain {
-            return Err(format!("the replays differ: {by_proved:?} and {by_plain:?}"));
+            return Err(format!(
+                "the replays differ: {by_proved:?} and {by_plain:?}"
+            ));
         }
         if let Some(i) = (0..t).find(|&i| found.iter().any(|f| f[i] != found[0][i])) {
-            return Err(format!("the answers to event {i} differ: {:?}", [0, 1, 2, 3].map(|r| found[r][i])));
+            return Err(format!(
+                "the answers to event {i} differ: {:?}",
+                [0, 1, 2, 3].map(|r| found[r][i])
+            ));
         }
     }
     Ok(queries)
@@ -100,7 +133,9 @@ fn compare(l: &List, whole: &mut search::Whole, piece: &mut search::Piece, work:
 
 fn replay_row(kind: Kind, events: usize) -> Result<ReplayRow, String> {
     let mut random = Random::new(events as u64);
-    let lists: Vec<List> = (0..LISTS).map(|_| lists::list(kind, events, &mut random)).collect();
+    let lists: Vec<List> = (0..LISTS)
+        .map(|_| lists::list(kind, events, &mut random))
+        .collect();
     let (junctions, segments) = (lists[0].n, lists[0].m);
     let (mut whole, mut piece) = (search::Whole::new(), search::Piece::new());
     let mut work = vec![0; replay::required(junctions, events)];
@@ -114,7 +149,11 @@ fn replay_row(kind: Kind, events: usize) -> Result<ReplayRow, String> {
     let mut times = measure(2 * shares + 2, LISTS, |rival, i| {
         let l = &lists[i];
         if rival < 2 * shares {
-            let f: Replay = if rival % 2 == 0 { proved::replay } else { replay::replay };
+            let f: Replay = if rival % 2 == 0 {
+                proved::replay
+            } else {
+                replay::replay
+            };
             let _ = black_box(call(f, l, SHARES[rival / 2], &mut answers, &mut work));
         } else if rival == 2 * shares {
             whole.replay(l.n, &l.a, &l.b, &l.x, &l.y, &mut answers);
@@ -177,14 +216,31 @@ type Contract = fn(
     &mut [u32],
 ) -> Result<(usize, usize), bench::Refusal>;
 
-fn contract(f: Contract, g: &graphs::Graph, t: &mut Tables) -> Result<(usize, usize), bench::Refusal> {
+fn contract(
+    f: Contract,
+    g: &graphs::Graph,
+    t: &mut Tables,
+) -> Result<(usize, usize), bench::Refusal> {
     let (m, k) = (g.from.len(), g.active.len());
-    f(g.n, m, k, &g.from, &g.to, &g.active, &mut t.map, &mut t.out_from, &mut t.out_to, &mut t.work)
+    f(
+        g.n,
+        m,
+        k,
+        &g.from,
+        &g.to,
+        &g.active,
+        &mut t.map,
+        &mut t.out_from,
+        &mut t.out_to,
+        &mut t.work,
+    )
 }
 
 fn contraction_row(shape: Shape, n: usize) -> Result<ContractionRow, String> {
     let mut random = Random::new(n as u64);
-    let graphs: Vec<graphs::Graph> = (0..GRAPHS).map(|_| graphs::graph(shape, n, &mut random)).collect();
+    let graphs: Vec<graphs::Graph> = (0..GRAPHS)
+        .map(|_| graphs::graph(shape, n, &mut random))
+        .collect();
     let mut tables = Tables {
         map: vec![0; n / 4],
         out_from: vec![0; n / 2],
@@ -193,18 +249,38 @@ fn contraction_row(shape: Shape, n: usize) -> Result<ContractionRow, String> {
     };
     for g in &graphs {
         let by_proved = contract(proved::contract, g, &mut tables);
-        let kept = (tables.map.clone(), tables.out_from.clone(), tables.out_to.clone());
+        let kept = (
+            tables.map.clone(),
+            tables.out_from.clone(),
+            tables.out_to.clone(),
+        );
         let by_plain = contract(contraction::contract, g, &mut tables);
-        let same = kept == (tables.map.clone(), tables.out_from.clone(), tables.out_to.clone());
+        let same = kept
+            == (
+                tables.map.clone(),
+                tables.out_from.clone(),
+                tables.out_to.clone(),
+            );
         if by_proved.is_err() || by_proved != by_plain || !same {
-            return Err(format!("the contractions differ: {by_proved:?} and {by_plain:?}"));
+            return Err(format!(
+                "the contractions differ: {by_proved:?} and {by_plain:?}"
+            ));
         }
     }
     let times = measure(2, GRAPHS, |rival, i| {
-        let f: Contract = if rival == 0 { proved::contract } else { contraction::contract };
+        let f: Contract = if rival == 0 {
+            proved::contract
+        } else {
+            contraction::contract
+        };
         let _ = black_box(contract(f, &graphs[i], &mut tables));
     });
-    Ok(ContractionRow { shape, nodes: n, proved: times[0], plain: times[1] })
+    Ok(ContractionRow {
+        shape,
+        nodes: n,
+        proved: times[0],
+        plain: times[1],
+    })
 }
 
 pub fn contractions() -> Result<Vec<ContractionRow>, String> {

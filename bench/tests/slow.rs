@@ -9,7 +9,10 @@ fn pieces(n: usize, edges: &[(usize, usize)], without: usize) -> Vec<usize> {
     for (e, &(u, v)) in edges.iter().enumerate() {
         if e != without && piece[u] != piece[v] {
             let (old, new) = (piece[u], piece[v]);
-            piece.iter_mut().filter(|p| **p == old).for_each(|p| *p = new);
+            piece
+                .iter_mut()
+                .filter(|p| **p == old)
+                .for_each(|p| *p = new);
         }
     }
     piece
@@ -42,13 +45,22 @@ struct Small {
 /// The contraction by its definition. A class is named by its smallest node.
 fn contract(n: usize, edges: &[(usize, usize)], active: &[usize]) -> Small {
     let all = all_pieces(n, edges);
-    let class: Vec<usize> = (0..n).map(|v| (0..n).find(|&u| answer(&all, u, v) == 2).unwrap()).collect();
+    let class: Vec<usize> = (0..n)
+        .map(|v| (0..n).find(|&u| answer(&all, u, v) == 2).unwrap())
+        .collect();
     let classes: Vec<usize> = (0..n).filter(|&v| class[v] == v).collect();
-    let bridges: Vec<(usize, usize)> =
-        edges.iter().map(|&(u, v)| (class[u], class[v])).filter(|(u, v)| u != v).collect();
+    let bridges: Vec<(usize, usize)> = edges
+        .iter()
+        .map(|&(u, v)| (class[u], class[v]))
+        .filter(|(u, v)| u != v)
+        .collect();
     let is_active = |c: usize| active.iter().any(|&v| class[v] == c);
     let branches = |c: usize| {
-        let rest: Vec<_> = bridges.iter().copied().filter(|&(u, v)| u != c && v != c).collect();
+        let rest: Vec<_> = bridges
+            .iter()
+            .copied()
+            .filter(|&(u, v)| u != c && v != c)
+            .collect();
         let part = pieces(n, &rest, usize::MAX);
         let mut live: Vec<usize> = active
             .iter()
@@ -76,14 +88,22 @@ fn contract(n: usize, edges: &[(usize, usize)], active: &[usize]) -> Small {
     for (i, &c) in order.iter().enumerate() {
         for (j, &d) in order.iter().enumerate().skip(i + 1) {
             let free = |u: usize| u == c || u == d || number(u).is_none();
-            let rest: Vec<_> = bridges.iter().copied().filter(|&(u, v)| free(u) && free(v)).collect();
+            let rest: Vec<_> = bridges
+                .iter()
+                .copied()
+                .filter(|&(u, v)| free(u) && free(v))
+                .collect();
             let part = pieces(n, &rest, usize::MAX);
             if part[c] == part[d] {
                 joined.push((i, j));
             }
         }
     }
-    Small { nodes: order.len(), edges: joined, map: active.iter().map(|&v| number(class[v]).unwrap()).collect() }
+    Small {
+        nodes: order.len(),
+        edges: joined,
+        map: active.iter().map(|&v| number(class[v]).unwrap()).collect(),
+    }
 }
 
 fn windows(at: usize, events: usize, p: usize, all: &mut Vec<(usize, usize)>) {
@@ -125,17 +145,36 @@ fn slow_replay(l: &lists::List, p: usize) -> (Vec<u8>, replay::Totals) {
     let mut kept = 0;
     for (at, events) in all {
         let here = at..at + events;
-        let named: Vec<usize> = here.clone().filter(|&i| l.x[i] >= CLOSES).map(|i| l.y[i] as usize).collect();
+        let named: Vec<usize> = here
+            .clone()
+            .filter(|&i| l.x[i] >= CLOSES)
+            .map(|i| l.y[i] as usize)
+            .collect();
         let mut active = Vec::new();
         for i in here {
-            let (u, v) = if l.x[i] >= CLOSES { ends(l.y[i] as usize) } else { (l.x[i] as usize, l.y[i] as usize) };
+            let (u, v) = if l.x[i] >= CLOSES {
+                ends(l.y[i] as usize)
+            } else {
+                (l.x[i] as usize, l.y[i] as usize)
+            };
             active.extend([u, v]);
         }
-        let edges: Vec<_> = open_before[at].iter().filter(|s| !named.contains(s)).map(|&s| ends(s)).collect();
+        let edges: Vec<_> = open_before[at]
+            .iter()
+            .filter(|s| !named.contains(s))
+            .map(|&s| ends(s))
+            .collect();
         kept += contract(l.n, &edges, &active).nodes;
     }
     let queries = l.x.iter().filter(|&&x| x < CLOSES).count();
-    (answers, replay::Totals { queries, open: open.len(), kept })
+    (
+        answers,
+        replay::Totals {
+            queries,
+            open: open.len(),
+            kept,
+        },
+    )
 }
 
 fn plain_contract(n: usize, edges: &[(usize, usize)], active: &[usize]) -> Small {
@@ -143,16 +182,37 @@ fn plain_contract(n: usize, edges: &[(usize, usize)], active: &[usize]) -> Small
     let from: Vec<u16> = edges.iter().map(|e| e.0 as u16).collect();
     let to: Vec<u16> = edges.iter().map(|e| e.1 as u16).collect();
     let entries: Vec<u16> = active.iter().map(|&v| v as u16).collect();
-    let (mut map, mut out_from, mut out_to) = (vec![7; k + 1], vec![7; 2 * k + 1], vec![7; 2 * k + 1]);
+    let (mut map, mut out_from, mut out_to) =
+        (vec![7; k + 1], vec![7; 2 * k + 1], vec![7; 2 * k + 1]);
     let need = contraction::required(n, m);
     let mut work = vec![77; need + 3];
-    let (nodes, count) =
-        contraction::contract(n, m, k, &from, &to, &entries, &mut map, &mut out_from, &mut out_to, &mut work)
-            .unwrap();
+    let (nodes, count) = contraction::contract(
+        n,
+        m,
+        k,
+        &from,
+        &to,
+        &entries,
+        &mut map,
+        &mut out_from,
+        &mut out_to,
+        &mut work,
+    )
+    .unwrap();
     assert!(work[..need].iter().all(|&w| w == 0) && work[need..].iter().all(|&w| w == 77));
-    assert!(map[k] == 7 && out_from[count..].iter().all(|&v| v == 7) && out_to[count..].iter().all(|&v| v == 7));
-    let edges = (0..count).map(|i| (out_from[i] as usize, out_to[i] as usize)).collect();
-    Small { nodes, edges, map: map[..k].iter().map(|&v| v as usize).collect() }
+    assert!(
+        map[k] == 7
+            && out_from[count..].iter().all(|&v| v == 7)
+            && out_to[count..].iter().all(|&v| v == 7)
+    );
+    let edges = (0..count)
+        .map(|i| (out_from[i] as usize, out_to[i] as usize))
+        .collect();
+    Small {
+        nodes,
+        edges,
+        map: map[..k].iter().map(|&v| v as usize).collect(),
+    }
 }
 
 fn plain_replay(l: &lists::List, p: usize) -> (Vec<u8>, Result<replay::Totals, Refusal>) {
@@ -160,7 +220,18 @@ fn plain_replay(l: &lists::List, p: usize) -> (Vec<u8>, Result<replay::Totals, R
     let need = replay::required(l.n, t);
     let mut work = vec![77; need + 3];
     let mut answers = vec![9; t + 2];
-    let reply = replay::replay(l.n, l.m, t, p, &l.a, &l.b, &l.x, &l.y, &mut answers, &mut work);
+    let reply = replay::replay(
+        l.n,
+        l.m,
+        t,
+        p,
+        &l.a,
+        &l.b,
+        &l.x,
+        &l.y,
+        &mut answers,
+        &mut work,
+    );
     let expected = if reply.is_ok() { 0 } else { 77 };
     assert!(work[..need].iter().all(|&w| w == expected) && work[need..].iter().all(|&w| w == 77));
     assert!(answers[t..] == [9, 9]);
@@ -185,8 +256,14 @@ fn contractions() {
             edges.extend((0..m).map(|_| (random.below(n), random.below(n))));
         }
         let active: Vec<usize> = (0..k).map(|_| random.below(n)).collect();
-        let (slow, plain) = (contract(n, &edges, &active), plain_contract(n, &edges, &active));
-        assert_eq!((slow.nodes, slow.edges, slow.map), (plain.nodes, plain.edges, plain.map));
+        let (slow, plain) = (
+            contract(n, &edges, &active),
+            plain_contract(n, &edges, &active),
+        );
+        assert_eq!(
+            (slow.nodes, slow.edges, slow.map),
+            (plain.nodes, plain.edges, plain.map)
+        );
     }
 }
 
@@ -217,10 +294,17 @@ fn contraction_vectors() {
     let mut count = 0;
     for block in text.split("\n\n").filter(|b| !b.trim().is_empty()) {
         let row = |name: &str| -> Vec<usize> {
-            let line = block.lines().find(|l| l.split(' ').next() == Some(name)).unwrap();
-            line.split_whitespace().skip(1).map(|w| w.parse().unwrap()).collect()
+            let line = block
+                .lines()
+                .find(|l| l.split(' ').next() == Some(name))
+                .unwrap();
+            line.split_whitespace()
+                .skip(1)
+                .map(|w| w.parse().unwrap())
+                .collect()
         };
-        let pairs = |a: &str, b: &str| -> Vec<(usize, usize)> { row(a).into_iter().zip(row(b)).collect() };
+        let pairs =
+            |a: &str, b: &str| -> Vec<(usize, usize)> { row(a).into_iter().zip(row(b)).collect() };
         let small = plain_contract(row("n")[0], &pairs("from", "to"), &row("active"));
         assert_eq!(small.nodes, row("nodes")[0]);
         assert_eq!(small.edges, pairs("out-from", "out-to"));
@@ -236,8 +320,17 @@ fn replay_vectors() {
     let mut count = 0;
     for block in text.split("\n\n").filter(|b| !b.trim().is_empty()) {
         let (first, out) = block.trim().split_once('\n').unwrap();
-        let words: Vec<u16> = first.split_whitespace().skip(1).map(|w| w.parse().unwrap()).collect();
-        let (n, m, t, p) = (words[0] as usize, words[1] as usize, words[2] as usize, words[3] as usize);
+        let words: Vec<u16> = first
+            .split_whitespace()
+            .skip(1)
+            .map(|w| w.parse().unwrap())
+            .collect();
+        let (n, m, t, p) = (
+            words[0] as usize,
+            words[1] as usize,
+            words[2] as usize,
+            words[3] as usize,
+        );
         let (ends, events) = words[4..].split_at(2 * m);
         let list = lists::List {
             n,
@@ -255,7 +348,10 @@ fn replay_vectors() {
                 for (i, a) in answers.iter().enumerate().filter(|(_, a)| **a != 3) {
                     written += &format!("{i} {a}\n");
                 }
-                written += &format!("asks {} open {} kept {}\n", totals.queries, totals.open, totals.kept);
+                written += &format!(
+                    "asks {} open {} kept {}\n",
+                    totals.queries, totals.open, totals.kept
+                );
             }
         }
         assert_eq!(written.trim(), out.trim());
