@@ -1,0 +1,66 @@
+//! The contraction as a call, in plain Rust: checks, loading, the reply's tables, and the words cleared.
+
+use crate::core::{self, LARGE_END, MARK, SMALL_END};
+use crate::{Refusal, MOST_ENTRIES, MOST_JUNCTIONS, MOST_SEGMENTS};
+
+pub fn required(n: usize, m: usize) -> usize {
+    16 * n + 8 * m + 512
+}
+
+#[allow(clippy::too_many_arguments)]
+pub fn contract(
+    n: usize,
+    m: usize,
+    k: usize,
+    from: &[u16],
+    to: &[u16],
+    active: &[u16],
+    map: &mut [u16],
+    out_from: &mut [u16],
+    out_to: &mut [u16],
+    work: &mut [u32],
+) -> Result<(usize, usize), Refusal> {
+    if n > MOST_JUNCTIONS || m > MOST_SEGMENTS || k > MOST_ENTRIES {
+        return Err(Refusal::new(1, 0));
+    }
+    let short = from.len() < m
+        || to.len() < m
+        || active.len() < k
+        || map.len() < k
+        || out_from.len() < 2 * k
+        || out_to.len() < 2 * k
+        || work.len() < required(n, m);
+    if short {
+        return Err(Refusal::new(2, 0));
+    }
+    let (from, to, active, map) = (&from[..m], &to[..m], &active[..k], &mut map[..k]);
+    let bad = |v: u16| v as usize >= n;
+    if let Some(s) = from.iter().zip(to).position(|(&u, &v)| bad(u) || bad(v)) {
+        return Err(Refusal::new(4, s));
+    }
+    if let Some(i) = active.iter().position(|&v| bad(v)) {
+        return Err(Refusal::new(8, i));
+    }
+
+    let (nodes, halves) = core::split(work, n, m);
+    for node in nodes.iter_mut() {
+        node[MARK] = 0;
+    }
+    let different = active
+        .iter()
+        .fold(0, |d, &v| core::enter(nodes, d, v as usize));
+    for ((edge, &u), &v) in halves.as_chunks_mut::<2>().0.iter_mut().zip(from).zip(to) {
+        edge[0][0] = u as u32;
+        edge[1][0] = v as u32;
+    }
+    let (count, edges) = core::reduce(nodes, halves, different);
+    for (entry, &v) in map.iter_mut().zip(active) {
+        *entry = nodes[v as usize][MARK] as u16;
+    }
+    for ((node, u), v) in nodes[..edges].iter().zip(out_from).zip(out_to) {
+        *u = node[SMALL_END] as u16;
+        *v = node[LARGE_END] as u16;
+    }
+    work[..required(n, m)].fill(0);
+    Ok((count, edges))
+}

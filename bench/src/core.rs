@@ -1,0 +1,268 @@
+//! The contraction on words, in plain Rust: the passes and the layout of the crate `core`.
+//! A node has 16 words, a half-edge two; the half-edges stand behind the nodes.
+
+pub type Node = [u32; 16];
+/// The far end, and 1 + the next half-edge at the same node.
+pub type Half = [u32; 2];
+
+// Fields of a node. Several are used again once their first use is over.
+/// 1 + the place among the active nodes (in); the number of the class (out).
+pub const MARK: usize = 0;
+/// At i: the i-th active node (in).
+pub const ACTIVE: usize = 1;
+const HEAD: usize = 2;
+/// At i: the i-th node of the search.
+const ORDER: usize = 3;
+/// 1 + the place in the search, 0 where unseen.
+const PLACE: usize = 4;
+const PARENT: usize = 5;
+const TOP: usize = 6;
+/// 1 + the number of the nearest kept class at or above.
+const NEAREST: usize = 7;
+/// The branches of a class that have an active node.
+const BRANCHES: usize = 8;
+/// At i: 1 + the number of the nearest kept class above the class i.
+const ABOVE: usize = 9;
+/// 1 + the number of a class.
+const NUMBER: usize = 10;
+/// 1 + the edge to the parent, 0 at a root.
+const TREE_EDGE: usize = 13;
+/// At i: the ends of the i-th edge (out).
+pub const SMALL_END: usize = PLACE;
+pub const LARGE_END: usize = PARENT;
+/// At i: 1 + the first child of the class i with a larger number, and 1 + the next such child of its parent.
+const CHILDREN: usize = HEAD;
+const NEXT_CHILD: usize = BRANCHES;
+
+/// The words as nodes and half-edges.
+pub fn split(work: &mut [u32], n: usize, m: usize) -> (&mut [Node], &mut [Half]) {
+    let (nodes, rest) = work.split_at_mut(16 * n);
+    (nodes.as_chunks_mut().0, rest[..4 * m].as_chunks_mut().0)
+}
+
+/// Enters v as active where it is not yet; the new count of active nodes.
+pub fn enter(nodes: &mut [Node], k: usize, v: usize) -> usize {
+    if nodes[v][MARK] != 0 {
+        return k;
+    }
+    nodes[k][ACTIVE] = v as u32;
+    nodes[v][MARK] = k as u32 + 1;
+    k + 1
+}
+
+fn link_edges(nodes: &mut [Node], halves: &mut [Half]) {
+    for (e, edge) in halves.as_chunks_mut::<2>().0.iter_mut().enumerate() {
+        for side in 0..2 {
+            let head = &mut nodes[edge[side ^ 1][0] as usize][HEAD];
+            edge[side][1] = *head;
+            *head = (2 * e + side + 1) as u32;
+        }
+    }
+}
+
+fn append(nodes: &mut [Node], seen: &mut usize, v: usize, parent: usize, tree_edge: usize) {
+    nodes[*seen][ORDER] = v as u32;
+    *seen += 1;
+    let node = &mut nodes[v];
+    node[PLACE] = *seen as u32;
+    node[PARENT] = parent as u32;
+    node[TREE_EDGE] = tree_edge as u32;
+}
+
+/// Breadth first from each active node that is not seen yet; how many nodes are seen.
+fn spanning_forest(nodes: &mut [Node], halves: &[Half], k: usize) -> usize {
+    let mut seen = 0;
+    let mut done = 0;
+    for j in 0..k {
+        let root = nodes[j][ACTIVE] as usize;
+        if nodes[root][PLACE] != 0 {
+            continue;
+        }
+        append(nodes, &mut seen, root, root, 0);
+        while done < seen {
+            let v = nodes[done][ORDER] as usize;
+            done += 1;
+            let mut h = nodes[v][HEAD] as usize;
+            while h != 0 {
+                let [w, next] = halves[h - 1];
+                if nodes[w as usize][PLACE] == 0 {
+                    append(nodes, &mut seen, w as usize, v, (h - 1) / 2 + 1);
+                }
+                h = next as usize;
+            }
+        }
+    }
+    seen
+}
+
+/// The top of v; the path to it is halved on the way.
+fn find(nodes: &mut [Node], mut v: usize) -> usize {
+    loop {
+        let u = nodes[v][TOP] as usize;
+        if u == v {
+            return v;
+        }
+        let t = nodes[u][TOP];
+        nodes[v][TOP] = t;
+        v = t as usize;
+    }
+}
+
+/// Merges the 2-edge-connected classes along the tree path of each edge that is no tree edge.
+fn merge_edges(nodes: &mut [Node], halves: &[Half], seen: usize) {
+    for (v, node) in nodes.iter_mut().enumerate() {
+        node[TOP] = v as u32;
+    }
+    for (e, edge) in halves.as_chunks::<2>().0.iter().enumerate() {
+        let x = edge[0][0] as usize;
+        let y = edge[1][0] as usize;
+        let tree_edge = e as u32 + 1;
+        if nodes[x][PLACE] == 0
+            || nodes[x][TREE_EDGE] == tree_edge
+            || nodes[y][TREE_EDGE] == tree_edge
+        {
+            continue;
+        }
+        let mut a = find(nodes, x);
+        let mut b = find(nodes, y);
+        while a != b {
+            if nodes[a][PLACE] < nodes[b][PLACE] {
+                (a, b) = (b, a);
+            }
+            let parent = nodes[a][PARENT] as usize;
+            let top = find(nodes, parent);
+            nodes[a][TOP] = top as u32;
+            a = top;
+        }
+    }
+    for i in 0..seen {
+        let v = nodes[i][ORDER] as usize;
+        let top = nodes[v][TOP] as usize;
+        nodes[v][TOP] = nodes[top][TOP];
+    }
+}
+
+/// Numbers the classes of the active nodes in order of first appearance.
+fn number_actives(nodes: &mut [Node], k: usize) -> usize {
+    let mut count = 0;
+    for i in 0..k {
+        let v = nodes[i][ACTIVE] as usize;
+        let top = nodes[v][TOP] as usize;
+        if nodes[top][NUMBER] == 0 {
+            count += 1;
+            nodes[top][NUMBER] = count as u32;
+        }
+    }
+    count
+}
+
+fn count_branches(nodes: &mut [Node], seen: usize) {
+    for i in (0..seen).rev() {
+        let v = nodes[i][ORDER] as usize;
+        let node = &nodes[v];
+        let live = node[NUMBER] != 0 || node[BRANCHES] != 0;
+        if node[TOP] as usize == v && node[TREE_EDGE] != 0 && live {
+            let above = nodes[node[PARENT] as usize][TOP] as usize;
+            nodes[above][BRANCHES] += 1;
+        }
+    }
+}
+
+/// Numbers the other kept classes by their smallest nodes.
+fn number_others(nodes: &mut [Node], mut count: usize) -> usize {
+    for v in 0..nodes.len() {
+        if nodes[v][PLACE] == 0 {
+            continue;
+        }
+        let top = &mut nodes[nodes[v][TOP] as usize];
+        if top[NUMBER] == 0 && top[BRANCHES] >= 2 {
+            count += 1;
+            top[NUMBER] = count as u32;
+        }
+    }
+    count
+}
+
+fn nearest_kept(nodes: &mut [Node], seen: usize) {
+    for i in 0..seen {
+        let v = nodes[i][ORDER] as usize;
+        let node = nodes[v];
+        if node[TOP] as usize != v {
+            continue;
+        }
+        let above = if node[TREE_EDGE] == 0 {
+            0
+        } else {
+            let top = nodes[node[PARENT] as usize][TOP] as usize;
+            nodes[top][NEAREST]
+        };
+        let number = node[NUMBER];
+        if number == 0 {
+            nodes[v][NEAREST] = above;
+        } else {
+            nodes[v][NEAREST] = number;
+            nodes[number as usize - 1][ABOVE] = above;
+        }
+    }
+}
+
+/// Lists the edges in ascending order without a sort; how many they are.
+fn list_edges(nodes: &mut [Node], count: usize) -> usize {
+    for node in &mut nodes[..count] {
+        node[CHILDREN] = 0;
+    }
+    for x in (0..count).rev() {
+        let above = nodes[x][ABOVE] as usize;
+        if above != 0 && above <= x {
+            nodes[x][NEXT_CHILD] = nodes[above - 1][CHILDREN];
+            nodes[above - 1][CHILDREN] = x as u32 + 1;
+        }
+    }
+    let mut edges = 0;
+    let mut write = |nodes: &mut [Node], s: usize, t: usize| {
+        nodes[edges][SMALL_END] = s as u32;
+        nodes[edges][LARGE_END] = t as u32 - 1;
+        edges += 1;
+    };
+    for s in 0..count {
+        let above = nodes[s][ABOVE] as usize;
+        let mut pending = if above > s + 1 { above } else { 0 };
+        let mut child = nodes[s][CHILDREN] as usize;
+        while child != 0 {
+            if pending != 0 && pending < child {
+                write(nodes, s, pending);
+                pending = 0;
+            }
+            write(nodes, s, child);
+            child = nodes[child - 1][NEXT_CHILD] as usize;
+        }
+        if pending != 0 {
+            write(nodes, s, pending);
+        }
+    }
+    edges
+}
+
+/// Contracts the graph to its k different active nodes, which are entered; the nodes and the edges of the small graph.
+pub fn reduce(nodes: &mut [Node], halves: &mut [Half], k: usize) -> (usize, usize) {
+    for node in nodes.iter_mut() {
+        node[HEAD] = 0;
+        node[PLACE] = 0;
+        node[BRANCHES] = 0;
+        node[NUMBER] = 0;
+    }
+    link_edges(nodes, halves);
+    let seen = spanning_forest(nodes, halves, k);
+    merge_edges(nodes, halves, seen);
+    let actives = number_actives(nodes, k);
+    count_branches(nodes, seen);
+    let count = number_others(nodes, actives);
+    nearest_kept(nodes, seen);
+    let edges = list_edges(nodes, count);
+    for i in 0..k {
+        let v = nodes[i][ACTIVE] as usize;
+        let top = nodes[v][TOP] as usize;
+        nodes[v][MARK] = nodes[top][NUMBER] - 1;
+    }
+    (count, edges)
+}

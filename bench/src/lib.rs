@@ -1,0 +1,31 @@
+//! The rivals of the proved replay, and the lists and graphs that they are timed on.
+
+pub mod contraction;
+pub mod core;
+pub mod graphs;
+pub mod lists;
+pub mod random;
+pub mod replay;
+pub mod search;
+
+/// A refusal of document 01: its number and its place.
+#[derive(Clone, Copy, PartialEq, Eq, Debug)]
+pub struct Refusal {
+    pub code: usize,
+    pub place: usize,
+}
+
+impl Refusal {
+    pub fn new(code: usize, place: usize) -> Self {
+        Refusal { code, place }
+    }
+}
+
+pub const MOST_JUNCTIONS: usize = 4096;
+pub const MOST_SEGMENTS: usize = 8192;
+pub const MOST_EVENTS: usize = 4096;
+pub const MOST_ENTRIES: usize = 8192;
+
+/// X of an event that opens a segment, and of one that closes it.
+pub const OPENS: u16 = 65535;
+pub const CLOSES: u16 = 65534;

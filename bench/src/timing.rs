@@ -1,0 +1,294 @@
+//! The measures. A round goes over all inputs of a kind, and each input meets every rival in turn, so that drift of the machine meets them alike
+//! and a rival has met all other inputs before it meets one again.
+
+use crate::proved;
+use bench::graphs::{self, Shape};
+use bench::lists::{self, Kind, List};
+use bench::random::Random;
+use bench::{contraction, replay, search};
+use std::hint::black_box;
+use std::time::Instant;
+
+pub const ROUNDS: usize = 9;
+pub const LISTS: usize = 8;
+pub const GRAPHS: usize = 64;
+pub const SIZES: [usize; 4] = [512, 1024, 2048, 4096];
+pub const SHARES: [usize; 3] = [4, 8, 12];
+
+/// Microseconds a call: each input's median and least of the rounds, averaged over the inputs.
+#[derive(Clone, Copy)]
+pub struct Time {
+    pub median: f64,
+    pub least: f64,
+}
+
+/// Times `one` for each rival and each input.
+fn measure(rivals: usize, inputs: usize, mut one: impl FnMut(usize, usize)) -> Vec<Time> {
+    let mut times = vec![Vec::with_capacity(ROUNDS); rivals * inputs];
+    for round in 0..ROUNDS {
+        for input in 0..inputs {
+            for i in 0..rivals {
+                let rival = (round + input + i) % rivals;
+                let start = Instant::now();
+                one(rival, input);
+                let elapsed = start.elapsed().as_secs_f64() * 1e6;
+                times[rival * inputs + input].push(elapsed);
+            }
+        }
+    }
+    for rounds in &mut times {
+        rounds.sort_by(f64::total_cmp);
+    }
+    let average = |of_inputs: &[Vec<f64>], place: usize| {
+        of_inputs.iter().map(|rounds| rounds[place]).sum::<f64>() / inputs as f64
+    };
+    let time = |of_inputs: &[Vec<f64>]| Time {
+        median: average(of_inputs, ROUNDS / 2),
+        least: average(of_inputs, 0),
+    };
+    times.chunks(inputs).map(time).collect()
+}
+
+pub struct ReplayRow {
+    pub kind: Kind,
+    pub events: usize,
+    pub junctions: usize,
+    pub segments: usize,
+    /// Queries a list, on average.
+    pub queries: usize,
+    /// By share.
+    pub proved: Vec<Time>,
+    pub plain: Vec<Time>,
+    pub whole: Time,
+    pub piece: Time,
+}
+
+type Replay = fn(
+    usize,
+    usize,
+    usize,
+    usize,
+    &[u16],
+    &[u16],
+    &[u16],
+    &[u16],
+    &mut [u8],
+    &mut [u32],
+) -> Result<replay::Totals, bench::Refusal>;
+
+fn call(
+    f: Replay,
+    l: &List,
+    p: usize,
+    answers: &mut [u8],
+    work: &mut [u32],
+) -> Result<replay::Totals, bench::Refusal> {
+    f(
+        l.n,
+        l.m,
+        l.events(),
+        p,
+        &l.a,
+        &l.b,
+        &l.x,
+        &l.y,
+        answers,
+        work,
+    )
+}
+
+/// All four programs must give the same answers, and the two replays the same numbers.
+fn compare(
+    l: &List,
+    whole: &mut search::Whole,
+    piece: &mut search::Piece,
+    work: &mut [u32],
+) -> Result<usize, String> {
+    let t = l.events();
+    let mut found = vec![vec![9; t]; 4];
+    let mut queries = 0;
+    whole.replay(l.n, &l.a, &l.b, &l.x, &l.y, &mut found[2]);
+    piece.replay(l.n, &l.a, &l.b, &l.x, &l.y, &mut found[3]);
+    for p in SHARES {
+        let by_proved = call(proved::replay, l, p, &mut found[0], work);
+        let by_plain = call(replay::replay, l, p, &mut found[1], work);
+        match by_proved {
+            Ok(totals) => queries = totals.queries,
+            Err(r) => return Err(format!("a list is refused: {} at {}", r.code, r.place)),
+        }
+        if by_proved != by_plain {
+            return Err(format!(
+                "the replays differ: {by_proved:?} and {by_plain:?}"
+            ));
+        }
+        if let Some(i) = (0..t).find(|&i| found.iter().any(|f| f[i] != found[0][i])) {
+            return Err(format!(
+                "the answers to event {i} differ: {:?}",
+                [0, 1, 2, 3].map(|r| found[r][i])
+            ));
+        }
+    }
+    Ok(queries)
+}
+
+fn replay_row(kind: Kind, events: usize) -> Result<ReplayRow, String> {
+    let mut random = Random::new(events as u64);
+    let lists: Vec<List> = (0..LISTS)
+        .map(|_| lists::list(kind, events, &mut random))
+        .collect();
+    let (junctions, segments) = (lists[0].n, lists[0].m);
+    let (mut whole, mut piece) = (search::Whole::new(), search::Piece::new());
+    let mut work = vec![0; replay::required(junctions, events)];
+    let mut queries = 0;
+    for list in &lists {
+        queries += compare(list, &mut whole, &mut piece, &mut work)?;
+    }
+
+    let mut answers = vec![0; events];
+    let shares = SHARES.len();
+    let mut times = measure(2 * shares + 2, LISTS, |rival, i| {
+        let l = &lists[i];
+        if rival < 2 * shares {
+            let f: Replay = if rival % 2 == 0 {
+                proved::replay
+            } else {
+                replay::replay
+            };
+            let _ = black_box(call(f, l, SHARES[rival / 2], &mut answers, &mut work));
+        } else if rival == 2 * shares {
+            whole.replay(l.n, &l.a, &l.b, &l.x, &l.y, &mut answers);
+        } else {
+            piece.replay(l.n, &l.a, &l.b, &l.x, &l.y, &mut answers);
+        }
+        black_box(&mut answers);
+    });
+    let piece = times.pop().unwrap();
+    let whole = times.pop().unwrap();
+    let every_second = |first: usize| times.iter().copied().skip(first).step_by(2).collect();
+    Ok(ReplayRow {
+        kind,
+        events,
+        junctions,
+        segments,
+        queries: queries / LISTS,
+        proved: every_second(0),
+        plain: every_second(1),
+        whole,
+        piece,
+    })
+}
+
+pub fn replays() -> Result<Vec<ReplayRow>, String> {
+    let mut rows = Vec::new();
+    for kind in [Kind::Sparse, Kind::Dense] {
+        for events in SIZES {
+            rows.push(replay_row(kind, events)?);
+        }
+    }
+    Ok(rows)
+}
+
+pub struct ContractionRow {
+    pub shape: Shape,
+    pub nodes: usize,
+    pub proved: Time,
+    pub plain: Time,
+}
+
+/// The tables that a contraction is lent.
+struct Tables {
+    map: Vec<u16>,
+    out_from: Vec<u16>,
+    out_to: Vec<u16>,
+    work: Vec<u32>,
+}
+
+type Contract = fn(
+    usize,
+    usize,
+    usize,
+    &[u16],
+    &[u16],
+    &[u16],
+    &mut [u16],
+    &mut [u16],
+    &mut [u16],
+    &mut [u32],
+) -> Result<(usize, usize), bench::Refusal>;
+
+fn contract(
+    f: Contract,
+    g: &graphs::Graph,
+    t: &mut Tables,
+) -> Result<(usize, usize), bench::Refusal> {
+    let (m, k) = (g.from.len(), g.active.len());
+    f(
+        g.n,
+        m,
+        k,
+        &g.from,
+        &g.to,
+        &g.active,
+        &mut t.map,
+        &mut t.out_from,
+        &mut t.out_to,
+        &mut t.work,
+    )
+}
+
+fn contraction_row(shape: Shape, n: usize) -> Result<ContractionRow, String> {
+    let mut random = Random::new(n as u64);
+    let graphs: Vec<graphs::Graph> = (0..GRAPHS)
+        .map(|_| graphs::graph(shape, n, &mut random))
+        .collect();
+    let mut tables = Tables {
+        map: vec![0; n / 4],
+        out_from: vec![0; n / 2],
+        out_to: vec![0; n / 2],
+        work: vec![0; contraction::required(n, 2 * n)],
+    };
+    for g in &graphs {
+        let by_proved = contract(proved::contract, g, &mut tables);
+        let kept = (
+            tables.map.clone(),
+            tables.out_from.clone(),
+            tables.out_to.clone(),
+        );
+        let by_plain = contract(contraction::contract, g, &mut tables);
+        let same = kept
+            == (
+                tables.map.clone(),
+                tables.out_from.clone(),
+                tables.out_to.clone(),
+            );
+        if by_proved.is_err() || by_proved != by_plain || !same {
+            return Err(format!(
+                "the contractions differ: {by_proved:?} and {by_plain:?}"
+            ));
+        }
+    }
+    let times = measure(2, GRAPHS, |rival, i| {
+        let f: Contract = if rival == 0 {
+            proved::contract
+        } else {
+            contraction::contract
+        };
+        let _ = black_box(contract(f, &graphs[i], &mut tables));
+    });
+    Ok(ContractionRow {
+        shape,
+        nodes: n,
+        proved: times[0],
+        plain: times[1],
+    })
+}
+
+pub fn contractions() -> Result<Vec<ContractionRow>, String> {
+    let mut rows = Vec::new();
+    for shape in [Shape::Random, Shape::Grid] {
+        for nodes in SIZES {
+            rows.push(contraction_row(shape, nodes)?);
+        }
+    }
+    Ok(rows)
+}

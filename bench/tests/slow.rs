@@ -1,0 +1,361 @@
+//! The plain Rust replay and contraction, and the searches, against slow versions written from the definitions, and against vectors.
+
+use bench::random::Random;
+use bench::{contraction, lists, replay, search, Refusal, CLOSES, OPENS};
+
+/// A number for each node's piece, where the edge `without` is left out.
+fn pieces(n: usize, edges: &[(usize, usize)], without: usize) -> Vec<usize> {
+    let mut piece: Vec<usize> = (0..n).collect();
+    for (e, &(u, v)) in edges.iter().enumerate() {
+        if e != without && piece[u] != piece[v] {
+            let (old, new) = (piece[u], piece[v]);
+            piece
+                .iter_mut()
+                .filter(|p| **p == old)
+                .for_each(|p| *p = new);
+        }
+    }
+    piece
+}
+
+/// The pieces with nothing left out, then with each edge left out.
+fn all_pieces(n: usize, edges: &[(usize, usize)]) -> Vec<Vec<usize>> {
+    let mut all = vec![pieces(n, edges, usize::MAX)];
+    all.extend((0..edges.len()).map(|e| pieces(n, edges, e)));
+    all
+}
+
+fn answer(all: &[Vec<usize>], u: usize, v: usize) -> u8 {
+    if all[0][u] != all[0][v] {
+        return 0;
+    }
+    if all.iter().all(|piece| piece[u] == piece[v]) {
+        2
+    } else {
+        1
+    }
+}
+
+struct Small {
+    nodes: usize,
+    edges: Vec<(usize, usize)>,
+    map: Vec<usize>,
+}
+
+/// The contraction by its definition. A class is named by its smallest node.
+fn contract(n: usize, edges: &[(usize, usize)], active: &[usize]) -> Small {
+    let all = all_pieces(n, edges);
+    let class: Vec<usize> = (0..n)
+        .map(|v| (0..n).find(|&u| answer(&all, u, v) == 2).unwrap())
+        .collect();
+    let classes: Vec<usize> = (0..n).filter(|&v| class[v] == v).collect();
+    let bridges: Vec<(usize, usize)> = edges
+        .iter()
+        .map(|&(u, v)| (class[u], class[v]))
+        .filter(|(u, v)| u != v)
+        .collect();
+    let is_active = |c: usize| active.iter().any(|&v| class[v] == c);
+    let branches = |c: usize| {
+        let rest: Vec<_> = bridges
+            .iter()
+            .copied()
+            .filter(|&(u, v)| u != c && v != c)
+            .collect();
+        let part = pieces(n, &rest, usize::MAX);
+        let mut live: Vec<usize> = active
+            .iter()
+            .filter(|&&v| class[v] != c && all[0][v] == all[0][c])
+            .map(|&v| part[class[v]])
+            .collect();
+        live.sort_unstable();
+        live.dedup();
+        live.len()
+    };
+    let mut order: Vec<usize> = Vec::new();
+    for &v in active {
+        if !order.contains(&class[v]) {
+            order.push(class[v]);
+        }
+    }
+    for &c in &classes {
+        if !is_active(c) && branches(c) >= 3 {
+            order.push(c);
+        }
+    }
+    let number = |c: usize| order.iter().position(|&d| d == c);
+    // Two kept classes are joined where a route of bridges between them meets no third.
+    let mut joined = Vec::new();
+    for (i, &c) in order.iter().enumerate() {
+        for (j, &d) in order.iter().enumerate().skip(i + 1) {
+            let free = |u: usize| u == c || u == d || number(u).is_none();
+            let rest: Vec<_> = bridges
+                .iter()
+                .copied()
+                .filter(|&(u, v)| free(u) && free(v))
+                .collect();
+            let part = pieces(n, &rest, usize::MAX);
+            if part[c] == part[d] {
+                joined.push((i, j));
+            }
+        }
+    }
+    Small {
+        nodes: order.len(),
+        edges: joined,
+        map: active.iter().map(|&v| number(class[v]).unwrap()).collect(),
+    }
+}
+
+fn windows(at: usize, events: usize, p: usize, all: &mut Vec<(usize, usize)>) {
+    if events == 0 {
+        return;
+    }
+    all.push((at, events));
+    if events > 1 {
+        let first = (events * p / 16).max(1);
+        windows(at, first, p, all);
+        windows(at + first, events - first, p, all);
+    }
+}
+
+/// The answers and the totals of a valid list, by their definitions.
+fn slow_replay(l: &lists::List, p: usize) -> (Vec<u8>, replay::Totals) {
+    let t = l.events();
+    let ends = |s: usize| (l.a[s] as usize, l.b[s] as usize);
+    let mut open_before = Vec::new();
+    let mut open: Vec<usize> = Vec::new();
+    let mut answers = Vec::new();
+    for (&x, &y) in l.x.iter().zip(&l.y) {
+        open_before.push(open.clone());
+        let s = y as usize;
+        match x {
+            OPENS => open.push(s),
+            CLOSES => open.retain(|&o| o != s),
+            _ => {}
+        }
+        answers.push(if x >= CLOSES {
+            3
+        } else {
+            let edges: Vec<_> = open.iter().map(|&s| ends(s)).collect();
+            answer(&all_pieces(l.n, &edges), x as usize, s)
+        });
+    }
+    let mut all = Vec::new();
+    windows(0, t, p, &mut all);
+    let mut kept = 0;
+    for (at, events) in all {
+        let here = at..at + events;
+        let named: Vec<usize> = here
+            .clone()
+            .filter(|&i| l.x[i] >= CLOSES)
+            .map(|i| l.y[i] as usize)
+            .collect();
+        let mut active = Vec::new();
+        for i in here {
+            let (u, v) = if l.x[i] >= CLOSES {
+                ends(l.y[i] as usize)
+            } else {
+                (l.x[i] as usize, l.y[i] as usize)
+            };
+            active.extend([u, v]);
+        }
+        let edges: Vec<_> = open_before[at]
+            .iter()
+            .filter(|s| !named.contains(s))
+            .map(|&s| ends(s))
+            .collect();
+        kept += contract(l.n, &edges, &active).nodes;
+    }
+    let queries = l.x.iter().filter(|&&x| x < CLOSES).count();
+    (
+        answers,
+        replay::Totals {
+            queries,
+            open: open.len(),
+            kept,
+        },
+    )
+}
+
+fn plain_contract(n: usize, edges: &[(usize, usize)], active: &[usize]) -> Small {
+    let (m, k) = (edges.len(), active.len());
+    let from: Vec<u16> = edges.iter().map(|e| e.0 as u16).collect();
+    let to: Vec<u16> = edges.iter().map(|e| e.1 as u16).collect();
+    let entries: Vec<u16> = active.iter().map(|&v| v as u16).collect();
+    let (mut map, mut out_from, mut out_to) =
+        (vec![7; k + 1], vec![7; 2 * k + 1], vec![7; 2 * k + 1]);
+    let need = contraction::required(n, m);
+    let mut work = vec![77; need + 3];
+    let (nodes, count) = contraction::contract(
+        n,
+        m,
+        k,
+        &from,
+        &to,
+        &entries,
+        &mut map,
+        &mut out_from,
+        &mut out_to,
+        &mut work,
+    )
+    .unwrap();
+    assert!(work[..need].iter().all(|&w| w == 0) && work[need..].iter().all(|&w| w == 77));
+    assert!(
+        map[k] == 7
+            && out_from[count..].iter().all(|&v| v == 7)
+            && out_to[count..].iter().all(|&v| v == 7)
+    );
+    let edges = (0..count)
+        .map(|i| (out_from[i] as usize, out_to[i] as usize))
+        .collect();
+    Small {
+        nodes,
+        edges,
+        map: map[..k].iter().map(|&v| v as usize).collect(),
+    }
+}
+
+fn plain_replay(l: &lists::List, p: usize) -> (Vec<u8>, Result<replay::Totals, Refusal>) {
+    let t = l.events();
+    let need = replay::required(l.n, t);
+    let mut work = vec![77; need + 3];
+    let mut answers = vec![9; t + 2];
+    let reply = replay::replay(
+        l.n,
+        l.m,
+        t,
+        p,
+        &l.a,
+        &l.b,
+        &l.x,
+        &l.y,
+        &mut answers,
+        &mut work,
+    );
+    let expected = if reply.is_ok() { 0 } else { 77 };
+    assert!(work[..need].iter().all(|&w| w == expected) && work[need..].iter().all(|&w| w == 77));
+    assert!(answers[t..] == [9, 9]);
+    answers.truncate(t);
+    (answers, reply)
+}
+
+#[test]
+fn contractions() {
+    let mut random = Random::new(1);
+    for _ in 0..20_000 {
+        let n = 1 + random.below(14);
+        let m = random.below(2 * n + 1);
+        let k = random.below(n + 3);
+        // Half of the graphs are trees with a few edges more, for many bridges.
+        let tree = random.below(2) == 0;
+        let mut edges: Vec<(usize, usize)> = Vec::new();
+        if tree {
+            edges.extend((1..n).map(|v| (random.below(v), v)));
+            edges.extend((0..random.below(3)).map(|_| (random.below(n), random.below(n))));
+        } else {
+            edges.extend((0..m).map(|_| (random.below(n), random.below(n))));
+        }
+        let active: Vec<usize> = (0..k).map(|_| random.below(n)).collect();
+        let (slow, plain) = (
+            contract(n, &edges, &active),
+            plain_contract(n, &edges, &active),
+        );
+        assert_eq!(
+            (slow.nodes, slow.edges, slow.map),
+            (plain.nodes, plain.edges, plain.map)
+        );
+    }
+}
+
+#[test]
+fn replays() {
+    let mut random = Random::new(2);
+    for round in 0..4_000 {
+        let n = 1 + random.below(10);
+        let m = 1 + random.below(14);
+        let t = random.below(32);
+        let run = random.below(t / 2 + 1);
+        let list = lists::random_list(n, m, t, run, &mut random);
+        let p = 4 + round % 9;
+        let (answers, totals) = slow_replay(&list, p);
+        assert_eq!(plain_replay(&list, p), (answers.clone(), Ok(totals)));
+        let mut found = vec![9; t];
+        search::Whole::new().replay(n, &list.a, &list.b, &list.x, &list.y, &mut found);
+        assert_eq!(found, answers);
+        found.fill(9);
+        search::Piece::new().replay(n, &list.a, &list.b, &list.x, &list.y, &mut found);
+        assert_eq!(found, answers);
+    }
+}
+
+#[test]
+fn contraction_vectors() {
+    let text = include_str!("vectors/contraction.txt");
+    let mut count = 0;
+    for block in text.split("\n\n").filter(|b| !b.trim().is_empty()) {
+        let row = |name: &str| -> Vec<usize> {
+            let line = block
+                .lines()
+                .find(|l| l.split(' ').next() == Some(name))
+                .unwrap();
+            line.split_whitespace()
+                .skip(1)
+                .map(|w| w.parse().unwrap())
+                .collect()
+        };
+        let pairs =
+            |a: &str, b: &str| -> Vec<(usize, usize)> { row(a).into_iter().zip(row(b)).collect() };
+        let small = plain_contract(row("n")[0], &pairs("from", "to"), &row("active"));
+        assert_eq!(small.nodes, row("nodes")[0]);
+        assert_eq!(small.edges, pairs("out-from", "out-to"));
+        assert_eq!(small.map, row("map"));
+        count += 1;
+    }
+    assert_eq!(count, 60);
+}
+
+#[test]
+fn replay_vectors() {
+    let text = include_str!("vectors/replay.txt");
+    let mut count = 0;
+    for block in text.split("\n\n").filter(|b| !b.trim().is_empty()) {
+        let (first, out) = block.trim().split_once('\n').unwrap();
+        let words: Vec<u16> = first
+            .split_whitespace()
+            .skip(1)
+            .map(|w| w.parse().unwrap())
+            .collect();
+        let (n, m, t, p) = (
+            words[0] as usize,
+            words[1] as usize,
+            words[2] as usize,
+            words[3] as usize,
+        );
+        let (ends, events) = words[4..].split_at(2 * m);
+        let list = lists::List {
+            n,
+            m,
+            a: ends[..m].to_vec(),
+            b: ends[m..].to_vec(),
+            x: events[..t].to_vec(),
+            y: events[t..].to_vec(),
+        };
+        let (answers, reply) = plain_replay(&list, p);
+        let mut written = String::new();
+        match reply {
+            Err(r) => written += &format!("refused {} at {}\n", r.code, r.place),
+            Ok(totals) => {
+                for (i, a) in answers.iter().enumerate().filter(|(_, a)| **a != 3) {
+                    written += &format!("{i} {a}\n");
+                }
+                written += &format!(
+                    "asks {} open {} kept {}\n",
+                    totals.queries, totals.open, totals.kept
+                );
+            }
+        }
+        assert_eq!(written.trim(), out.trim());
+        count += 1;
+    }
+    assert_eq!(count, 77);
+}
