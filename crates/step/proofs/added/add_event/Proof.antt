@@ -26,7 +26,7 @@ returns-3 : tie.Need-returns-3
 returns-3 c = added-none (c .before .before .before .before .before .before .before .before .args .x) (c .before .before .before .before .before .before .before .before .args .y) (c .before .before .before .before .before .before .before .before .args .a) (c .before .before .before .before .before .before .before .before .args .b) (c .before .before .before .before .before .before .before .before .args .held .now) (c .before .before .before .before .before .before .before .before .args .seen .now) (c .before .before .before .before .before .before .before .before .args .n) (c .before .before .before .before .before .before .before .before .args .m) (c .before .before .before .before .before .before .before .before .args .work .now) (c .before .before .before .before .before .before .before .before .pre .6) (seen-not-added (c .before .before .before .before .before .before .before .before .args .x) (c .before .before .before .before .before .before .before .before .args .y) (c .before .before .before .before .before .before .before .before .args .held .now) (c .before .before .before .before .before .before .before .before .args .seen .now) (sym (c .before .contains2 .ensures) ∙ c .if3 .taken))
 
 insert-requires : tie.Need-insert-requires
-insert-requires c κs = (c .before .before .before .before .before .before .before .before .before .pre .6, c .before .before .before .before .before .before .before .before .before .pre .7 (sym (c .before .before .before .before .before .before .before .names-segment .ensures) ∙ not-false _ (c .before .before .before .before .before .before .if1 .left)))
+insert-requires c κs = (c .before .before .before .before .before .before .before .before .before .pre .6, omega (arith, c .before .before .before .before .before .before .before .before .before .pre .7 (sym (c .before .before .before .before .before .before .before .names-segment .ensures) ∙ not-false _ (c .before .before .before .before .before .before .if1 .left))))
 
 put-edge-requires : tie.Need-put-edge-requires
 put-edge-requires c κs = (c .before .before .before .before .before .before .before .before .before .before .before .pre .0, omega (arith, c .before .before .before .before .before .before .before .before .before .before .before .pre .1, c .before .before .before .before .before .before .before .before .before .before .before .pre .3), omega (arith, c .before .before .before .before .before .before .before .before .before .before .before .pre .2, c .before .before .before .before .before .before .before .before .before .before .before .pre .3), c .before .before .before .before .before .before .before .before .before .before .before .pre .3, c .before .before .before .before .before .before .before .before .before .before .before .pre .4)

@@ -6,7 +6,7 @@ use Rattle.step.proofs.added.load_added.Statement.{statement}
 use Rattle.step.proofs.added.load_added.Tie as tie
 
 named-in-requires : tie.Need-named-in-requires
-named-in-requires c κs = (omega (arith, c .before .before .before .pre .0 .long-x), omega (arith, c .before .before .before .pre .0 .long-y), part-names (c .before .before .before .args .x .now) (c .before .before .before .args .y .now) (c .before .before .before .args .at) (c .before .before .before .args .e) (c .before .before .before .args .lo) (c .before .before .before .args .c) (c .before .before .before .pre .2) (c .before .before .before .pre .3) (c .before .before .before .pre .0 .segments))
+named-in-requires c κs = (omega (arith, c .before .before .before .pre .0 .long-x), omega (arith, c .before .before .before .pre .0 .long-y), part-names (c .before .before .before .args .x .now) (c .before .before .before .args .y .now) (c .before .before .before .args .at) (c .before .before .before .args .e) (c .before .before .before .args .lo) _ (c .before .before .before .pre .2) (omega (arith, c .before .before .before .pre .3)) (c .before .before .before .pre .0 .segments))
 
 add-all-requires : tie.Need-add-all-requires
 add-all-requires c κs = search needs
