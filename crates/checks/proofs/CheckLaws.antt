@@ -12,6 +12,7 @@ use native.Mathlib.Omega.{arith}
 use borrow.Author.Tests.{eq-eqb, eqb-false, eqb-true, le-ltb, lt-ltb, ltb-false, ne-eqb}
 use Rattle.graph.proofs.Booleans.{onBool}
 use Rattle.graph.specs.Lists.{pairs}
+use Rattle.segments.proofs.SegmentLaws.{event-stays}
 use Rattle.tables.proofs.RefusalLaws.{fault-left, fault-silent, seek-at, seek-end, sizes-numbered, skip-silent}
 use Rattle.tables.specs.OpenSet.{isOpen}
 use Rattle.tables.specs.Refusal.{Refusal, Row, firstFault, row, seek, badEnds}
@@ -164,6 +165,13 @@ module _ {n m t : ℕ} {x y held : List ℕ} {i : ℕ} (p : Passing n m t x y he
             ∙ ap (λ (l : List Event). afterAll l atStart) (sym (ap (λ k. take k evs) (add-one i) ∙ take-suc evs i (0, 0) (omega (arith, length-pairs t x y lx ly))));
         fine = below-next (λ u. not (eqb (faultOf n m evs u) 0)) i (p .fine) (ap not (eq-eqb (faultOf n m evs i) 0 (sym fault-is ∙ z)));
       }
+
+  -- an event that names no segment leaves the set as it is
+  pub event-stands : r ≡ 0 → (eqb (getD x i 0) 65535 || eqb (getD x i 0) 65534) ≡ false → Passing n m t x y held (i + 1)
+  event-stands z q = event-passes z held (p .words) (event-stays held (getD x i 0) (getD y i 0) q)
+
+pub passing-same : {n m t : ℕ} {x y held next : List ℕ} {i : ℕ} → next ≡ held → Passing n m t x y held i → Passing n m t x y next i
+passing-same {n} {m} {t} {x} {y} {held} {next} {i} e p = subst (λ (h : List ℕ). Passing n m t x y h i) (sym e) p
 
 pub events-pass : {n m t : ℕ} {x y held : List ℕ} {i : ℕ} → Passing n m t x y held i → i ≡ t → (0, 0) ≡ eventsFault n m (pairs (take t x) (take t y)) t
 unfolding eventsFault

@@ -66,8 +66,10 @@ fn bad_event(n: usize, m: usize, t: usize, x: &[u16], y: &[u16]) -> Fault
                 place: i,
             };
         }
-        let next = segments::after_event(held, kind, s);
-        held = next;
+        let names = segments::names_segment(kind);
+        if names {
+            held = segments::after_event(held, kind, s);
+        }
         i += 1;
     }
     Fault { code: 0, place: 0 }

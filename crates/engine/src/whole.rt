@@ -91,7 +91,7 @@ pub(crate) fn replay_windows(
     let ys = &y[..t];
     put_junctions(&a[..m], &b[..m], xs, ys, work);
     let held = [0u64; 128];
-    let r = step::step(xs, ys, 0, t, 0, t, n, 0, held, work);
+    let r = step::step(xs, ys, 0, t, 0, t, n, 0, &held, work);
     let q = 10 * t;
     windows::window(
         xs,

@@ -50,10 +50,10 @@ pub fn step(
     c: usize,
     nodes: usize,
     edges: usize,
-    held: [u64; 128],
+    held: &[u64; 128],
     work: &mut [u32],
 ) -> core::Counts
-    requires { ⌜ StepReady (now x) (now y) at n lo c nodes edges held (now work) ⌝ }
+    requires { ⌜ StepReady (now x) (now y) at n lo c nodes edges (now held) (now work) × (length (now held) ≡ 128) ⌝ }
     ensures { λ r. ⌜ Stepped (now (x .entry)) (now (y .entry)) at n lo c nodes edges (now (work .entry)) (now (work .exit)) r ⌝ }
 {
     let q = 10 * n;
@@ -62,7 +62,7 @@ pub fn step(
     let count = 2 * c;
     let k = load::load_active(work, from, count, s, nodes);
     load::load_edges(work, n, edges, s, nodes);
-    let m = added::load_added(x, y, at, n, lo, c, &held, work, s, nodes, edges);
+    let m = added::load_added(x, y, at, n, lo, c, held, work, s, nodes, edges);
     let r = core::reduce(&mut work[s..], nodes, m, k);
     let low = q + 2 * c;
     let high = q + 6 * c;

@@ -81,7 +81,7 @@ pub fn window(
     let rest = n - c;
     let mid = at + c;
     let q = 10 * n;
-    let a = step::step(x, y, at, n, at, c, nodes, edges, held, work);
+    let a = step::step(x, y, at, n, at, c, nodes, edges, &held, work);
     let b = window(
         x,
         y,
@@ -95,7 +95,7 @@ pub fn window(
         &mut work[q..],
     );
     let middle = b.held;
-    let d = step::step(x, y, at, n, mid, rest, nodes, edges, middle, work);
+    let d = step::step(x, y, at, n, mid, rest, nodes, edges, &middle, work);
     let e = window(
         x,
         y,

@@ -1,8 +1,9 @@
 -- Events without a fault so far, with the set open before the next one.
 use Prim.Native.Nat.{_-_}
-use mathlib.Core.Path.{refl}
+use mathlib.Core.Logic.{⊎-elim}
+use mathlib.Core.Path.{_∙_, refl, sym}
 use native.Mathlib.Omega.{arith}
-use Rattle.checks.proofs.CheckLaws.{Passing, event-names, event-passes, event-refused, events-pass, passing-none}
+use Rattle.checks.proofs.CheckLaws.{Passing, event-names, event-passes, event-refused, event-stands, events-pass, passing-none, passing-same}
 use Rattle.segments.proofs.SegmentLaws.{none-open}
 use Rattle.checks.proofs.bad_event.Statement.{statement}
 use Rattle.checks.proofs.bad_event.Tie as tie
@@ -37,8 +38,11 @@ event-fault-requires c κs = c .before .before .before .before .loop .inv .words
 returns : tie.Need-returns Inv-loop μ-loop
 returns c = event-refused (c .before .before .before .before .before .before .loop .inv) (omega arith) (c .before .before .before .before .before .before .before .before .before .pre .0) (c .before .before .before .before .before .before .before .before .before .pre .1) (c .before .before .before .before .before .before .before .before .before .pre .3) (c .before .before .before .before .before .before .before .before .before .pre .2) (c .before .event-fault .result) (c .before .event-fault .ensures) (c .if1 .taken)
 
+names-segment-requires : tie.Need-names-segment-requires Inv-loop μ-loop
+names-segment-requires c κs = tt
+
 after-event-requires : tie.Need-after-event-requires Inv-loop μ-loop
-after-event-requires c κs = event-names (c .before .before .before .before .before .before .loop .inv) (omega arith) (c .before .before .before .before .before .before .before .before .before .pre .0) (c .before .before .before .before .before .before .before .before .before .pre .1) (c .before .before .before .before .before .before .before .before .before .pre .3) (c .before .before .before .before .before .before .before .before .before .pre .2) (c .before .event-fault .result) (c .before .event-fault .ensures) (omega arith)
+after-event-requires c κs = event-names (c .before .before .before .before .before .before .before .before .loop .inv) (omega arith) (c .before .before .before .before .before .before .before .before .before .before .before .pre .0) (c .before .before .before .before .before .before .before .before .before .before .before .pre .1) (c .before .before .before .before .before .before .before .before .before .before .before .pre .3) (c .before .before .before .before .before .before .before .before .before .before .before .pre .2) (c .before .before .before .event-fault .result) (c .before .before .before .event-fault .ensures) (omega arith)
 
 add-i : tie.Need-add-i Inv-loop μ-loop
 add-i c = omega arith
@@ -47,7 +51,11 @@ loop-less : tie.Need-loop-less Inv-loop μ-loop
 loop-less c = omega arith
 
 loop-again : tie.Need-loop-again Inv-loop μ-loop
-loop-again c = event-passes (c .before .before .before .before .before .before .before .loop .inv) (omega arith) (c .before .before .before .before .before .before .before .before .before .before .pre .0) (c .before .before .before .before .before .before .before .before .before .before .pre .1) (c .before .before .before .before .before .before .before .before .before .before .pre .3) (c .before .before .before .before .before .before .before .before .before .before .pre .2) (c .before .before .event-fault .result) (c .before .before .event-fault .ensures) (omega arith) (c .after-event .result) (c .after-event .ensures .0) (c .after-event .ensures .1)
+loop-again c =
+    ⊎-elim
+    (λ w. passing-same (w .2) (event-passes (c .before .before .before .before .before .before .before .before .loop .inv) (omega arith) (c .before .before .before .before .before .before .before .before .before .before .before .pre .0) (c .before .before .before .before .before .before .before .before .before .before .before .pre .1) (c .before .before .before .before .before .before .before .before .before .before .before .pre .3) (c .before .before .before .before .before .before .before .before .before .before .before .pre .2) (c .before .before .before .event-fault .result) (c .before .before .before .event-fault .ensures) (omega arith) (w .1 .result) (w .1 .ensures .0) (w .1 .ensures .1)))
+    (λ w. passing-same (w .1) (event-stands (c .before .before .before .before .before .before .before .before .loop .inv) (omega arith) (c .before .before .before .before .before .before .before .before .before .before .before .pre .0) (c .before .before .before .before .before .before .before .before .before .before .before .pre .1) (c .before .before .before .before .before .before .before .before .before .before .before .pre .3) (c .before .before .before .before .before .before .before .before .before .before .before .pre .2) (c .before .before .before .event-fault .result) (c .before .before .before .event-fault .ensures) (omega arith) (sym (c .before .names-segment .ensures) ∙ w .0 .left)))
+    (c .if2 .came)
 
 returns-2 : tie.Need-returns-2 Inv-loop μ-loop
 returns-2 c = events-pass (c .before .loop .inv) (omega (arith, c .before .loop .inv .low))
@@ -66,6 +74,7 @@ bad-event-spec =
     cast-s
     event-fault-requires
     returns
+    names-segment-requires
     after-event-requires
     add-i
     loop-less

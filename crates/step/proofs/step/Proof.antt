@@ -38,32 +38,32 @@ calls = (
 len1 : (c : lts.After-load-edges-arg calls reads.Pre reads.Post) → length (c .before .before .before .load-active .last .0) ≡ length (c .before .before .before .before .before .before .before .before .args .work .now)
 len1 c = omega arith
 
-len2 : (c : lts.After-load-added-arg calls reads.Pre reads.Post) → length (c .before .before .before .before .load-edges .last .0) ≡ length (c .before .before .before .before .before .before .before .before .before .before .before .before .before .args .work .now)
-len2 c = omega (arith, len1 (c .before .before .before .before .before))
+len2 : (c : lts.After-load-added-arg calls reads.Pre reads.Post) → length (c .before .before .before .load-edges .last .0) ≡ length (c .before .before .before .before .before .before .before .before .before .before .before .before .args .work .now)
+len2 c = omega (arith, len1 (c .before .before .before .before))
 
-len3 : (c : lts.After-slice-known4 calls reads.Pre reads.Post) → length (c .before .before .load-added .last .1 .1 .1 .1 .1 .1 .1 .0) ≡ length (c .before .before .before .before .before .before .before .before .before .before .before .before .before .before .before .before .args .work .now)
+len3 : (c : lts.After-slice-known4 calls reads.Pre reads.Post) → length (c .before .before .load-added .last .1 .1 .1 .1 .1 .1 .1 .0) ≡ length (c .before .before .before .before .before .before .before .before .before .before .before .before .before .before .before .args .work .now)
 len3 c = omega (arith, len2 (c .before .before .before))
 
 abbrev lent : (c : lts.After-put-map-arg calls reads.Pre reads.Post) → List ℕ
-lent c = take (length (c .before .before .before .before .before .before .before .load-added .last .1 .1 .1 .1 .1 .1 .1 .0) - (10 * c .before .before .before .before .before .before .before .before .before .before .before .before .before .before .before .before .before .before .before .before .before .args .n + 10 * c .before .before .before .before .before .before .before .before .before .before .before .before .before .before .before .before .before .before .before .before .before .args .c)) (drop (10 * c .before .before .before .before .before .before .before .before .before .before .before .before .before .before .before .before .before .before .before .before .before .args .n + 10 * c .before .before .before .before .before .before .before .before .before .before .before .before .before .before .before .before .before .before .before .before .before .args .c) (c .before .before .before .before .before .before .before .load-added .last .1 .1 .1 .1 .1 .1 .1 .0))
+lent c = take (length (c .before .before .before .before .before .before .before .load-added .last .1 .1 .1 .1 .1 .1 .1 .0) - (10 * c .before .before .before .before .before .before .before .before .before .before .before .before .before .before .before .before .before .before .before .before .args .n + 10 * c .before .before .before .before .before .before .before .before .before .before .before .before .before .before .before .before .before .before .before .before .args .c)) (drop (10 * c .before .before .before .before .before .before .before .before .before .before .before .before .before .before .before .before .before .before .before .before .args .n + 10 * c .before .before .before .before .before .before .before .before .before .before .before .before .before .before .before .before .before .before .before .before .args .c) (c .before .before .before .before .before .before .before .load-added .last .1 .1 .1 .1 .1 .1 .1 .0))
 
 lenz : (c : lts.After-put-map-arg calls reads.Pre reads.Post) → length (c .before .before .before .reduce .last .0) ≡ length (lent c)
 lenz c = omega arith
 
 -- the slice with the contraction's words put back
 abbrev back : (c : lts.After-put-map-arg calls reads.Pre reads.Post) → List ℕ
-back c = putMid (10 * c .before .before .before .before .before .before .before .before .before .before .before .before .before .before .before .before .before .before .before .before .before .args .n + 10 * c .before .before .before .before .before .before .before .before .before .before .before .before .before .before .before .before .before .before .before .before .before .args .c) (length (c .before .before .before .before .before .before .before .load-added .last .1 .1 .1 .1 .1 .1 .1 .0) - (10 * c .before .before .before .before .before .before .before .before .before .before .before .before .before .before .before .before .before .before .before .before .before .args .n + 10 * c .before .before .before .before .before .before .before .before .before .before .before .before .before .before .before .before .before .before .before .before .before .args .c)) (c .before .before .before .before .before .before .before .load-added .last .1 .1 .1 .1 .1 .1 .1 .0) (c .before .before .before .reduce .last .0)
+back c = putMid (10 * c .before .before .before .before .before .before .before .before .before .before .before .before .before .before .before .before .before .before .before .before .args .n + 10 * c .before .before .before .before .before .before .before .before .before .before .before .before .before .before .before .before .before .before .before .before .args .c) (length (c .before .before .before .before .before .before .before .load-added .last .1 .1 .1 .1 .1 .1 .1 .0) - (10 * c .before .before .before .before .before .before .before .before .before .before .before .before .before .before .before .before .before .before .before .before .args .n + 10 * c .before .before .before .before .before .before .before .before .before .before .before .before .before .before .before .before .before .before .before .before .args .c)) (c .before .before .before .before .before .before .before .load-added .last .1 .1 .1 .1 .1 .1 .1 .0) (c .before .before .before .reduce .last .0)
 
-len4 : (c : lts.After-put-map-arg calls reads.Pre reads.Post) → length (back c) ≡ length (c .before .before .before .before .before .before .before .before .before .before .before .before .before .before .before .before .before .before .before .before .before .args .work .now)
-len4 c = length-4 (c .before .before .before .before .before .before .before .before .before .before .before .before .before .before .before .before .before .before .before .before .before .pre) (c .before .before .before .before .before .before .before .before .before .before .before .before .before .before .before .before .load-active .ensures) (c .before .before .before .before .before .before .before .before .before .before .before .before .load-edges .ensures) (c .before .before .before .before .before .before .before .load-added .ensures) (len1 (c .before .before .before .before .before .before .before .before .before .before .before .before .before)) (len2 (c .before .before .before .before .before .before .before .before)) (len3 (c .before .before .before .before .before)) (c .before .before .before .reduce .ensures) (lenz (c))
+len4 : (c : lts.After-put-map-arg calls reads.Pre reads.Post) → length (back c) ≡ length (c .before .before .before .before .before .before .before .before .before .before .before .before .before .before .before .before .before .before .before .before .args .work .now)
+len4 c = length-4 (c .before .before .before .before .before .before .before .before .before .before .before .before .before .before .before .before .before .before .before .before .pre .0) (c .before .before .before .before .before .before .before .before .before .before .before .before .before .before .before .load-active .ensures) (c .before .before .before .before .before .before .before .before .before .before .before .load-edges .ensures) (c .before .before .before .before .before .before .before .load-added .ensures) (len1 (c .before .before .before .before .before .before .before .before .before .before .before .before)) (len2 (c .before .before .before .before .before .before .before .before)) (len3 (c .before .before .before .before .before)) (c .before .before .before .reduce .ensures) (lenz (c))
 
-front4 : (c : lts.After-put-map-arg calls reads.Pre reads.Post) → take (10 * c .before .before .before .before .before .before .before .before .before .before .before .before .before .before .before .before .before .before .before .before .before .args .n + 10 * c .before .before .before .before .before .before .before .before .before .before .before .before .before .before .before .before .before .before .before .before .before .args .c) (back c) ≡ take (10 * c .before .before .before .before .before .before .before .before .before .before .before .before .before .before .before .before .before .before .before .before .before .args .n + 10 * c .before .before .before .before .before .before .before .before .before .before .before .before .before .before .before .before .before .before .before .before .before .args .c) (c .before .before .before .before .before .before .before .before .before .before .before .before .before .before .before .before .before .before .before .before .before .args .work .now)
-front4 c = front-4 (c .before .before .before .before .before .before .before .before .before .before .before .before .before .before .before .before .before .before .before .before .before .pre) (c .before .before .before .before .before .before .before .before .before .before .before .before .before .before .before .before .load-active .ensures) (c .before .before .before .before .before .before .before .before .before .before .before .before .load-edges .ensures) (c .before .before .before .before .before .before .before .load-added .ensures) (len1 (c .before .before .before .before .before .before .before .before .before .before .before .before .before)) (len2 (c .before .before .before .before .before .before .before .before)) (len3 (c .before .before .before .before .before)) (c .before .before .before .reduce .ensures) (lenz (c))
+front4 : (c : lts.After-put-map-arg calls reads.Pre reads.Post) → take (10 * c .before .before .before .before .before .before .before .before .before .before .before .before .before .before .before .before .before .before .before .before .args .n + 10 * c .before .before .before .before .before .before .before .before .before .before .before .before .before .before .before .before .before .before .before .before .args .c) (back c) ≡ take (10 * c .before .before .before .before .before .before .before .before .before .before .before .before .before .before .before .before .before .before .before .before .args .n + 10 * c .before .before .before .before .before .before .before .before .before .before .before .before .before .before .before .before .before .before .before .before .args .c) (c .before .before .before .before .before .before .before .before .before .before .before .before .before .before .before .before .before .before .before .before .args .work .now)
+front4 c = front-4 (c .before .before .before .before .before .before .before .before .before .before .before .before .before .before .before .before .before .before .before .before .pre .0) (c .before .before .before .before .before .before .before .before .before .before .before .before .before .before .before .load-active .ensures) (c .before .before .before .before .before .before .before .before .before .before .before .load-edges .ensures) (c .before .before .before .before .before .before .before .load-added .ensures) (len1 (c .before .before .before .before .before .before .before .before .before .before .before .before)) (len2 (c .before .before .before .before .before .before .before .before)) (len3 (c .before .before .before .before .before)) (c .before .before .before .reduce .ensures) (lenz (c))
 
-len5 : (c : lts.After-put-field-arg calls reads.Pre reads.Post) → length (c .before .before .before .put-map .last .0) ≡ length (c .before .before .before .before .before .before .before .before .before .before .before .before .before .before .before .before .before .before .before .before .before .before .before .before .before .args .work .now)
+len5 : (c : lts.After-put-field-arg calls reads.Pre reads.Post) → length (c .before .before .before .put-map .last .0) ≡ length (c .before .before .before .before .before .before .before .before .before .before .before .before .before .before .before .before .before .before .before .before .before .before .before .before .args .work .now)
 len5 c = omega (arith, len4 (c .before .before .before .before))
 
-len6 : (c : lts.After-put-field-arg2 calls reads.Pre reads.Post) → length (c .before .before .before .put-field .last .0) ≡ length (c .before .before .before .before .before .before .before .before .before .before .before .before .before .before .before .before .before .before .before .before .before .before .before .before .before .before .before .before .before .args .work .now)
+len6 : (c : lts.After-put-field-arg2 calls reads.Pre reads.Post) → length (c .before .before .before .put-field .last .0) ≡ length (c .before .before .before .before .before .before .before .before .before .before .before .before .before .before .before .before .before .before .before .before .before .before .before .before .before .before .before .before .args .work .now)
 len6 c = omega (arith, len5 (c .before .before .before .before))
 
 mul-q : tie.Need-mul-q
@@ -85,55 +85,55 @@ mul-count : tie.Need-mul-count
 mul-count c = search needs
 
 load-active-requires : tie.Need-load-active-requires
-load-active-requires c κs = need-active (c .before .before .before .before .pre)
+load-active-requires c κs = need-active (c .before .before .before .before .pre .0)
 
 load-edges-requires : tie.Need-load-edges-requires
-load-edges-requires c κs = need-edges (c .before .before .before .before .before .before .before .before .pre) (c .before .before .before .load-active .last .0) (c .before .before .before .load-active .ensures .front) (len1 c)
+load-edges-requires c κs = need-edges (c .before .before .before .before .before .before .before .before .pre .0) (c .before .before .before .load-active .last .0) (c .before .before .before .load-active .ensures .front) (len1 c)
 
 load-added-requires : tie.Need-load-added-requires
-load-added-requires c κs = need-added (c .before .before .before .before .before .before .before .before .before .before .before .before .before .pre) (c .before .before .before .before .load-edges .last .0) (c .before .before .before .before .load-edges .ensures .edged .front ∙ c .before .before .before .before .before .before .before .before .load-active .ensures .front) (len2 c) (c .before .before .before .before .load-edges .ensures .edged .ends) (c .before .before .before .before .before .before .before .before .before .before .before .before .before .good .1 .1 .1 .1 .1 .1 .1 .1 .0 .1 .0 .1)
+load-added-requires c κs = need-added (c .before .before .before .before .before .before .before .before .before .before .before .before .pre .0) (c .before .before .before .load-edges .last .0) (c .before .before .before .load-edges .ensures .edged .front ∙ c .before .before .before .before .before .before .before .load-active .ensures .front) (len2 c) (c .before .before .before .load-edges .ensures .edged .ends) (c .before .before .before .before .before .before .before .before .before .before .before .before .pre .1)
 
 mul-reduce : tie.Need-mul-reduce
 mul-reduce c = search needs
 
 sub-reduce : tie.Need-sub-reduce
-sub-reduce c = omega (arith, len3 c, c .before .before .before .before .before .before .before .before .before .before .before .before .before .before .before .before .pre .room)
+sub-reduce c = omega (arith, len3 c, c .before .before .before .before .before .before .before .before .before .before .before .before .before .before .before .pre .0 .room)
 
 part-reduce-start : tie.Need-part-reduce-start
-part-reduce-start c = omega (arith, len3 c, c .before .before .before .before .before .before .before .before .before .before .before .before .before .before .before .before .pre .room)
+part-reduce-start c = omega (arith, len3 c, c .before .before .before .before .before .before .before .before .before .before .before .before .before .before .before .pre .0 .room)
 
 part-reduce-end : tie.Need-part-reduce-end
 part-reduce-end c = search needs
 
 reduce-requires : tie.Need-reduce-requires
-reduce-requires c κs = loaded (c .before .before .before .before .before .before .before .before .before .before .before .before .before .before .before .before .before .pre) (c .before .before .before .before .before .before .before .before .before .before .before .before .load-active .ensures) (c .before .before .before .before .before .before .before .before .load-edges .ensures) (c .before .before .before .load-added .ensures) (len1 (c .before .before .before .before .before .before .before .before .before)) (len2 (c .before .before .before .before)) (len3 (c .before))
+reduce-requires c κs = loaded (c .before .before .before .before .before .before .before .before .before .before .before .before .before .before .before .before .pre .0) (c .before .before .before .before .before .before .before .before .before .before .before .load-active .ensures) (c .before .before .before .before .before .before .before .load-edges .ensures) (c .before .before .before .load-added .ensures) (len1 (c .before .before .before .before .before .before .before .before)) (len2 (c .before .before .before .before)) (len3 (c .before))
 
 mul-low : tie.Need-mul-low
-mul-low c = search needs
+mul-low c = let r = c .before .before .before .before .before .before .before .before .before .before .before .before .before .before .before .before .before .before .before .pre .0 in omega (arith, r .starts, r .ends, r .much)
 
 add-low : tie.Need-add-low
-add-low c = search needs
+add-low c = let r = c .before .before .before .before .before .before .before .before .before .before .before .before .before .before .before .before .before .before .before .pre .0 in omega (arith, r .starts, r .ends, r .much)
 
 mul-high : tie.Need-mul-high
-mul-high c = search needs
+mul-high c = let r = c .before .before .before .before .before .before .before .before .before .before .before .before .before .before .before .before .before .before .before .pre .0 in omega (arith, r .starts, r .ends, r .much)
 
 add-high : tie.Need-add-high
-add-high c = search needs
+add-high c = let r = c .before .before .before .before .before .before .before .before .before .before .before .before .before .before .before .before .before .before .before .pre .0 in omega (arith, r .starts, r .ends, r .much)
 
 put-map-requires : tie.Need-put-map-requires
-put-map-requires c κs = need-map (c .before .before .before .before .before .before .before .before .before .before .before .before .before .before .before .before .before .before .before .before .before .pre) (back c) (front4 c) (len4 c)
+put-map-requires c κs = need-map (c .before .before .before .before .before .before .before .before .before .before .before .before .before .before .before .before .before .before .before .before .pre .0) (back c) (front4 c) (len4 c)
 
 put-field-requires : tie.Need-put-field-requires
-put-field-requires c κs = let f = few-out (c .before .before .before .before .before .before .before .before .before .before .before .before .before .before .before .before .before .before .before .before .before .before .before .before .before .pre) (c .before .before .before .before .before .before .before .before .before .before .before .before .before .before .before .before .before .before .before .before .load-active .ensures) (c .before .before .before .before .before .before .before .before .before .before .before .before .before .before .before .before .load-edges .ensures) (c .before .before .before .before .before .before .before .before .before .before .before .load-added .ensures) (len1 (c .before .before .before .before .before .before .before .before .before .before .before .before .before .before .before .before .before)) (len2 (c .before .before .before .before .before .before .before .before .before .before .before .before)) (len3 (c .before .before .before .before .before .before .before .before .before)) (c .before .before .before .before .before .before .before .reduce .ensures) (lenz (c .before .before .before .before)) in let l = low-out (c .before .before .before .before .before .before .before .before .before .before .before .before .before .before .before .before .before .before .before .before .before .before .before .before .before .pre) (c .before .before .before .before .before .before .before .before .before .before .before .before .before .before .before .before .before .before .before .before .load-active .ensures) (c .before .before .before .before .before .before .before .before .before .before .before .before .before .before .before .before .load-edges .ensures) (c .before .before .before .before .before .before .before .before .before .before .before .load-added .ensures) (len1 (c .before .before .before .before .before .before .before .before .before .before .before .before .before .before .before .before .before)) (len2 (c .before .before .before .before .before .before .before .before .before .before .before .before)) (len3 (c .before .before .before .before .before .before .before .before .before)) (c .before .before .before .before .before .before .before .reduce .ensures) (lenz (c .before .before .before .before)) in (omega arith, omega arith, omega (arith, len5 c, c .before .before .before .before .before .before .before .before .before .before .before .before .before .before .before .before .before .before .before .before .before .before .before .before .before .pre .room))
+put-field-requires c κs = let f = few-out (c .before .before .before .before .before .before .before .before .before .before .before .before .before .before .before .before .before .before .before .before .before .before .before .before .pre .0) (c .before .before .before .before .before .before .before .before .before .before .before .before .before .before .before .before .before .before .before .load-active .ensures) (c .before .before .before .before .before .before .before .before .before .before .before .before .before .before .before .load-edges .ensures) (c .before .before .before .before .before .before .before .before .before .before .before .load-added .ensures) (len1 (c .before .before .before .before .before .before .before .before .before .before .before .before .before .before .before .before)) (len2 (c .before .before .before .before .before .before .before .before .before .before .before .before)) (len3 (c .before .before .before .before .before .before .before .before .before)) (c .before .before .before .before .before .before .before .reduce .ensures) (lenz (c .before .before .before .before)) in let l = low-out (c .before .before .before .before .before .before .before .before .before .before .before .before .before .before .before .before .before .before .before .before .before .before .before .before .pre .0) (c .before .before .before .before .before .before .before .before .before .before .before .before .before .before .before .before .before .before .before .load-active .ensures) (c .before .before .before .before .before .before .before .before .before .before .before .before .before .before .before .load-edges .ensures) (c .before .before .before .before .before .before .before .before .before .before .before .load-added .ensures) (len1 (c .before .before .before .before .before .before .before .before .before .before .before .before .before .before .before .before)) (len2 (c .before .before .before .before .before .before .before .before .before .before .before .before)) (len3 (c .before .before .before .before .before .before .before .before .before)) (c .before .before .before .before .before .before .before .reduce .ensures) (lenz (c .before .before .before .before)) in (omega arith, omega arith, omega (arith, len5 c, c .before .before .before .before .before .before .before .before .before .before .before .before .before .before .before .before .before .before .before .before .before .before .before .before .pre .0 .room))
 
 put-field-requires-2 : tie.Need-put-field-requires-2
-put-field-requires-2 c κs = let f = few-out (c .before .before .before .before .before .before .before .before .before .before .before .before .before .before .before .before .before .before .before .before .before .before .before .before .before .before .before .before .before .pre) (c .before .before .before .before .before .before .before .before .before .before .before .before .before .before .before .before .before .before .before .before .before .before .before .before .load-active .ensures) (c .before .before .before .before .before .before .before .before .before .before .before .before .before .before .before .before .before .before .before .before .load-edges .ensures) (c .before .before .before .before .before .before .before .before .before .before .before .before .before .before .before .load-added .ensures) (len1 (c .before .before .before .before .before .before .before .before .before .before .before .before .before .before .before .before .before .before .before .before .before)) (len2 (c .before .before .before .before .before .before .before .before .before .before .before .before .before .before .before .before)) (len3 (c .before .before .before .before .before .before .before .before .before .before .before .before .before)) (c .before .before .before .before .before .before .before .before .before .before .before .reduce .ensures) (lenz (c .before .before .before .before .before .before .before .before)) in let l = low-out (c .before .before .before .before .before .before .before .before .before .before .before .before .before .before .before .before .before .before .before .before .before .before .before .before .before .before .before .before .before .pre) (c .before .before .before .before .before .before .before .before .before .before .before .before .before .before .before .before .before .before .before .before .before .before .before .before .load-active .ensures) (c .before .before .before .before .before .before .before .before .before .before .before .before .before .before .before .before .before .before .before .before .load-edges .ensures) (c .before .before .before .before .before .before .before .before .before .before .before .before .before .before .before .load-added .ensures) (len1 (c .before .before .before .before .before .before .before .before .before .before .before .before .before .before .before .before .before .before .before .before .before)) (len2 (c .before .before .before .before .before .before .before .before .before .before .before .before .before .before .before .before)) (len3 (c .before .before .before .before .before .before .before .before .before .before .before .before .before)) (c .before .before .before .before .before .before .before .before .before .before .before .reduce .ensures) (lenz (c .before .before .before .before .before .before .before .before)) in (omega arith, omega arith, omega (arith, len6 c, c .before .before .before .before .before .before .before .before .before .before .before .before .before .before .before .before .before .before .before .before .before .before .before .before .before .before .before .before .before .pre .room))
+put-field-requires-2 c κs = let f = few-out (c .before .before .before .before .before .before .before .before .before .before .before .before .before .before .before .before .before .before .before .before .before .before .before .before .before .before .before .before .pre .0) (c .before .before .before .before .before .before .before .before .before .before .before .before .before .before .before .before .before .before .before .before .before .before .before .load-active .ensures) (c .before .before .before .before .before .before .before .before .before .before .before .before .before .before .before .before .before .before .before .load-edges .ensures) (c .before .before .before .before .before .before .before .before .before .before .before .before .before .before .before .load-added .ensures) (len1 (c .before .before .before .before .before .before .before .before .before .before .before .before .before .before .before .before .before .before .before .before)) (len2 (c .before .before .before .before .before .before .before .before .before .before .before .before .before .before .before .before)) (len3 (c .before .before .before .before .before .before .before .before .before .before .before .before .before)) (c .before .before .before .before .before .before .before .before .before .before .before .reduce .ensures) (lenz (c .before .before .before .before .before .before .before .before)) in let l = low-out (c .before .before .before .before .before .before .before .before .before .before .before .before .before .before .before .before .before .before .before .before .before .before .before .before .before .before .before .before .pre .0) (c .before .before .before .before .before .before .before .before .before .before .before .before .before .before .before .before .before .before .before .before .before .before .before .load-active .ensures) (c .before .before .before .before .before .before .before .before .before .before .before .before .before .before .before .before .before .before .before .load-edges .ensures) (c .before .before .before .before .before .before .before .before .before .before .before .before .before .before .before .load-added .ensures) (len1 (c .before .before .before .before .before .before .before .before .before .before .before .before .before .before .before .before .before .before .before .before)) (len2 (c .before .before .before .before .before .before .before .before .before .before .before .before .before .before .before .before)) (len3 (c .before .before .before .before .before .before .before .before .before .before .before .before .before)) (c .before .before .before .before .before .before .before .before .before .before .before .reduce .ensures) (lenz (c .before .before .before .before .before .before .before .before)) in (omega arith, omega arith, omega (arith, len6 c, c .before .before .before .before .before .before .before .before .before .before .before .before .before .before .before .before .before .before .before .before .before .before .before .before .before .before .before .before .pre .0 .room))
 
 same-length : tie.Need-same-length
-same-length c = length-7 (c .before .before .before .before .before .before .before .before .before .before .before .before .before .before .before .before .before .before .before .before .before .before .before .before .before .before .before .before .before .before .before .before .pre) (c .before .before .before .before .before .before .before .before .before .before .before .before .before .before .before .before .before .before .before .before .before .before .before .before .before .before .before .load-active .ensures) (c .before .before .before .before .before .before .before .before .before .before .before .before .before .before .before .before .before .before .before .before .before .before .before .load-edges .ensures) (c .before .before .before .before .before .before .before .before .before .before .before .before .before .before .before .before .before .before .load-added .ensures) (len1 (c .before .before .before .before .before .before .before .before .before .before .before .before .before .before .before .before .before .before .before .before .before .before .before .before)) (len2 (c .before .before .before .before .before .before .before .before .before .before .before .before .before .before .before .before .before .before .before)) (len3 (c .before .before .before .before .before .before .before .before .before .before .before .before .before .before .before .before)) (c .before .before .before .before .before .before .before .before .before .before .before .before .before .before .reduce .ensures) (lenz (c .before .before .before .before .before .before .before .before .before .before .before)) (c .before .before .before .before .before .before .before .before .before .before .put-map .ensures) (c .before .before .before .before .before .before .put-field .ensures) (c .before .before .put-field2 .ensures)
+same-length c = length-7 (c .before .before .before .before .before .before .before .before .before .before .before .before .before .before .before .before .before .before .before .before .before .before .before .before .before .before .before .before .before .before .before .pre .0) (c .before .before .before .before .before .before .before .before .before .before .before .before .before .before .before .before .before .before .before .before .before .before .before .before .before .before .load-active .ensures) (c .before .before .before .before .before .before .before .before .before .before .before .before .before .before .before .before .before .before .before .before .before .before .load-edges .ensures) (c .before .before .before .before .before .before .before .before .before .before .before .before .before .before .before .before .before .before .load-added .ensures) (len1 (c .before .before .before .before .before .before .before .before .before .before .before .before .before .before .before .before .before .before .before .before .before .before .before)) (len2 (c .before .before .before .before .before .before .before .before .before .before .before .before .before .before .before .before .before .before .before)) (len3 (c .before .before .before .before .before .before .before .before .before .before .before .before .before .before .before .before)) (c .before .before .before .before .before .before .before .before .before .before .before .before .before .before .reduce .ensures) (lenz (c .before .before .before .before .before .before .before .before .before .before .before)) (c .before .before .before .before .before .before .before .before .before .before .put-map .ensures) (c .before .before .before .before .before .before .put-field .ensures) (c .before .before .put-field2 .ensures)
 
 returns : tie.Need-returns
-returns c = stepped (c .before .before .before .before .before .before .before .before .before .before .before .before .before .before .before .before .before .before .before .before .before .before .before .before .before .before .before .before .before .before .before .before .pre) (c .before .before .before .before .before .before .before .before .before .before .before .before .before .before .before .before .before .before .before .before .before .before .before .before .before .before .before .load-active .ensures) (c .before .before .before .before .before .before .before .before .before .before .before .before .before .before .before .before .before .before .before .before .before .before .before .load-edges .ensures) (c .before .before .before .before .before .before .before .before .before .before .before .before .before .before .before .before .before .before .load-added .ensures) (len1 (c .before .before .before .before .before .before .before .before .before .before .before .before .before .before .before .before .before .before .before .before .before .before .before .before)) (len2 (c .before .before .before .before .before .before .before .before .before .before .before .before .before .before .before .before .before .before .before)) (len3 (c .before .before .before .before .before .before .before .before .before .before .before .before .before .before .before .before)) (c .before .before .before .before .before .before .before .before .before .before .before .before .before .before .reduce .ensures) (lenz (c .before .before .before .before .before .before .before .before .before .before .before)) (c .before .before .before .before .before .before .before .before .before .before .put-map .ensures) (c .before .before .before .before .before .before .put-field .ensures) (c .before .before .put-field2 .ensures)
+returns c = stepped (c .before .before .before .before .before .before .before .before .before .before .before .before .before .before .before .before .before .before .before .before .before .before .before .before .before .before .before .before .before .before .before .pre .0) (c .before .before .before .before .before .before .before .before .before .before .before .before .before .before .before .before .before .before .before .before .before .before .before .before .before .before .load-active .ensures) (c .before .before .before .before .before .before .before .before .before .before .before .before .before .before .before .before .before .before .before .before .before .before .load-edges .ensures) (c .before .before .before .before .before .before .before .before .before .before .before .before .before .before .before .before .before .before .load-added .ensures) (len1 (c .before .before .before .before .before .before .before .before .before .before .before .before .before .before .before .before .before .before .before .before .before .before .before)) (len2 (c .before .before .before .before .before .before .before .before .before .before .before .before .before .before .before .before .before .before .before)) (len3 (c .before .before .before .before .before .before .before .before .before .before .before .before .before .before .before .before)) (c .before .before .before .before .before .before .before .before .before .before .before .before .before .before .reduce .ensures) (lenz (c .before .before .before .before .before .before .before .before .before .before .before)) (c .before .before .before .before .before .before .before .before .before .before .put-map .ensures) (c .before .before .before .before .before .before .put-field .ensures) (c .before .before .put-field2 .ensures)
 
 pub step-spec : {M : Type 1} → statement M
 step-spec =
