@@ -258,7 +258,3 @@ module _ (E : List Edge) (S : List ℕ) (h : ℕ) (H : List Edge) (ρ σ : ℕ �
   -- ---- the small cuts are the same
   pub small-cuts : SameCuts (λ v. ltb v h) ρ H E
   small-cuts = record { down = small-down E S h H ρ σ g; up = up }
-
-  -- C: kept nodes that are joined are joined in H
-  pub small-connected : (i j : ℕ) → i < h → j < h → Connected E (ρ i) (ρ j) → Connected H i j
-  small-connected i j li lj ij (X, p, q, c) = omega (arith, step-cross X i j (step X i j li lj p q ij))

@@ -13,7 +13,7 @@ use borrow.Author.Tests.{lt-ltb}
 use Rattle.graph.proofs.Booleans.{onBool}
 use Rattle.graph.proofs.CutOffs.{IsAnswer}
 use Rattle.graph.proofs.Cuts.{closed-all, cut-agree, cut-append, cut-image}
-use Rattle.graph.proofs.Ends.{endsIn-append, endsIn-closed, endsIn-image}
+use Rattle.graph.proofs.Ends.{endsIn-closed}
 use Rattle.graph.proofs.Lifting.{small-cuts}
 use Rattle.graph.proofs.Lists.{member-mem}
 use Rattle.graph.proofs.Separation.{insep-refl, insep-sym, same-side}
@@ -105,9 +105,6 @@ module _ (E : List Edge) (S : List ℕ) (h : ℕ) (H : List Edge) (ρ σ : ℕ �
 
   pub in-N : (a : ℕ) → List·Memᴰ a S → N (σ a) ≡ true
   in-N a m = lt-ltb (σ a) h (g .place a m .0)
-
-  pub add-carries : Carries EF S h HF ρ σ
-  add-carries = record { cuts = cuts-add; place = λ a m. (g .place a m .0, home a m); inside = endsIn-append N H (image σ F) (g .inside) (endsIn-image (member S) N σ F w (λ v m. in-N v (member-mem S v m))) }
 
   -- ---- the answers: active nodes have the answers of their places
   pub answer-transfer : (a b r : ℕ) → List·Memᴰ a S → List·Memᴰ b S → IsAnswer EF a b r ↔ IsAnswer HF (σ a) (σ b) r
