@@ -1,19 +1,19 @@
--- Laws of loading: the different entries of a list that grows by one entry, a node entered as active, an edge stored, and marks that are cleared.
+-- Laws of loading: the different entries of a list that grows by one entry, marks cleared, a node entered as active, and an edge stored.
 -- Assumes nothing.
 use Prim.Native.Nat.{_%_, _*_, _+_, _-_, _/_, _<_, _≤_, suc, zero, ℕ}
 use mathlib.Core.Bool.{Bool, _||_, cond, false, not, or-true, true}
 use mathlib.Core.List.{List, List·Memᴰ, [], _++_, _∷_}
 use mathlib.Core.Path.{_∙_, _≡_, ap, ap₂, refl, subst, sym}
 use lib.Dec.{eqb}
-use lib.ListN.{getD, getD-replicate, length, length-replicate, replicate}
+use lib.ListN.{getD, length}
 use native.Mathlib.Omega.{arith}
 use borrow.Author.Tests.{eq-eqb, eqb-false, eqb-true, ne-eqb}
 use Rattle.graph.proofs.ActiveLists.{in-firsts}
 use Rattle.graph.proofs.Booleans.{contradict, onBool}
 use Rattle.graph.proofs.Lists.{All, Pairwise, all-filter, filter-all, filter-length, firsts-in, firsts-pairwise, mem-member, member-mem, pairwise-filter, table-all, table-in, table-length, table-mem}
-use Rattle.graph.proofs.TableLaws.{over-front, table-equal, table-more}
-use Rattle.graph.specs.Lists.{filter, firsts, member, over, table}
-use Rattle.loading.specs.Loading.{Entered, Entering, Past, PutEdge}
+use Rattle.graph.proofs.TableLaws.{table-equal, table-more}
+use Rattle.graph.specs.Lists.{filter, firsts, member, table}
+use Rattle.loading.specs.Loading.{Entered, Entering, Past, PutEdge, Unmarked}
 use Rattle.words.proofs.FieldLaws.{update-at, update-other, update-same}
 use Rattle.words.specs.Fields.{Put, PutHalf, half, node, update}
 
@@ -158,6 +158,24 @@ halves-past n a b f i l =
     let e : 16 * n + 2 * 0 + (i - 16 * n) ≡ i = omega arith in
     ap (λ j. getD b j 0) (sym e) ∙ ap (λ (h : ℕ → ℕ). h 0) (f (i - 16 * n)) ∙ ap (λ j. getD a j 0) e
 
+-- in a loop: the marks of the nodes below v are cleared
+pub record Clearing (n v : ℕ) (a b : List ℕ) : Type 0 where
+  pub low : v ≤ n
+  pub same : length b ≡ length a
+  pub past : Past (16 * n) a b
+  pub none : Unmarked v b
+
+pub clearing-none : (n : ℕ) (a : List ℕ) → Clearing n 0 a a
+clearing-none n a = record { low = omega arith; same = refl; past = λ i l. refl; none = λ u l. absurd (omega arith) }
+
+pub clearing-more : {n v : ℕ} {a b c : List ℕ} → Clearing n v a b → v < n → Put 0 v 0 b c → Clearing n (v + 1) a c
+clearing-more {n} {v} {a} {b} {c} k l p = record {
+  low = omega arith;
+  same = p .same ∙ k .same;
+  past = λ i u. halves-past n b c (λ j. p .halves n l j) i u ∙ k .past i u;
+  none = rw (p .here) (update-at (λ u x. u < v + 1 → x ≡ 0) (node 0 b) v 0 (λ _. refl) (λ u ne h. k .none u (omega arith)));
+}
+
 -- a node that has its mark already
 pub entering-again : {n d v : ℕ} {a : List ℕ} → v < n → 0 < node 0 a v → Entering n d v a a d
 entering-again l p = record { same = refl; past = λ i k. refl; more = λ S g. entered-again g l p }
@@ -201,10 +219,3 @@ put-edge n j a b {w} {w₁} {w₂} p q =
     other k h i l = onBool (eqb k 0)
         (λ e. let z = eqb-true k 0 e in rw z (far h (λ r. omega arith) (λ r. omega arith)))
         (λ e. ap (λ (f : ℕ → ℕ). f h) (q .else k i (eqb-false k 0 e) ∙ p .else k i (eqb-false k 0 e)))
-
--- ---- marks that are cleared
-pub zeros-marks : (n : ℕ) (w : List ℕ) → 16 * n ≤ length w → (v : ℕ) → v < n → node 0 (over (replicate (16 * n) 0) w) v ≡ 0
-unfolding node
-zeros-marks n w l v i =
-    let e = length-replicate (16 * n) (zero) in
-    over-front (replicate (16 * n) 0) w (16 * v + 0) (omega arith) ∙ getD-replicate (16 * n) (16 * v + 0) 0 0 (omega arith)

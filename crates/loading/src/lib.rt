@@ -1,9 +1,20 @@
-// One active node and one edge put into the words that the contraction takes, for the public call and for the replay's step alike.
+// Marks cleared, and one active node and one edge put into the words that the contraction takes, for the public call and for the replay's step alike.
 ghost use mathlib.Core.List.{List};
 ghost use Prim.Native.Nat.{ℕ, _+_, _*_, _<_, _≤_};
 ghost use lib.ListN.{length};
 ghost use Rattle.words.specs.Fields.{node};
-ghost use Rattle.loading.specs.Loading.{Entered, Entering, PutEdge};
+ghost use Rattle.loading.specs.Loading.{Cleared, Entered, Entering, PutEdge};
+
+// Internal: clears the marks of n nodes, field 0.
+pub fn clear_marks(work: &mut [u32], n: usize)
+    requires { ⌜ (16 * n ≤ length (now work)) × (n ≤ 65536) ⌝ }
+    ensures { λ _. ⌜ Cleared n (now (work .entry)) (now (work .exit)) ⌝ }
+{
+    // The nodes below v have no mark.
+    for v in 0..n {
+        words::put(work, v, 0, 0);
+    }
+}
 
 // Internal: enters v, where it is not entered yet; the new count of different active nodes.
 pub fn enter(work: &mut [u32], n: usize, d: usize, v: usize) -> usize

@@ -3,16 +3,15 @@
 use Prim.Native.Nat.{_*_, _+_, _-_, _<_, _≤_, ℕ}
 use mathlib.Core.List.{List, [], _++_, _∷_}
 use mathlib.Core.Path.{_∙_, _≡_, ap, refl, sym}
-use lib.ListN.{drop, getD, length, length-drop, length-take, replicate, take}
+use lib.ListN.{drop, getD, length, length-drop, length-take, take}
 use lib.Seq.{getD-drop, take-suc}
 use native.Mathlib.Numerals.{add-one}
 use native.Mathlib.Omega.{arith}
 use borrow.Rule.Slice.PartMut.{putMid, same-len-mid, take-put}
-use Rattle.graph.specs.Lists.{over}
 use Rattle.step.proofs.WordLaws.{drop-back, front-get, mid-less, take-whole}
-use Rattle.loading.proofs.LoadingLaws.{entered-none, zeros-marks}
-use Rattle.loading.specs.Loading.{Entered, Entering}
-use Rattle.step.specs.Load.{ActiveReady, Actives, Cleared}
+use Rattle.loading.proofs.LoadingLaws.{entered-none}
+use Rattle.loading.specs.Loading.{Cleared, Entered, Entering, Unmarked}
+use Rattle.step.specs.Load.{ActiveReady, Actives}
 use Rattle.words.specs.Fields.{node}
 
 -- ---- the loop: i words so far
@@ -23,7 +22,7 @@ pub record EnteredSoFar (from count s n : ℕ) (w z : List ℕ) (k i : ℕ) : Ty
   pub entered : Entered n (take i (drop from w)) k (node 0 (drop s z)) (node 1 (drop s z))
 
 abbrev pub Needs : ℕ → ℕ → ℕ → ℕ → List ℕ → Type 0
-Needs from count s n w = ActiveReady from count s n w × Cleared n (drop s w)
+Needs from count s n w = ActiveReady from count s n w × Unmarked n (drop s w)
 
 pub entering-none : (from count s n : ℕ) (w : List ℕ) → Needs from count s n w → EnteredSoFar from count s n w w 0 0
 entering-none from count s n w q =
@@ -31,7 +30,7 @@ entering-none from count s n w q =
       low = omega arith;
       long = refl;
       front = refl;
-      entered = entered-none (node 0 (drop s w)) (node 1 (drop s w)) (q .1 .none);
+      entered = entered-none (node 0 (drop s w)) (node 1 (drop s w)) (q .1);
     }
 
 module _ {from count s n k i : ℕ} {w z : List ℕ} (q : Needs from count s n w) (e : EnteredSoFar from count s n w z k i) (l : i < count) where
@@ -69,11 +68,10 @@ after-clear {from} {count} {s} {n} {k} w zs {z} h u b a =
     record { front = a .front ∙ f; entered = rw (← mid-less from count s w c b (omega arith) (omega arith) f) (a .entered) }
 
 -- after clearing, nothing is entered
-pub clear-need : (from count s n : ℕ) (w zs : List ℕ) → ActiveReady from count s n w
-    → zs ≡ over (replicate (16 * n) 0) (take (length w - s) (drop s w)) → length zs ≡ length (take (length w - s) (drop s w)) → Needs from count s n (putMid s (length w - s) w zs)
-clear-need from count s n w zs q c u =
+pub clear-need : (from count s n : ℕ) (w zs : List ℕ) → ActiveReady from count s n w → Cleared n (take (length w - s) (drop s w)) zs → Needs from count s n (putMid s (length w - s) w zs)
+clear-need from count s n w zs q c =
     let h : s ≤ length w = omega arith in
-    let lc = same-len-mid s (length w - s) w zs u in (
+    let lc = same-len-mid s (length w - s) w zs (c .same) in (
       record { front = q .front; room = omega (arith, lc, q .room); many = q .many; nodes = λ i l. rw (front-get s (from + i) w (putMid s (length w - s) w zs) (take-put s (length w - s) w zs h) (omega arith)) (q .nodes i l) },
-      rw (drop-back s w zs h, c) (record { none = zeros-marks n (take (length w - s) (drop s w)) (rw (length-take, length-drop) (omega (arith, q .room))) }),
+      rw (drop-back s w zs h) (c .unmarked),
     )

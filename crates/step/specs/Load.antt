@@ -16,10 +16,6 @@ use Rattle.timeline.specs.Events.{Event, SegmentSet, closes, ends, opens}
 use Rattle.words.specs.Fields.{half, node}
 
 -- ---- active nodes
--- field 0 of n nodes is 0
-pub record Cleared (n : ℕ) (w : List ℕ) : Type 0 where
-  pub none : (v : ℕ) → v < n → node 0 w v ≡ 0
-
 -- the nodes at the `count` words from `from` on, before s, are nodes of a graph that has n and whose words stand from s on
 pub record ActiveReady (from count s n : ℕ) (w : List ℕ) : Type 0 where
   pub front : from + count ≤ s

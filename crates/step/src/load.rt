@@ -1,11 +1,12 @@
 // Loads the contraction's words, which stand behind the areas of a window and its part: the active nodes, and the edges of the window's graph.
 ghost use Prim.Native.Nat.{_+_, _*_, _<_};
 ghost use lib.ListN.{drop};
-ghost use Rattle.step.specs.Load.{ActiveReady, Actives, Cleared, Copied, EdgesReady};
+ghost use Rattle.loading.specs.Loading.{Unmarked};
+ghost use Rattle.step.specs.Load.{ActiveReady, Actives, Copied, EdgesReady};
 
 // Enters the nodes that stand at the `count` words from `from` on, where none is entered yet.
 pub(crate) fn enter_all(work: &mut [u32], from: usize, count: usize, s: usize, n: usize) -> usize
-    requires { ⌜ ActiveReady from count s n (now work) × Cleared n (drop s (now work)) ⌝ }
+    requires { ⌜ ActiveReady from count s n (now work) × Unmarked n (drop s (now work)) ⌝ }
     ensures { λ r. ⌜ Actives from count s n (now (work .entry)) (now (work .exit)) r ⌝ }
 {
     let mut k: usize = 0;
@@ -24,7 +25,7 @@ pub(crate) fn load_active(work: &mut [u32], from: usize, count: usize, s: usize,
     requires { ⌜ ActiveReady from count s n (now work) ⌝ }
     ensures { λ r. ⌜ Actives from count s n (now (work .entry)) (now (work .exit)) r ⌝ }
 {
-    words::clear(&mut work[s..], 16 * n);
+    loading::clear_marks(&mut work[s..], n);
     enter_all(work, from, count, s, n)
 }
 

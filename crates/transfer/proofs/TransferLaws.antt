@@ -1,18 +1,17 @@
 -- Laws of loading a graph: all active entries entered, the ends of all edges stored, and all that is loaded.
 -- Assumes nothing.
-use Prim.Native.Nat.{_%_, _*_, _+_, _-_, _/_, _<_, _≤_, zero, ℕ}
+use Prim.Native.Nat.{_%_, _*_, _+_, _-_, _/_, _<_, _≤_, ℕ}
 use mathlib.Core.List.{List, [], _++_, _∷_}
 use mathlib.Core.Path.{_∙_, _≡_, ap, ap₂, refl, subst, sym}
 use lib.Dec.{eqb}
-use lib.ListN.{getD, length, length-replicate, replicate, take}
+use lib.ListN.{getD, length, take}
 use native.Mathlib.Omega.{arith}
 use borrow.Author.Tests.{eqb-false, eqb-true}
-use Rattle.graph.proofs.TableLaws.{over-length, over-past, pairs-table, table-equal}
+use Rattle.graph.proofs.TableLaws.{pairs-table, table-equal}
 use Rattle.transfer.specs.Transfer.{Edges, Entries, Loadable, Prepared}
 use Rattle.graph.proofs.Booleans.{onBool}
-use Rattle.loading.proofs.LoadingLaws.{entered-most, entered-none, zeros-marks}
-use Rattle.loading.specs.Loading.{Entering, Past, PutEdge}
-use Rattle.graph.specs.Lists.{over}
+use Rattle.loading.proofs.LoadingLaws.{entered-most, entered-none}
+use Rattle.loading.specs.Loading.{Cleared, Entering, PutEdge}
 use Rattle.words.specs.Fields.{half, node}
 
 pub entries-none : {n : ℕ} (w : List ℕ) → ((v : ℕ) → v < n → node 0 w v ≡ 0) → Entries n [] w w 0
@@ -41,19 +40,10 @@ edges-more {n} {m} {s} {from} {to} {a} {w} {z} l g p = record {
 }
 
 -- ---- all that is loaded
-module _ {n m k : ℕ} {from to active w₀ w₁ : List ℕ} (c : Loadable n m k from to active w₀) (z : w₁ ≡ over (replicate (16 * n) 0) w₀) where
-  pub cleared-length : length w₁ ≡ length w₀
-  cleared-length = ap length z ∙ over-length (replicate (16 * n) 0) w₀ (omega (arith, length-replicate (16 * n) (zero), c .room))
-
-  pub cleared-marks : (v : ℕ) → v < n → node 0 w₁ v ≡ 0
-  cleared-marks v i = ap (λ (w : List ℕ). node 0 w v) z ∙ zeros-marks n w₀ (omega (arith, c .room)) v i
-
-  cleared-past : Past (16 * n) w₀ w₁
-  cleared-past i l = ap (λ (w : List ℕ). getD w i 0) z ∙ over-past (replicate (16 * n) 0) w₀ i (omega (arith, length-replicate (16 * n) (zero)))
-
+module _ {n m k : ℕ} {from to active w₀ w₁ : List ℕ} (c : Loadable n m k from to active w₀) (z : Cleared n w₀ w₁) where
   module _ {d : ℕ} {w₂ w₃ : List ℕ} (g : Entries n (take k active) w₁ w₂ d) (l : Edges n m from to w₂ w₃ m) where
     same : length w₃ ≡ length w₀
-    same = l .same ∙ g .same ∙ cleared-length
+    same = l .same ∙ g .same ∙ z .same
 
     less : d ≤ n
     less = entered-most (g .entered)
@@ -74,7 +64,7 @@ module _ {n m k : ℕ} {from to active w₀ w₁ : List ℕ} (c : Loadable n m k
     pub prepared : Prepared n m k from to active w₀ w₃ d
     prepared = record {
       same = same;
-      past = λ i j. l .past i j ∙ g .past i (omega arith) ∙ cleared-past i (omega arith);
+      past = λ i j. l .past i j ∙ g .past i (omega arith) ∙ z .past i (omega arith);
       loaded = record {
         few = c .few;
         much = c .much;

@@ -44,7 +44,7 @@ pub fn load(
     requires { ⌜ Loadable n m k (now from) (now to) (now active) (now work) ⌝ }
     ensures { λ r. ⌜ Prepared n m k (now (from .entry)) (now (to .entry)) (now (active .entry)) (now (work .entry)) (now (work .exit)) r ⌝ }
 {
-    words::clear(work, 16 * n);
+    loading::clear_marks(work, n);
     let d = enter_active(work, n, k, active);
     load_edges(work, n, m, from, to);
     d
