@@ -3,7 +3,6 @@ use crate::graphs;
 use crate::graphs::Graph;
 use slow::random;
 
-// One end of edge i. The kinds: any edges; a tree; rings; a tree with each edge twice; pieces; three centres in a row, with leaves; a ring of three, with leaves.
 fn tree_end(s: usize, n: usize, i: usize, side: usize) -> usize {
     if side == 0 {
         return random::round(i % 16 + 1, n);
@@ -35,6 +34,7 @@ fn leaf_end(s: usize, n: usize, i: usize, side: usize) -> usize {
     random::at(s, side, i, n) % 3
 }
 
+// One end of edge i. The kinds: any edges; a tree; rings; a tree with each edge twice; pieces; three centres in a row, with leaves; a ring of three, with leaves.
 fn end(kind: usize, s: usize, n: usize, i: usize, side: usize) -> usize {
     if kind == 1 {
         return tree_end(s, n, i, side);

@@ -5,7 +5,6 @@ use slow::tables::Table;
 use slow_replay::lists;
 use slow_replay::lists::List;
 
-// One end of segment i. The kinds: any segments; a ring; a ring with each segment twice; a tree; three centres in a row with leaves; a ring with a loop at each junction.
 fn ring_end(n: usize, i: usize, side: usize) -> usize {
     random::round(i % 512 + side % 2, n)
 }
@@ -34,6 +33,7 @@ fn loop_end(n: usize, i: usize, side: usize) -> usize {
     ring_end(n, i / 2, 0)
 }
 
+// One end of segment i. The kinds: any segments; a ring; a ring with each segment twice; a tree; three centres in a row with leaves; a ring with a loop at each junction.
 fn end(kind: usize, s: usize, n: usize, i: usize, side: usize) -> usize {
     if kind == 1 {
         return ring_end(n, i, side);
@@ -110,8 +110,7 @@ fn make_events(l: &mut List, s: usize) {
     }
 }
 
-// The list of a kind and a seed with sizes up to these. Without junctions there is no segment and no event. Half of the lists have as many events as they may.
-// Entries past the sizes would be refused if they were read.
+// Half of the lists have as many events as they may.
 fn events_of(s: usize, t: usize) -> usize {
     if s / 64 % 2 == 0 {
         return t;
@@ -119,6 +118,7 @@ fn events_of(s: usize, t: usize) -> usize {
     random::at(s, 9, 0, t)
 }
 
+// Without junctions there is no segment and no event.
 fn set_sizes(l: &mut List, s: usize, n: usize, m: usize, t: usize) {
     let p = 4 + random::at(s, 10, 0, 9) % 9;
     if n == 0 {
@@ -128,6 +128,7 @@ fn set_sizes(l: &mut List, s: usize, n: usize, m: usize, t: usize) {
     }
 }
 
+// The list of a kind and a seed with sizes up to these. Entries past the sizes would be refused if they were read.
 pub(crate) fn make(kind: usize, s: usize, n: usize, m: usize, t: usize) -> List {
     let mut l = [65000u16; 2052];
     set_sizes(&mut l, s, n, m, t);

@@ -2,7 +2,6 @@
 use crate::ring_windows;
 use crate::rings;
 use crate::rings::Bytes;
-use crate::rings::Copies;
 use crate::rings::Events;
 use crate::rings::Plan;
 use slow::counts;
