@@ -4,25 +4,19 @@ use Rattle.contraction_test.proofs.vectors_wrong.Statement.{statement}
 use Rattle.contraction_test.proofs.vectors_wrong.Tie as tie
 
 abbrev Inv-loop : tie.InvT-loop
-Inv-loop wrong₀ i₀ wrong i = i ≤ 60
+Inv-loop text count wrong₀ i₀ wrong i = i ≤ count
 
 abbrev μ-loop : tie.MeasureT-loop
-μ-loop wrong₀ i₀ wrong i = 60 - i
+μ-loop text count wrong₀ i₀ wrong i = count - i
 
 loop-holds : tie.Need-loop-holds Inv-loop μ-loop
 loop-holds c = search needs
 
-vector-graph-requires : tie.Need-vector-graph-requires Inv-loop μ-loop
-vector-graph-requires c κs = search needs
+is-right-requires : tie.Need-is-right-requires Inv-loop μ-loop
+is-right-requires c κs = search needs
 
-vector-small-requires : tie.Need-vector-small-requires Inv-loop μ-loop
-vector-small-requires c κs = search needs
-
-agrees-requires : tie.Need-agrees-requires Inv-loop μ-loop
-agrees-requires c κs = search needs
-
-more-requires : tie.Need-more-requires Inv-loop μ-loop
-more-requires c κs = search needs
+counted-requires : tie.Need-counted-requires Inv-loop μ-loop
+counted-requires c κs = search needs
 
 add-i : tie.Need-add-i Inv-loop μ-loop
 add-i c = search needs
@@ -43,10 +37,8 @@ vectors-wrong-spec =
     Inv-loop
     μ-loop
     loop-holds
-    vector-graph-requires
-    vector-small-requires
-    agrees-requires
-    more-requires
+    is-right-requires
+    counted-requires
     add-i
     loop-less
     loop-again

@@ -12,23 +12,20 @@ abbrev μ-loop : tie.MeasureT-loop
 loop-holds : tie.Need-loop-holds Inv-loop μ-loop
 loop-holds c = search needs
 
-mul-word : tie.Need-mul-word Inv-loop μ-loop
-mul-word c = search needs
+mul-if1 : tie.Need-mul-if1 Inv-loop μ-loop
+mul-if1 c = search needs
 
-element-copy-out-word : tie.Need-element-copy-out-word Inv-loop μ-loop
-element-copy-out-word c = search needs
+element-copy-out-if1 : tie.Need-element-copy-out-if1 Inv-loop μ-loop
+element-copy-out-if1 c = search needs
+
+wanted-word-requires : tie.Need-wanted-word-requires Inv-loop μ-loop
+wanted-word-requires c κs = search needs
 
 word-requires : tie.Need-word-requires Inv-loop μ-loop
 word-requires c κs = search needs
 
 returns : tie.Need-returns Inv-loop μ-loop
 returns c = search needs
-
-junk-requires : tie.Need-junk-requires Inv-loop μ-loop
-junk-requires c κs = search needs
-
-returns-2 : tie.Need-returns-2 Inv-loop μ-loop
-returns-2 c = search needs
 
 add-i : tie.Need-add-i Inv-loop μ-loop
 add-i c = search needs
@@ -39,8 +36,8 @@ loop-less c = search needs
 loop-again : tie.Need-loop-again Inv-loop μ-loop
 loop-again c = search needs
 
-returns-3 : tie.Need-returns-3 Inv-loop μ-loop
-returns-3 c = search needs
+returns-2 : tie.Need-returns-2 Inv-loop μ-loop
+returns-2 c = search needs
 
 pub cleared-spec : {M : Type 1} → statement M
 cleared-spec =
@@ -49,13 +46,12 @@ cleared-spec =
     Inv-loop
     μ-loop
     loop-holds
-    mul-word
-    element-copy-out-word
+    mul-if1
+    element-copy-out-if1
+    wanted-word-requires
     word-requires
     returns
-    junk-requires
-    returns-2
     add-i
     loop-less
     loop-again
-    returns-3)
+    returns-2)

@@ -4,19 +4,16 @@ use Rattle.contraction_test.proofs.cases.table.Statement.{statement}
 use Rattle.contraction_test.proofs.cases.table.Tie as tie
 
 abbrev Inv-loop : tie.InvT-loop
-Inv-loop xs count seed t₀ i₀ t i = i ≤ 40
+Inv-loop seed t₀ i₀ t i = i ≤ 40
 
 abbrev μ-loop : tie.MeasureT-loop
-μ-loop xs count seed t₀ i₀ t i = 40 - i
+μ-loop seed t₀ i₀ t i = 40 - i
 
 loop-holds : tie.Need-loop-holds Inv-loop μ-loop
 loop-holds c = search needs
 
-mul-entry : tie.Need-mul-entry Inv-loop μ-loop
-mul-entry c = search needs
-
-element-copy-out-entry : tie.Need-element-copy-out-entry Inv-loop μ-loop
-element-copy-out-entry c = search needs
+junk-requires : tie.Need-junk-requires Inv-loop μ-loop
+junk-requires c κs = search needs
 
 entry-requires : tie.Need-entry-requires Inv-loop μ-loop
 entry-requires c κs = search needs
@@ -26,18 +23,6 @@ mul-t c = search needs
 
 array-write-t : tie.Need-array-write-t Inv-loop μ-loop
 array-write-t c = search needs
-
-junk-requires : tie.Need-junk-requires Inv-loop μ-loop
-junk-requires c κs = search needs
-
-entry-requires-2 : tie.Need-entry-requires-2 Inv-loop μ-loop
-entry-requires-2 c κs = search needs
-
-mul-t-2 : tie.Need-mul-t-2 Inv-loop μ-loop
-mul-t-2 c = search needs
-
-array-write-t-2 : tie.Need-array-write-t-2 Inv-loop μ-loop
-array-write-t-2 c = search needs
 
 add-i : tie.Need-add-i Inv-loop μ-loop
 add-i c = search needs
@@ -58,15 +43,10 @@ table-spec =
     Inv-loop
     μ-loop
     loop-holds
-    mul-entry
-    element-copy-out-entry
+    junk-requires
     entry-requires
     mul-t
     array-write-t
-    junk-requires
-    entry-requires-2
-    mul-t-2
-    array-write-t-2
     add-i
     loop-less
     loop-again

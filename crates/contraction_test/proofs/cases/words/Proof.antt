@@ -15,8 +15,8 @@ loop-holds c = search needs
 junk-requires : tie.Need-junk-requires Inv-loop μ-loop
 junk-requires c κs = search needs
 
-cast-w : tie.Need-cast-w Inv-loop μ-loop
-cast-w c = search needs
+word-requires : tie.Need-word-requires Inv-loop μ-loop
+word-requires c κs = search needs
 
 mul-w : tie.Need-mul-w Inv-loop μ-loop
 mul-w c = search needs
@@ -44,7 +44,7 @@ words-spec =
     μ-loop
     loop-holds
     junk-requires
-    cast-w
+    word-requires
     mul-w
     array-write-w
     add-i

@@ -4,31 +4,25 @@ use Rattle.replay_test.proofs.cases.cleared.Statement.{statement}
 use Rattle.replay_test.proofs.cases.cleared.Tie as tie
 
 abbrev Inv-loop : tie.InvT-loop
-Inv-loop w count i₀ i = i ≤ 5400
+Inv-loop w words count i₀ i = i ≤ count
 
 abbrev μ-loop : tie.MeasureT-loop
-μ-loop w count i₀ i = 5400 - i
+μ-loop w words count i₀ i = count - i
 
 loop-holds : tie.Need-loop-holds Inv-loop μ-loop
 loop-holds c = search needs
 
-mul-if2 : tie.Need-mul-if2 Inv-loop μ-loop
-mul-if2 c = search needs
+mul-if1 : tie.Need-mul-if1 Inv-loop μ-loop
+mul-if1 c = search needs
 
-element-copy-out-if2 : tie.Need-element-copy-out-if2 Inv-loop μ-loop
-element-copy-out-if2 c = search needs
+shared-slice-read-if1 : tie.Need-shared-slice-read-if1 Inv-loop μ-loop
+shared-slice-read-if1 c = search needs
+
+wanted-word-requires : tie.Need-wanted-word-requires Inv-loop μ-loop
+wanted-word-requires c κs = search needs
 
 returns : tie.Need-returns Inv-loop μ-loop
 returns c = search needs
-
-mul-if3 : tie.Need-mul-if3 Inv-loop μ-loop
-mul-if3 c = search needs
-
-element-copy-out-if3 : tie.Need-element-copy-out-if3 Inv-loop μ-loop
-element-copy-out-if3 c = search needs
-
-returns-2 : tie.Need-returns-2 Inv-loop μ-loop
-returns-2 c = search needs
 
 add-i : tie.Need-add-i Inv-loop μ-loop
 add-i c = search needs
@@ -39,8 +33,8 @@ loop-less c = search needs
 loop-again : tie.Need-loop-again Inv-loop μ-loop
 loop-again c = search needs
 
-returns-3 : tie.Need-returns-3 Inv-loop μ-loop
-returns-3 c = search needs
+returns-2 : tie.Need-returns-2 Inv-loop μ-loop
+returns-2 c = search needs
 
 pub cleared-spec : {M : Type 1} → statement M
 cleared-spec =
@@ -49,13 +43,11 @@ cleared-spec =
     Inv-loop
     μ-loop
     loop-holds
-    mul-if2
-    element-copy-out-if2
+    mul-if1
+    shared-slice-read-if1
+    wanted-word-requires
     returns
-    mul-if3
-    element-copy-out-if3
-    returns-2
     add-i
     loop-less
     loop-again
-    returns-3)
+    returns-2)

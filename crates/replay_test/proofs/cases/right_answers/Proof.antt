@@ -4,31 +4,25 @@ use Rattle.replay_test.proofs.cases.right_answers.Statement.{statement}
 use Rattle.replay_test.proofs.cases.right_answers.Tie as tie
 
 abbrev Inv-loop : tie.InvT-loop
-Inv-loop r count want i₀ i = i ≤ 20
+Inv-loop r answers bytes i₀ i = i ≤ 520
 
 abbrev μ-loop : tie.MeasureT-loop
-μ-loop r count want i₀ i = 20 - i
+μ-loop r answers bytes i₀ i = 520 - i
 
 loop-holds : tie.Need-loop-holds Inv-loop μ-loop
 loop-holds c = search needs
 
-element-copy-out-byte : tie.Need-element-copy-out-byte Inv-loop μ-loop
-element-copy-out-byte c = search needs
+element-copy-out-wide : tie.Need-element-copy-out-wide Inv-loop μ-loop
+element-copy-out-wide c = search needs
 
-byte-requires : tie.Need-byte-requires Inv-loop μ-loop
-byte-requires c κs = search needs
+wide-requires : tie.Need-wide-requires Inv-loop μ-loop
+wide-requires c κs = search needs
 
-mul-if2 : tie.Need-mul-if2 Inv-loop μ-loop
-mul-if2 c = search needs
-
-array-read-if2 : tie.Need-array-read-if2 Inv-loop μ-loop
-array-read-if2 c = search needs
+wanted-byte-requires : tie.Need-wanted-byte-requires Inv-loop μ-loop
+wanted-byte-requires c κs = search needs
 
 returns : tie.Need-returns Inv-loop μ-loop
 returns c = search needs
-
-returns-2 : tie.Need-returns-2 Inv-loop μ-loop
-returns-2 c = search needs
 
 add-i : tie.Need-add-i Inv-loop μ-loop
 add-i c = search needs
@@ -39,8 +33,8 @@ loop-less c = search needs
 loop-again : tie.Need-loop-again Inv-loop μ-loop
 loop-again c = search needs
 
-returns-3 : tie.Need-returns-3 Inv-loop μ-loop
-returns-3 c = search needs
+returns-2 : tie.Need-returns-2 Inv-loop μ-loop
+returns-2 c = search needs
 
 pub right-answers-spec : {M : Type 1} → statement M
 right-answers-spec =
@@ -49,13 +43,11 @@ right-answers-spec =
     Inv-loop
     μ-loop
     loop-holds
-    element-copy-out-byte
-    byte-requires
-    mul-if2
-    array-read-if2
+    element-copy-out-wide
+    wide-requires
+    wanted-byte-requires
     returns
-    returns-2
     add-i
     loop-less
     loop-again
-    returns-3)
+    returns-2)
