@@ -1,6 +1,6 @@
 // Tables that are one entry short, and the order of the refusals.
 use contraction::ContractReply;
-use slow::counts;
+use testing::counts;
 ghost use Prim.Native.Nat.{_≤_};
 
 // A reply in document 01's numbers: a refusal's number and its place, both 0 where there is none; then the nodes and the edges.

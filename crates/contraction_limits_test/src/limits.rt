@@ -1,7 +1,7 @@
 // Calls at the limits, with tables that are long enough for one more of each: the path of all nodes with each node active, and loops at its end for the edges that are left.
 use crate::fixed;
 use crate::fixed::Reply;
-use slow::counts;
+use testing::counts;
 
 type Ends = [u16; 8193];
 

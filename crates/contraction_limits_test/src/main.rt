@@ -2,9 +2,9 @@
 mod fixed;
 mod limits;
 
-use slow::print;
-use slow::tables;
-use slow::tables::Table;
+use testing::print;
+use testing::tables;
+use testing::tables::Table;
 
 fn put_order(t: &mut Table) {
     tables::put(t, 0, fixed::lengths(0));

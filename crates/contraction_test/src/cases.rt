@@ -3,10 +3,10 @@ use crate::graphs;
 use crate::graphs::Graph;
 use crate::graphs::Reply;
 use contraction::ContractReply;
-use slow::contraction::Small;
-use slow::counts;
-use slow::tables;
-use slow::tables::Table;
+use slow_contraction::Small;
+use testing::counts;
+use testing::tables;
+use testing::tables::Table;
 
 type Out = [u16; 40];
 
@@ -84,10 +84,10 @@ fn wanted_entry(want: &Table, side: usize, count: usize, seed: usize, i: usize) 
         return junk(seed, i);
     }
     if side == 1 {
-        return slow::graphs::one_end(tables::get(want, i));
+        return slow_graphs::one_end(tables::get(want, i));
     }
     if side == 2 {
-        return slow::graphs::other_end(tables::get(want, i));
+        return slow_graphs::other_end(tables::get(want, i));
     }
     tables::get(want, i)
 }

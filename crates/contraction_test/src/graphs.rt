@@ -1,7 +1,6 @@
 // A graph and its active list as one table: n, m and k, then the first ends, the second ends and the active entries, with room for 40 each.
-use slow::graphs;
-use slow::tables;
-use slow::tables::Table;
+use testing::tables;
+use testing::tables::Table;
 
 pub(crate) type Graph = [u16; 123];
 
@@ -72,7 +71,7 @@ pub(crate) fn set_active(g: &mut Graph, i: usize, v: usize) {
 pub(crate) fn edge_table(t: &mut Table, g: &Graph) {
     let m = edges(g);
     for e in 0..m {
-        tables::put(t, e, graphs::edge(from(g, e), to(g, e)));
+        tables::put(t, e, slow_graphs::edge(from(g, e), to(g, e)));
     }
 }
 

@@ -6,12 +6,12 @@ mod vectors;
 
 use crate::graphs::Graph;
 use crate::vectors::Text;
-use slow::contraction::Small;
-use slow::counts;
-use slow::print;
-use slow::random;
-use slow::tables;
-use slow::tables::Table;
+use slow_contraction::Small;
+use testing::counts;
+use testing::print;
+use testing::random;
+use testing::tables;
+use testing::tables::Table;
 
 // The slow contraction of a graph.
 fn slow_small(g: &Graph, map: &mut Table, out: &mut Table) -> Small {
@@ -19,7 +19,7 @@ fn slow_small(g: &Graph, map: &mut Table, out: &mut Table) -> Small {
     graphs::edge_table(&mut t, g);
     let mut list = [0u32; 512];
     graphs::active_table(&mut list, g);
-    slow::contraction::contraction(
+    slow_contraction::contraction(
         graphs::nodes(g),
         graphs::edges(g),
         &t,

@@ -1,7 +1,7 @@
 // Random graphs of at most 12 nodes, 16 edges and 9 active entries, of several kinds; and graphs with a fault.
 use crate::graphs;
 use crate::graphs::Graph;
-use slow::random;
+use testing::random;
 
 fn tree_end(s: usize, n: usize, i: usize, side: usize) -> usize {
     if side == 0 {

@@ -4,9 +4,9 @@
 use crate::graphs;
 use crate::graphs::Graph;
 use libc::STDIN_FILENO;
-use slow::contraction::Small;
-use slow::tables;
-use slow::tables::Table;
+use slow_contraction::Small;
+use testing::tables;
+use testing::tables::Table;
 
 pub(crate) type Text = [u8; 4680];
 
@@ -55,7 +55,7 @@ fn fill_edges(out: &mut Table, text: &Text, i: usize) {
     for j in 0..m {
         let u = number(text, i, 55 + j % 11);
         let v = number(text, i, 66 + j % 11);
-        tables::put(out, j, slow::graphs::edge(u, v));
+        tables::put(out, j, slow_graphs::edge(u, v));
     }
 }
 

@@ -1,6 +1,6 @@
 // Document 01's cases that are run and not proved, with the order of the refusals and tables that are one entry short.
-use slow::counts;
 use slow_replay::Reply;
+use testing::counts;
 use timeline::ReplayReply;
 ghost use Prim.Native.Nat.{_≤_};
 

@@ -1,11 +1,11 @@
 // Runs replay at the limits: document 01's cases that are not proved, sizes of one more, tables of one entry less. Prints the replies.
 mod fixed;
 
-use slow::counts;
-use slow::print;
-use slow::tables;
-use slow::tables::Table;
 use slow_replay::Reply;
+use testing::counts;
+use testing::print;
+use testing::tables;
+use testing::tables::Table;
 
 // Puts a reply's number and its place.
 fn put_refusal(t: &mut Table, i: usize, r: Reply) {

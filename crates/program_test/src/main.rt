@@ -2,8 +2,8 @@
 mod outputs;
 mod vectors;
 
-use slow::print;
-use slow::tables;
+use testing::print;
+use testing::tables;
 
 fn main() {
     let mut text = [0u8; 24576];

@@ -1,5 +1,5 @@
 // Calls of the program's response, and the refusals that the program adds to those of the replay.
-use slow::counts;
+use testing::counts;
 ghost use Prim.Native.Nat.{_≤_};
 
 // The smaller of two numbers.

@@ -3,7 +3,7 @@
 // to 5028 bytes.
 use crate::outputs;
 use libc::STDIN_FILENO;
-use slow::counts;
+use testing::counts;
 
 pub(crate) type Text = [u8; 24576];
 

@@ -1,10 +1,10 @@
 // Calls of replay with tables full of other numbers, compared with what is wanted: the reply, each entry, and what must stay.
-use slow::counts;
-use slow::tables;
-use slow::tables::Table;
 use slow_replay::Reply;
 use slow_replay::lists;
 use slow_replay::lists::List;
+use testing::counts;
+use testing::tables;
+use testing::tables::Table;
 use timeline::ReplayReply;
 
 fn plain(r: ReplayReply) -> Reply {

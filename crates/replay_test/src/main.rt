@@ -2,14 +2,14 @@
 mod cases;
 mod random_lists;
 
-use slow::counts;
-use slow::print;
-use slow::random;
-use slow::tables;
-use slow::tables::Table;
 use slow_replay::Reply;
 use slow_replay::lists;
 use slow_replay::lists::List;
+use testing::counts;
+use testing::print;
+use testing::random;
+use testing::tables;
+use testing::tables::Table;
 
 // The line of the report for a reply with this number.
 fn line_of(code: usize) -> usize {

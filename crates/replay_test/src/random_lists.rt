@@ -1,9 +1,9 @@
 // Random networks with lists of events, of several kinds; and such with a fault.
-use slow::random;
-use slow::tables;
-use slow::tables::Table;
 use slow_replay::lists;
 use slow_replay::lists::List;
+use testing::random;
+use testing::tables;
+use testing::tables::Table;
 
 fn ring_end(n: usize, i: usize, side: usize) -> usize {
     random::round(i % 512 + side % 2, n)

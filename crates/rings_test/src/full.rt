@@ -4,11 +4,11 @@ use crate::rings;
 use crate::rings::Bytes;
 use crate::rings::Events;
 use crate::rings::Plan;
-use slow::counts;
-use slow::random;
-use slow::tables;
-use slow::tables::Table;
 use slow_replay::Reply;
+use testing::counts;
+use testing::random;
+use testing::tables;
+use testing::tables::Table;
 use timeline::ReplayReply;
 
 type Work = [u32; 1181700];

@@ -4,8 +4,8 @@ mod ring_windows;
 mod rings;
 
 use crate::rings::Plan;
-use slow::print;
-use slow::tables::Table;
+use testing::print;
+use testing::tables::Table;
 
 fn plan(places: usize, first: usize, span: usize, seed: usize) -> Plan {
     Plan {

@@ -5,11 +5,11 @@ use crate::rings;
 use crate::rings::Copies;
 use crate::rings::Events;
 use crate::rings::Open;
-use slow::counts;
-use slow::random;
-use slow::tables;
 use slow_replay::lists;
 use slow_replay::windows;
+use testing::counts;
+use testing::random;
+use testing::tables;
 
 // The segments that are open before the window.
 fn open_before(open: &mut Open, x: &Events, y: &Events, start: usize) {

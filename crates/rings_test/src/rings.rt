@@ -1,8 +1,8 @@
 // Networks of the full size, 4096 junctions and 8192 segments, whose segments are copies of a ring over some of the junctions, with lists of 4096 events. An answer is told
 // by walking the two ways round: each way gives as many routes without a common segment as its weakest place has open copies.
-use slow::counts;
-use slow::random;
 use slow_replay::lists;
+use testing::counts;
+use testing::random;
 
 // The places of the ring, how many segments open in order at first, below which number segments change later, the seed and the share.
 pub(crate) struct Plan {

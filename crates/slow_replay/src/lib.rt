@@ -4,10 +4,9 @@ pub mod lists;
 pub mod windows;
 
 use crate::lists::List;
-use slow::counts;
-use slow::graphs;
-use slow::tables;
-use slow::tables::Table;
+use testing::counts;
+use testing::tables;
+use testing::tables::Table;
 
 // The reply in document 01's numbers: a refusal's number and its place, both 0 where there is none; then the queries, the segments open at the end and kept.
 pub type Reply = [usize; 5];
@@ -20,7 +19,7 @@ pub fn is_segment_event(x: usize) -> bool {
 }
 
 fn edge_of(l: &List, e: usize) -> usize {
-    graphs::edge(lists::a(l, e), lists::b(l, e))
+    slow_graphs::edge(lists::a(l, e), lists::b(l, e))
 }
 
 // The change by event i.
@@ -74,10 +73,10 @@ fn mark(active: &mut Table, l: &List, start: usize, end: usize) {
 // How many classes of a network are kept.
 fn kept_count(n: usize, m: usize, g: &Table, active: &Table) -> usize {
     let mut c = [0u32; 512];
-    graphs::classes(&mut c, n, m, g);
+    slow_graphs::classes(&mut c, n, m, g);
     let mut k = [0u32; 512];
-    graphs::kept_classes(&mut k, n, m, g, &c, active);
-    graphs::ones(&k, n)
+    slow_graphs::kept_classes(&mut k, n, m, g, &c, active);
+    slow_graphs::ones(&k, n)
 }
 
 // The nodes of a window's small graph.
@@ -118,7 +117,7 @@ fn event_answer(l: &List, g: &Table, i: usize) -> usize {
     if is_segment_event(x) {
         return 3;
     }
-    graphs::answer(
+    slow_graphs::answer(
         lists::junctions(l),
         lists::segments(l),
         g,
@@ -152,7 +151,7 @@ fn queries(l: &List) -> usize {
 fn open(l: &List) -> usize {
     let mut g = [0u32; 512];
     change_all(&mut g, l, lists::events(l));
-    graphs::ones(&g, lists::segments(l))
+    slow_graphs::ones(&g, lists::segments(l))
 }
 
 // Whether both ends of segment e are junctions.

@@ -1,7 +1,7 @@
 // Document 01's windows, cut on a stack.
-use slow::counts;
-use slow::tables;
-use slow::tables::Table;
+use testing::counts;
+use testing::tables;
+use testing::tables::Table;
 
 // A window, from its first event to the one after its last, as one number.
 pub fn window(start: usize, end: usize) -> usize {
