@@ -9,12 +9,12 @@ use lib.ListN.{getD, length, length-replicate, replicate}
 use lib.Seq.{length-take-le}
 use native.Mathlib.Omega.{arith}
 use borrow.Author.Tests.{eqb-false, eqb-true, lt-ltb}
-use Rattle.contraction.proofs.FaultLaws.{Sound}
+use Rattle.contraction_checks.proofs.FaultLaws.{Sound}
 use Rattle.graph.proofs.ActiveLists.{in-firsts}
 use Rattle.graph.proofs.ActiveLists.{canonical-repeats, small-repeats}
 use Rattle.graph.proofs.TableLaws.{over-equal, pairs-table, table-map, take-table}
 use Rattle.graph.proofs.Lists.{table-length, table-mem}
-use Rattle.contraction.specs.Call.{Lent, done, edges, entries, required}
+use Rattle.calls.specs.Contraction.{Lent, done, edges, entries, required}
 use Rattle.transfer.specs.Transfer.{Loadable, Prepared}
 use Rattle.contraction.specs.Reply.{outcome}
 use Rattle.contraction.specs.declared.ContractReply.the-variants.{Done}

@@ -1,15 +1,11 @@
--- The reply of the call in document 01's numbers, and what the call was lent as one record.
+-- The reply of the call in document 01's numbers.
 -- Assumes nothing: these are definitions.
 use Prim.Native.Nat.{ℕ}
 use mathlib.Core.Bool.{false, true}
 use mathlib.Core.List.{List}
-use Rattle.contraction.specs.Call.{Lent, Outcome}
+use Rattle.calls.specs.Contraction.{Outcome}
 use Rattle.contraction.specs.declared.ContractReply.{ContractReply}
 use Rattle.contraction.specs.declared.ContractReply.the-variants.{Done, Refused}
-
-abbrev pub lent : ℕ → ℕ → ℕ → List ℕ → List ℕ → List ℕ → List ℕ → List ℕ → List ℕ → List ℕ → Lent
-lent n m k from to active map outFrom outTo work =
-    record { n = n; m = m; k = k; from = from; to = to; active = active; map = map; outFrom = outFrom; outTo = outTo; work = work }
 
 -- what each case of the reply says, with the tables as they are then: a contraction is returned as 0 at place 0 with its nodes and edges, a refusal with its number and place
 abbrev pub outcome : ContractReply → List ℕ → List ℕ → List ℕ → List ℕ → Outcome

@@ -1,9 +1,8 @@
 // The contraction as a public call: the checks in document 01's order, the graph loaded into words, its contraction, and the reply's tables filled.
-mod checks;
 
 ghost use mathlib.Core.Path.{_≡_};
-ghost use Rattle.contraction.specs.Call.{fault, done, contraction};
-ghost use Rattle.contraction.specs.Reply.{lent, outcome};
+ghost use Rattle.calls.specs.Contraction.{fault, done, contraction, lent};
+ghost use Rattle.contraction.specs.Reply.{outcome};
 
 // The nodes and the edges of the contraction, or the refusal's number and its place.
 pub enum ContractReply {
@@ -34,7 +33,7 @@ fn contracted(
     transfer::fill_map(work, n, k, active, map);
     transfer::fill_ends(work, edges, 4, out_from);
     transfer::fill_ends(work, edges, 5, out_to);
-    words::clear(work, checks::required(n, m));
+    words::clear(work, contraction_checks::required(n, m));
     ContractReply::Done(nodes, edges)
 }
 
@@ -54,7 +53,18 @@ pub fn contract(
 ) -> ContractReply
     ensures { λ r. ⌜ outcome r (now (map .exit)) (now («out_from» .exit)) (now («out_to» .exit)) (now (work .exit)) ≡ contraction (lent n m k (now (from .entry)) (now (to .entry)) (now (active .entry)) (now (map .entry)) (now («out_from» .entry)) (now («out_to» .entry)) (now (work .entry))) ⌝ }
 {
-    let fault = checks::first_fault(n, m, k, from, to, active, map, out_from, out_to, work);
+    let fault = contraction_checks::first_fault(
+        n,
+        m,
+        k,
+        from,
+        to,
+        active,
+        map,
+        out_from,
+        out_to,
+        work,
+    );
     if fault.code != 0 {
         return ContractReply::Refused(fault.code, fault.place);
     }

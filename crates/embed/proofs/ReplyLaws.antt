@@ -8,7 +8,7 @@ use lib.Dec.{eqb, leb}
 use lib.ListN.{length, take}
 use lib.Seq.{length-take-le}
 use borrow.Author.Tests.{leb-true}
-use Rattle.contraction.specs.Call as contraction
+use Rattle.calls.specs.Contraction as contraction
 use Rattle.contraction.specs.Reply as contracting
 use Rattle.contraction.specs.declared.ContractReply.{ContractReply}
 use Rattle.contraction.specs.declared.ContractReply.the-variants as contracts

@@ -3,7 +3,7 @@
 use mathlib.Core.List.{List}
 use Prim.Native.Nat.{ℕ}
 use lib.Dec.{eqb}
-use Rattle.contraction.specs.Call as contraction
+use Rattle.calls.specs.Contraction as contraction
 use Rattle.tables.specs.Sizes.{SizesOutcome}
 use Rattle.timeline.specs.Replay as timeline
 use Rattle.embed.specs.declared.LumContractReply.{LumContractReply}

@@ -6,7 +6,7 @@ use mathlib.Core.List.{List, [], _∷_}
 use mathlib.Core.Path.{_≡_}
 use lib.ListN.{length, replicate, take}
 use Rattle.timeline.specs.Program.{output}
-use Rattle.contraction.specs.Call as C
+use Rattle.calls.specs.Contraction as C
 use Rattle.timeline.specs.Replay as R
 
 -- ---- what is seen

@@ -1,10 +1,9 @@
 use mathlib.Core.Path.{_∙_, ap, sym}
 use native.Mathlib.Omega.{arith}
 use borrow.Author.Needs.{needs}
-use Rattle.contraction.proofs.FaultLaws.{outcome-done, outcome-refused}
+use Rattle.contraction.proofs.OutcomeLaws.{outcome-done, outcome-refused}
 use Rattle.contraction.proofs.contract.Statement.{statement}
-use Rattle.contraction.specs.Call.{Lent}
-use Rattle.contraction.specs.Reply.{lent}
+use Rattle.calls.specs.Contraction.{Lent, lent}
 use Rattle.tables.specs.Refusal.{Refusal}
 use Rattle.contraction.proofs.contract.Tie as tie
 

@@ -1,10 +1,9 @@
 use native.Mathlib.Omega.{arith}
 use borrow.Author.Needs.{needs}
-use Rattle.contraction.proofs.FaultLaws.{sound}
+use Rattle.contraction_checks.proofs.FaultLaws.{sound}
 use Rattle.contraction.proofs.ResultLaws.{edges-few, edges-room, ends-fit, loadable, map-fits, outcome-is, words-length}
 use Rattle.contraction.proofs.contracted.Statement.{statement}
-use Rattle.contraction.specs.Call.{Lent}
-use Rattle.contraction.specs.Reply.{lent}
+use Rattle.calls.specs.Contraction.{Lent, lent}
 use Rattle.contraction.proofs.contracted.Tie as tie
 
 -- what the call was lent

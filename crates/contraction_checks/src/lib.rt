@@ -4,11 +4,10 @@ ghost use mathlib.Core.Path.{_≡_};
 ghost use Prim.Native.Nat.{_≤_};
 ghost use lib.ListN.{length};
 ghost use Rattle.tables.specs.Refusal.{firstFault, seek};
-ghost use Rattle.contraction.specs.Call.{required, badEntry, shortTables, fault};
-ghost use Rattle.contraction.specs.Reply.{lent};
+ghost use Rattle.calls.specs.Contraction.{required, badEntry, shortTables, fault, lent};
 
-// The words that a contraction of n nodes and m edges needs.
-pub(crate) fn required(n: usize, m: usize) -> usize
+// Internal: the words that a contraction of n nodes and m edges needs.
+pub fn required(n: usize, m: usize) -> usize
     requires { ⌜ (n ≤ 4096) × (m ≤ 8192) ⌝ }
     ensures { λ r. ⌜ r ≡ required n m ⌝ }
 {
@@ -70,8 +69,8 @@ fn first_bad_entry(n: usize, k: usize, active: &[u16]) -> usize
     i
 }
 
-// The first fault.
-pub(crate) fn first_fault(
+// Internal: the first fault.
+pub fn first_fault(
     n: usize,
     m: usize,
     k: usize,

@@ -4,13 +4,11 @@ use Prim.Native.Nat.{_*_, _+_, _-_, _<_, _≤_, ℕ}
 use mathlib.Core.Bool.{Bool, _||_, false, true}
 use mathlib.Core.List.{List, [], _++_, _∷_}
 use mathlib.Core.Path.{_∙_, _≡_, ap, refl, sym}
-use lib.Dec.{eqb, leb, ltb}
+use lib.Dec.{leb, ltb}
 use lib.ListN.{getD, length}
 use native.Mathlib.Omega.{arith}
-use borrow.Author.Tests.{eq-eqb, le-ltb, leb-false, lt-ltb, ltb-false, ne-eqb}
-use Rattle.contraction.specs.Call.{Lent, Outcome, badEntry, contraction, done, fault, faults, refused, required, shortTables}
-use Rattle.contraction.specs.Reply.{outcome}
-use Rattle.contraction.specs.declared.ContractReply.the-variants.{Refused}
+use borrow.Author.Tests.{le-ltb, leb-false, lt-ltb, ltb-false}
+use Rattle.calls.specs.Contraction.{Lent, badEntry, fault, faults, required, shortTables}
 use Rattle.tables.proofs.RefusalLaws.{Numbered, fault-silent, numbered-append, seek-none, silent-fault, silent-left, silent-right, fault-left, fault-right, sizes-numbered}
 use Rattle.tables.specs.Refusal.{Refusal, Row, firstFault, row, seek, badEnds}
 use Rattle.tables.specs.Sizes.{sizeFaults}
@@ -123,15 +121,3 @@ module _ (l : Lent) where
             (leb-false (l .n) (getD (l .from) i 0) (or-left a b q), leb-false (l .n) (getD (l .to) i 0) (or-right a b q));
         entries = λ i j. leb-false (l .n) (getD (l .active) i 0) (seek-none (badEntry (l .n) (l .active)) (l .k) i (u .1 .0) j);
       }
-
-  -- ---- the outcome
-  abbrev by-code : Bool → Refusal → Outcome
-  by-code b f = elim b [ true ↦ done l | false ↦ refused l f ]
-
-  pub outcome-refused : {c p : ℕ} → (c, p) ≡ fault l → ¬ (c ≡ 0) → outcome (Refused c p) (l .map) (l .outFrom) (l .outTo) (l .work) ≡ contraction l
-  unfolding contraction refused
-  outcome-refused {c} {p} e n = ap (λ b. by-code b (c, p)) (sym (ne-eqb c 0 n)) ∙ ap (λ (f : Refusal). by-code (eqb (f .0) 0) f) e
-
-  pub outcome-done : {c p : ℕ} {o : Outcome} → (c, p) ≡ fault l → c ≡ 0 → o ≡ done l → o ≡ contraction l
-  unfolding contraction
-  outcome-done {c} {p} e z q = q ∙ ap (λ b. by-code b (c, p)) (sym (eq-eqb c 0 z)) ∙ ap (λ (f : Refusal). by-code (eqb (f .0) 0) f) e

@@ -1,7 +1,7 @@
 use borrow.Author.Needs.{needs}
 use borrow.Author.Tests.{le-ltb, lt-ltb}
-use Rattle.contraction.proofs.checks.length_fault.Statement.{statement}
-use Rattle.contraction.proofs.checks.length_fault.Tie as tie
+use Rattle.contraction_checks.proofs.length_fault.Statement.{statement}
+use Rattle.contraction_checks.proofs.length_fault.Tie as tie
 
 returns : tie.Need-returns
 returns c = simp (lt-ltb _ _ (c .if1 .taken))

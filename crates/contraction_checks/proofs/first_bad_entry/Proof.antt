@@ -5,10 +5,10 @@ use native.Mathlib.Omega.{arith}
 use borrow.Author.Needs.{needs}
 use borrow.Author.Tests.{le-leb, lt-leb}
 use Rattle.tables.proofs.RefusalLaws.{seek-here, seek-more, seek-past, seek-start}
-use Rattle.contraction.proofs.checks.first_bad_entry.Statement.{statement}
-use Rattle.contraction.specs.Call.{badEntry}
+use Rattle.contraction_checks.proofs.first_bad_entry.Statement.{statement}
+use Rattle.calls.specs.Contraction.{badEntry}
 use Rattle.tables.specs.Refusal.{seek}
-use Rattle.contraction.proofs.checks.first_bad_entry.Tie as tie
+use Rattle.contraction_checks.proofs.first_bad_entry.Tie as tie
 
 abbrev Inv-loop : tie.InvT-loop
 Inv-loop n k active i₀ i = (i ≤ k) × (seek (badEntry n active) 0 k ≡ seek (badEntry n active) i (k - i))

@@ -24,6 +24,11 @@ pub record Lent : Type 0 where
   pub outTo : List ℕ
   pub work : List ℕ
 
+-- the sizes and the tables of a call as one record
+abbrev pub lent : ℕ → ℕ → ℕ → List ℕ → List ℕ → List ℕ → List ℕ → List ℕ → List ℕ → List ℕ → Lent
+lent n m k from to active map outFrom outTo work =
+    record { n = n; m = m; k = k; from = from; to = to; active = active; map = map; outFrom = outFrom; outTo = outTo; work = work }
+
 -- the words that a contraction of n nodes and m edges needs
 abbrev pub required : ℕ → ℕ → ℕ
 required n m = 16 * n + 8 * m + 512
