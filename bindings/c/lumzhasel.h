@@ -2,8 +2,8 @@
  * Lumzhasel from C and C++: the replay of a road network, the contraction, the
  * check of sizes and the reader's call. Each call is proved, for all inputs, to
  * return and to leave in the lent tables exactly what the definitions say
- * (crates/embed/src/lib.rt). Link target/staticlib/libembed.a, which
- * `rt staticlib embed` writes; it is for x86-64 Linux and needs only memcpy and
+ * (crates/call_exports/src/lib.rt). Link target/staticlib/libcall_exports.a, which
+ * `rt staticlib call_exports` writes; it is for x86-64 Linux and needs only memcpy and
  * memset of the C library.
  *
  * WHAT THE CALLER OWES. The proofs begin where these hold, and no call can check them:

@@ -4,8 +4,8 @@
 //! junctions at each query: 0 not joined, 1 joined by a way that one shut segment breaks, 2 joined
 //! whichever single segment shuts. The contraction that it rests on is the call [`contract`].
 //!
-//! What each call returns and leaves in its tables is proved, for all inputs, in the crate `embed`
-//! of the repository, of which this package links the archive: run `rt staticlib embed` at the
+//! What each call returns and leaves in its tables is proved, for all inputs, in the crate `call_exports`
+//! of the repository, of which this package links the archive: run `rt staticlib call_exports` at the
 //! repository's top first. The package itself is not proved. It hands slices on as pointers and
 //! lengths, in one module, and names the refusals.
 //!

@@ -8,10 +8,10 @@ use lib.Dec.{leb, ltb}
 use lib.ListN.{getD, length}
 use native.Mathlib.Omega.{arith}
 use borrow.Author.Tests.{le-ltb, leb-false, lt-ltb, ltb-false}
-use Rattle.calls.specs.Contraction.{Lent, badEntry, fault, faults, required, shortTables}
-use Rattle.tables.proofs.RefusalLaws.{Numbered, fault-silent, numbered-append, seek-none, silent-fault, silent-left, silent-right, fault-left, fault-right, sizes-numbered}
-use Rattle.tables.specs.Refusal.{Refusal, Row, firstFault, row, seek, badEnds}
-use Rattle.tables.specs.Sizes.{sizeFaults}
+use Rattle.theory_contraction.specs.Contraction.{Lent, badEntry, fault, faults, required, shortTables}
+use Rattle.call_sizes.proofs.RefusalLaws.{Numbered, fault-silent, numbered-append, seek-none, silent-fault, silent-left, silent-right, fault-left, fault-right, sizes-numbered}
+use Rattle.call_sizes.specs.Refusal.{Refusal, Row, firstFault, row, seek, badEnds}
+use Rattle.call_sizes.specs.Sizes.{sizeFaults}
 
 or-left : (a b : Bool) → a || b ≡ false → a ≡ false
 or-left false b e = refl

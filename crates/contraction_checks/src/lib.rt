@@ -1,10 +1,10 @@
 // The faults of an input, in document 01's order: sizes, lengths, ends of edges, active entries.
-use tables::Fault;
+use call_sizes::Fault;
 ghost use mathlib.Core.Path.{_≡_};
 ghost use Prim.Native.Nat.{_≤_};
 ghost use lib.ListN.{length};
-ghost use Rattle.tables.specs.Refusal.{firstFault, seek};
-ghost use Rattle.calls.specs.Contraction.{required, badEntry, shortTables, fault, lent};
+ghost use Rattle.call_sizes.specs.Refusal.{firstFault, seek};
+ghost use Rattle.theory_contraction.specs.Contraction.{required, badEntry, shortTables, fault, lent};
 
 // Internal: the words that a contraction of n nodes and m edges needs.
 pub fn required(n: usize, m: usize) -> usize
@@ -84,7 +84,7 @@ pub fn first_fault(
 ) -> Fault
     ensures { λ r. ⌜ (r .code, r .place) ≡ fault (lent n m k (now (from .entry)) (now (to .entry)) (now (active .entry)) (now (map .entry)) (now («out_from» .entry)) (now («out_to» .entry)) (now (work .entry))) ⌝ }
 {
-    let sizes = tables::size_fault(n, m, 0, k);
+    let sizes = call_sizes::size_fault(n, m, 0, k);
     if sizes.code != 0 {
         return sizes;
     }
@@ -92,7 +92,7 @@ pub fn first_fault(
     if lengths.code != 0 {
         return lengths;
     }
-    let e = tables::first_bad_ends(n, m, from, to);
+    let e = call_sizes::first_bad_ends(n, m, from, to);
     if e < m {
         return Fault { code: 4, place: e };
     }

@@ -1,5 +1,5 @@
 // The program `replay`: reads a list from standard input, and writes the answers and the totals, or the refusal. What is written is `output` of the definitions
-// (proved of `program::respond`); 512 bytes are more than any list has, and a longer input is refused by them alone (proved as `enough`).
+// (proved of `program_response::respond`); 512 bytes are more than any list has, and a longer input is refused by them alone (proved as `enough`).
 use libc::STDIN_FILENO;
 use libc::STDOUT_FILENO;
 
@@ -8,6 +8,6 @@ fn main() {
     let count = io::read_full(STDIN_FILENO, &mut input);
     let mut work = [0u32; 16384];
     let mut out = [0u8; 2048];
-    let length = program::respond(&input[..count], &mut work, &mut out);
+    let length = program_response::respond(&input[..count], &mut work, &mut out);
     io::write_all(STDOUT_FILENO, &out[..length]);
 }

@@ -4,10 +4,10 @@ use lib.ListN.{getD}
 use native.Mathlib.Omega.{arith}
 use borrow.Author.Needs.{needs}
 use borrow.Author.Tests.{le-leb, lt-leb}
-use Rattle.tables.proofs.RefusalLaws.{seek-here, seek-more, seek-past, seek-start}
+use Rattle.call_sizes.proofs.RefusalLaws.{seek-here, seek-more, seek-past, seek-start}
 use Rattle.contraction_checks.proofs.first_bad_entry.Statement.{statement}
-use Rattle.calls.specs.Contraction.{badEntry}
-use Rattle.tables.specs.Refusal.{seek}
+use Rattle.theory_contraction.specs.Contraction.{badEntry}
+use Rattle.call_sizes.specs.Refusal.{seek}
 use Rattle.contraction_checks.proofs.first_bad_entry.Tie as tie
 
 abbrev Inv-loop : tie.InvT-loop

@@ -2,7 +2,7 @@ use native.Mathlib.Omega.{arith}
 use borrow.Author.Needs.{needs}
 use Rattle.contraction_checks.proofs.FaultLaws.{edge-refused, entry-refused, length-refused, lengths-long, none-refused, size-refused, sizes-within}
 use Rattle.contraction_checks.proofs.first_fault.Statement.{statement}
-use Rattle.calls.specs.Contraction.{Lent, lent}
+use Rattle.theory_contraction.specs.Contraction.{Lent, lent}
 use Rattle.contraction_checks.proofs.first_fault.Tie as tie
 
 abbrev given : tie.Start → Lent

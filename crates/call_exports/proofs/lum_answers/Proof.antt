@@ -1,0 +1,19 @@
+-- The length is the one of the part that the reader's call hands back, and that part begins where the table does.
+use Prim.Native.Nat.{ℕ}
+use lib.ListN.{length, take}
+use mathlib.Core.Path.{_∙_, ap}
+use Rattle.call_exports.proofs.ReplyLaws.{part-first}
+use borrow.Author.Needs.{needs}
+use Rattle.call_exports.proofs.lum_answers.Statement.{statement}
+use Rattle.call_exports.proofs.lum_answers.Tie as tie
+
+answers-requires : tie.Need-answers-requires
+answers-requires c κs = search needs
+
+returns : tie.Need-returns
+returns c =
+    let e = ap length (c .answers .ensures) in
+    (e, ap (λ (k : ℕ). take k (c .before .before .args .table .now)) e ∙ part-first (c .before .before .args .table .now) (c .before .before .args .t))
+
+pub lum-answers-spec : {M : Type 1} → statement M
+lum-answers-spec = tie.close (tie.spec answers-requires returns)

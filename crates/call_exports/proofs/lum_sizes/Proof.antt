@@ -1,0 +1,24 @@
+-- The struct says what the reply of the sizes' check says.
+use Rattle.call_exports.proofs.ReplyLaws.{sizes-refused, sizes-within}
+use borrow.Author.Needs.{needs}
+use Rattle.call_exports.proofs.lum_sizes.Statement.{statement}
+use Rattle.call_exports.proofs.lum_sizes.Tie as tie
+
+check-requires : tie.Need-check-requires
+check-requires c κs = search needs
+
+enum-known-reply : tie.Need-enum-known-reply
+enum-known-reply c = search needs
+
+returns : tie.Need-returns
+returns c = sizes-within (c .before .before .before .before .args .n) (c .before .before .before .before .args .m) (c .before .before .before .before .args .t) (c .before .before .before .before .args .k) (c .before .before .before .check .ensures) (c .before .reply .given .1)
+
+enum-known-reply-2 : tie.Need-enum-known-reply-2
+enum-known-reply-2 c = search needs
+
+returns-2 : tie.Need-returns-2
+returns-2 c = sizes-refused (c .before .before .before .before .args .n) (c .before .before .before .before .args .m) (c .before .before .before .before .args .t) (c .before .before .before .before .args .k) (c .before .before .before .check .ensures) (c .before .reply2 .given .1)
+
+pub lum-sizes-spec : {M : Type 1} → statement M
+lum-sizes-spec =
+    tie.close (tie.spec check-requires enum-known-reply returns enum-known-reply-2 returns-2)

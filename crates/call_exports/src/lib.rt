@@ -1,0 +1,158 @@
+// The calls as C sees them: a slice is a pointer and a length, a reply is a struct of numbers. Each call hands on to the product's own and writes its reply out.
+use call_contract::ContractReply;
+use call_sizes::Sizes;
+use call_sizes::SizesReply;
+use theory_timeline::ReplayReply;
+ghost use mathlib.Core.Path.{_≡_};
+ghost use lib.ListN.{length, take};
+ghost use Rattle.theory_contraction.specs.Contraction as contracting;
+ghost use Rattle.theory_contraction.specs.Contraction.{contraction};
+ghost use Rattle.call_answers.specs.Reader.{firstOrNone};
+ghost use Rattle.call_sizes.specs.Sizes.{checkSizes};
+ghost use Rattle.theory_timeline.specs.Call as replaying;
+ghost use Rattle.theory_timeline.specs.Replay.{replay};
+ghost use Rattle.call_exports.specs.Exports.{sizesOf, contractedOf, replayedOf};
+
+// In each struct the code is 0 where the call is accepted, else the refusal's number; then place is its place and the other numbers are 0.
+#[repr(C)]
+pub struct LumSizesReply {
+    pub code: usize,
+    pub place: usize,
+    pub n: usize,
+    pub m: usize,
+    pub t: usize,
+    pub k: usize,
+}
+
+#[repr(C)]
+pub struct LumContractReply {
+    pub code: usize,
+    pub place: usize,
+    pub nodes: usize,
+    pub edges: usize,
+}
+
+#[repr(C)]
+pub struct LumReplayReply {
+    pub code: usize,
+    pub place: usize,
+    pub queries: usize,
+    pub open: usize,
+    pub kept: usize,
+}
+
+// The sizes' check.
+#[no_mangle]
+pub extern "C" fn lum_sizes(n: usize, m: usize, t: usize, k: usize) -> LumSizesReply
+    ensures { λ r. ⌜ sizesOf r ≡ checkSizes n m t k ⌝ }
+{
+    let reply = Sizes::check(n, m, t, k);
+    match reply {
+        SizesReply::Within(s) => {
+            return LumSizesReply {
+                code: 0,
+                place: 0,
+                n: s.n,
+                m: s.m,
+                t: s.t,
+                k: s.k,
+            };
+        }
+        SizesReply::Refused(code, place) => {
+            return LumSizesReply {
+                code: code,
+                place: place,
+                n: 0,
+                m: 0,
+                t: 0,
+                k: 0,
+            };
+        }
+    }
+}
+
+// The reader's call. The part that it hands back begins where the table does, so that its length says all.
+#[no_mangle]
+pub extern "C" fn lum_answers(table: &[u8], t: usize) -> usize
+    ensures { λ r. ⌜ r ≡ length (firstOrNone (now (table .entry)) t) ⌝ }
+    ensures { λ r. ⌜ take r (now (table .entry)) ≡ firstOrNone (now (table .entry)) t ⌝ }
+{
+    let part = call_answers::answers(table, t);
+    part.len()
+}
+
+// The contraction.
+#[no_mangle]
+pub extern "C" fn lum_contract(
+    n: usize,
+    m: usize,
+    k: usize,
+    from: &[u16],
+    to: &[u16],
+    active: &[u16],
+    map: &mut [u16],
+    out_from: &mut [u16],
+    out_to: &mut [u16],
+    work: &mut [u32],
+) -> LumContractReply
+    ensures { λ r. ⌜ contractedOf r (now (map .exit)) (now («out_from» .exit)) (now («out_to» .exit)) (now (work .exit)) ≡ contraction (contracting.lent n m k (now (from .entry)) (now (to .entry)) (now (active .entry)) (now (map .entry)) (now («out_from» .entry)) (now («out_to» .entry)) (now (work .entry))) ⌝ }
+{
+    let reply = call_contract::contract(n, m, k, from, to, active, map, out_from, out_to, work);
+    match reply {
+        ContractReply::Done(nodes, edges) => {
+            return LumContractReply {
+                code: 0,
+                place: 0,
+                nodes: nodes,
+                edges: edges,
+            };
+        }
+        ContractReply::Refused(code, place) => {
+            return LumContractReply {
+                code: code,
+                place: place,
+                nodes: 0,
+                edges: 0,
+            };
+        }
+    }
+}
+
+// The replay.
+#[no_mangle]
+pub extern "C" fn lum_replay(
+    n: usize,
+    m: usize,
+    t: usize,
+    p: usize,
+    a: &[u16],
+    b: &[u16],
+    x: &[u16],
+    y: &[u16],
+    answers: &mut [u8],
+    work: &mut [u32],
+) -> LumReplayReply
+    ensures { λ r. ⌜ replayedOf r (now (answers .exit)) (now (work .exit)) ≡ replay (replaying.lent n m t (now (a .entry)) (now (b .entry)) (now (x .entry)) (now (y .entry)) (now (answers .entry)) (now (work .entry))) p ⌝ }
+{
+    let reply = call_replay::replay(n, m, t, p, a, b, x, y, answers, work);
+    match reply {
+        ReplayReply::Done(s) => {
+            return LumReplayReply {
+                code: 0,
+                place: 0,
+                queries: s.queries,
+                open: s.open,
+                kept: s.kept,
+            };
+        }
+        ReplayReply::Refused(code, place) => {
+            return LumReplayReply {
+                code: code,
+                place: place,
+                queries: 0,
+                open: 0,
+                kept: 0,
+            };
+        }
+    }
+}

@@ -1,0 +1,72 @@
+// The open segments as a set of 8,192 bits, handed on by value. A number past the last segment is in no set: to open or close it changes nothing.
+ghost use mathlib.Core.Path.{_≡_};
+ghost use Prim.Native.Nat.{_<_};
+ghost use lib.ListN.{set};
+ghost use Rattle.theory_graph.specs.Lists.{sum};
+ghost use Rattle.call_open_set.specs.OpenSet.{digits, bits, isOpen};
+
+// The word w with the bit b on.
+fn with_bit(w: u64, b: usize) -> u64
+    requires { ⌜ b < 64 ⌝ }
+    ensures { λ r. ⌜ digits 64 r ≡ set (digits 64 w) b 1 ⌝ }
+{
+    w | (1u64 << b)
+}
+
+// The word w with the bit b off.
+fn without_bit(w: u64, b: usize) -> u64
+    requires { ⌜ b < 64 ⌝ }
+    ensures { λ r. ⌜ digits 64 r ≡ set (digits 64 w) b 0 ⌝ }
+{
+    let bit = 1u64 << b;
+    (w | bit) ^ bit
+}
+
+// The set with segment s in it.
+pub fn opened(held: [u64; 128], s: usize) -> [u64; 128]
+    ensures { λ r. ⌜ bits r ≡ set (bits held) s 1 ⌝ }
+{
+    if s >= 8192 {
+        return held;
+    }
+    let mut next = held;
+    let word = s / 64;
+    next[word] = with_bit(next[word], s % 64);
+    next
+}
+
+// The set without segment s.
+pub fn closed(held: [u64; 128], s: usize) -> [u64; 128]
+    ensures { λ r. ⌜ bits r ≡ set (bits held) s 0 ⌝ }
+{
+    if s >= 8192 {
+        return held;
+    }
+    let mut next = held;
+    let place = s / 64;
+    next[place] = without_bit(next[place], s % 64);
+    next
+}
+
+// Whether segment s is in the set.
+pub fn is_open(held: [u64; 128], s: usize) -> bool
+    ensures { λ r. ⌜ r ≡ isOpen held s ⌝ }
+{
+    if s >= 8192 {
+        return false;
+    }
+    let i = s / 64;
+    let b = s % 64;
+    (held[i] >> b) % 2 == 1
+}
+
+// How many segments are in the set: the ones of each word, summed.
+pub fn count(held: [u64; 128]) -> usize
+    ensures { λ r. ⌜ r ≡ sum (bits held) ⌝ }
+{
+    let mut n: usize = 0;
+    for i in 0..128 {
+        n += u64::count_ones(held[i]) as usize;
+    }
+    n
+}

@@ -1,0 +1,77 @@
+use Prim.Native.Nat.{_-_, _≤_}
+use mathlib.Core.Path.{_∙_, _≡_, sym}
+use native.Mathlib.Omega.{arith}
+use borrow.Author.Needs.{needs}
+use Rattle.call_sizes.proofs.RefusalLaws.{bad-from, bad-to, good-ends, seek-here, seek-more, seek-past, seek-start}
+use Rattle.call_sizes.proofs.first_bad_ends.Statement.{statement}
+use Rattle.call_sizes.specs.Refusal.{badEnds, seek}
+use Rattle.call_sizes.proofs.first_bad_ends.Tie as tie
+
+abbrev Inv-loop : tie.InvT-loop
+Inv-loop n m from to s₀ s = (s ≤ m) × (seek (badEnds n from to) 0 m ≡ seek (badEnds n from to) s (m - s))
+
+abbrev μ-loop : tie.MeasureT-loop
+μ-loop n m from to s₀ s = m - s
+
+loop-holds : tie.Need-loop-holds Inv-loop μ-loop
+loop-holds c = (omega arith, seek-start (badEnds (c .args .n) (c .args .from .now) (c .args .to .now)) (c .args .m))
+
+mul-if1 : tie.Need-mul-if1 Inv-loop μ-loop
+mul-if1 c = search needs
+
+shared-slice-read-if1 : tie.Need-shared-slice-read-if1 Inv-loop μ-loop
+shared-slice-read-if1 c = search needs
+
+cast-if1 : tie.Need-cast-if1 Inv-loop μ-loop
+cast-if1 c = omega (arith, c .shared-slice-known .given (c .before .before .loop .s))
+
+returns : tie.Need-returns Inv-loop μ-loop
+returns c = let a = c .before .before .before .before .args in
+    sym (c .before .before .before .loop .inv .1 ∙ seek-here (badEnds (a .n) (a .from .now) (a .to .now)) (c .before .before .before .loop .s) (a .m) (omega arith) (bad-from (a .n) (a .from .now) (a .to .now) (c .before .before .before .loop .s) (c .if1 .taken)))
+
+mul-if2 : tie.Need-mul-if2 Inv-loop μ-loop
+mul-if2 c = search needs
+
+shared-slice-read-if2 : tie.Need-shared-slice-read-if2 Inv-loop μ-loop
+shared-slice-read-if2 c = search needs
+
+cast-if2 : tie.Need-cast-if2 Inv-loop μ-loop
+cast-if2 c = omega (arith, c .shared-slice-known2 .given (c .before .before .before .before .loop .s))
+
+returns-2 : tie.Need-returns-2 Inv-loop μ-loop
+returns-2 c = let a = c .before .before .before .before .before .before .args in
+    sym (c .before .before .before .before .before .loop .inv .1 ∙ seek-here (badEnds (a .n) (a .from .now) (a .to .now)) (c .before .before .before .before .before .loop .s) (a .m) (omega arith) (bad-to (a .n) (a .from .now) (a .to .now) (c .before .before .before .before .before .loop .s) (c .before .before .if1 .left) (c .if2 .taken)))
+
+add-s : tie.Need-add-s Inv-loop μ-loop
+add-s c = search needs
+
+loop-less : tie.Need-loop-less Inv-loop μ-loop
+loop-less c = search needs
+
+loop-again : tie.Need-loop-again Inv-loop μ-loop
+loop-again c = let a = c .before .before .before .before .before .before .args in
+    (omega arith, c .before .before .before .before .before .loop .inv .1 ∙ seek-more (badEnds (a .n) (a .from .now) (a .to .now)) (c .before .before .before .before .before .loop .s) (a .m) (omega arith) (good-ends (a .n) (a .from .now) (a .to .now) (c .before .before .before .before .before .loop .s) (c .before .before .if1 .left) (c .if2 .left)))
+
+returns-3 : tie.Need-returns-3 Inv-loop μ-loop
+returns-3 c = let a = c .before .before .args in
+    sym (c .before .loop .inv .1 ∙ seek-past (badEnds (a .n) (a .from .now) (a .to .now)) (c .before .loop .s) (a .m) (omega arith))
+
+pub first-bad-ends-spec : {M : Type 1} → statement M
+first-bad-ends-spec =
+    tie.close
+    (tie.spec
+    Inv-loop
+    μ-loop
+    loop-holds
+    mul-if1
+    shared-slice-read-if1
+    cast-if1
+    returns
+    mul-if2
+    shared-slice-read-if2
+    cast-if2
+    returns-2
+    add-s
+    loop-less
+    loop-again
+    returns-3)

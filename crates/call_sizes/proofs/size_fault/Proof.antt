@@ -1,0 +1,31 @@
+use mathlib.Core.Path.{_∙_, ap, sym}
+use borrow.Author.Needs.{needs}
+use Rattle.call_sizes.proofs.size_fault.Statement.{statement}
+use Rattle.call_sizes.specs.Refusal.{Refusal}
+use Rattle.call_sizes.specs.Sizes.{SizesOutcome, sizesOutcome}
+use Rattle.call_sizes.specs.declared.SizesReply.{SizesReply}
+use Rattle.call_sizes.proofs.size_fault.Tie as tie
+
+abbrev coded : SizesOutcome → Refusal
+coded o = (o .code, o .place)
+
+abbrev reply : SizesReply → Refusal
+reply r = coded (sizesOutcome r)
+
+check-requires : tie.Need-check-requires
+check-requires c κs = search needs
+
+enum-told : tie.Need-enum-told
+enum-told c = search needs
+
+enum-known-sizes : tie.Need-enum-known-sizes
+enum-known-sizes c = search needs
+
+returns : tie.Need-returns
+returns c = ap reply (sym (c .enum-told .given .1)) ∙ ap coded (c .before .before .check .ensures)
+
+returns-2 : tie.Need-returns-2
+returns-2 c = ap reply (sym (c .before .sizes .given .1)) ∙ ap coded (c .before .before .before .check .ensures)
+
+pub size-fault-spec : {M : Type 1} → statement M
+size-fault-spec = tie.close (tie.spec check-requires enum-told enum-known-sizes returns returns-2)

@@ -1,0 +1,83 @@
+-- Laws of loading a graph: all active entries entered, the ends of all edges stored, and all that is loaded.
+-- Assumes nothing.
+use Prim.Native.Nat.{_%_, _*_, _+_, _-_, _/_, _<_, _≤_, ℕ}
+use mathlib.Core.List.{List, [], _++_, _∷_}
+use mathlib.Core.Path.{_∙_, _≡_, ap, ap₂, refl, subst, sym}
+use lib.Dec.{eqb}
+use lib.ListN.{getD, length, take}
+use native.Mathlib.Omega.{arith}
+use borrow.Author.Tests.{eqb-false, eqb-true}
+use Rattle.theory_graph.proofs.TableLaws.{pairs-table, table-equal}
+use Rattle.contraction_tables.specs.Transfer.{Edges, Entries, Loadable, Prepared}
+use Rattle.theory_graph.proofs.Booleans.{onBool}
+use Rattle.core_loading.proofs.LoadingLaws.{entered-most, entered-none}
+use Rattle.core_loading.specs.Loading.{Cleared, Entering, PutEdge}
+use Rattle.core_words.specs.Fields.{half, node}
+
+pub entries-none : {n : ℕ} (w : List ℕ) → ((v : ℕ) → v < n → node 0 w v ≡ 0) → Entries n [] w w 0
+entries-none w z = record { same = refl; past = λ i k. refl; entered = entered-none (node 0 w) (node 1 w) z }
+
+pub entries-more : {n d v r : ℕ} {S T : List ℕ} {a b c : List ℕ} → T ≡ S ++ (v ∷ []) → Entries n S a b d → Entering n d v b c r → Entries n T a c r
+entries-more {S = S} e g h = record {
+  same = h .same ∙ g .same;
+  past = λ i k. h .past i k ∙ g .past i k;
+  entered = rw e (h .more S (g .entered));
+}
+
+-- ---- edges
+pub edges-none : (n m : ℕ) (from to w : List ℕ) → Edges n m from to w w 0
+edges-none n m from to w = record { same = refl; past = λ i k. refl; nodes = λ j i v l. refl; ends = λ e l. absurd (omega arith) }
+
+pub edges-more : {n m s : ℕ} {from to a w z : List ℕ} → s < m → Edges n m from to a w s → PutEdge n s (getD from s 0) (getD to s 0) w z → Edges n m from to a z (s + 1)
+edges-more {n} {m} {s} {from} {to} {a} {w} {z} l g p = record {
+  same = p .same ∙ g .same;
+  past = λ i k. p .past i (omega arith) ∙ g .past i k;
+  nodes = λ j i v k. p .nodes j i v k ∙ g .nodes j i v k;
+  ends = λ e k. onBool (eqb e s)
+      (λ q. let r = eqb-true e s q in rw r (p .first, p .second))
+      (λ q. let ne : ¬ (e ≡ s) = eqb-false e s q in let o = g .ends e (omega arith) in
+      (p .else (2 * e) (omega arith) ∙ o .0, p .else (2 * e + 1) (omega arith) ∙ o .1));
+}
+
+-- ---- all that is loaded
+module _ {n m k : ℕ} {from to active w₀ w₁ : List ℕ} (c : Loadable n m k from to active w₀) (z : Cleared n w₀ w₁) where
+  module _ {d : ℕ} {w₂ w₃ : List ℕ} (g : Entries n (take k active) w₁ w₂ d) (l : Edges n m from to w₂ w₃ m) where
+    same : length w₃ ≡ length w₀
+    same = l .same ∙ g .same ∙ z .same
+
+    less : d ≤ n
+    less = entered-most (g .entered)
+
+    act-at : (i : ℕ) → i < d → node 1 w₃ i ≡ node 1 w₂ i
+    act-at i j = l .nodes 1 (omega arith) i (omega (arith, less))
+
+    mark-at : (v : ℕ) → v < n → node 0 w₃ v ≡ node 0 w₂ v
+    mark-at = l .nodes 0 (omega arith)
+
+    end-below : (h : ℕ) → h < 2 * m → half n 0 w₃ h < n
+    end-below h i = onBool (eqb (h % 2) 0)
+        (λ q. let e : 2 * (h / 2) ≡ h = omega (arith, eqb-true (h % 2) 0 q) in
+        subst (λ (u : ℕ). half n 0 w₃ u < n) e (rw (l .ends (h / 2) (omega arith) .0) (c .ends (h / 2) (omega arith) .0)))
+        (λ q. let ne : ¬ (h % 2 ≡ 0) = eqb-false (h % 2) 0 q in let e : 2 * (h / 2) + 1 ≡ h = omega arith in
+        subst (λ (u : ℕ). half n 0 w₃ u < n) e (rw (l .ends (h / 2) (omega arith) .1) (c .ends (h / 2) (omega arith) .1)))
+
+    pub prepared : Prepared n m k from to active w₀ w₃ d
+    prepared = record {
+      same = same;
+      past = λ i j. l .past i j ∙ g .past i (omega arith) ∙ z .past i (omega arith);
+      loaded = record {
+        few = c .few;
+        much = c .much;
+        room = omega (arith, same, c .room);
+        less = less;
+        ends = end-below;
+        active = λ i j. rw (act-at i j) (g .entered .below i j);
+        marked = λ i j. ap (node 0 w₃) (act-at i j) ∙ mark-at (node 1 w₂ i) (g .entered .below i j) ∙ g .entered .marked i j;
+        marks = λ v i p.
+            let (j, b, e) = g .entered .marks v i (rw (mark-at v i) at p) in
+            (j, b, act-at j b ∙ e);
+      };
+      edges = table-equal (λ e. (half n 0 w₃ (2 * e), half n 0 w₃ (2 * e + 1))) (λ e. (getD from e 0, getD to e 0)) 0 m
+          (λ e a b. let q = l .ends e (omega arith) in ap₂ (λ (x y : ℕ). (x, y)) (q .0) (q .1)) ∙ sym (pairs-table m from to (c .from-length) (c .to-length));
+      actives = table-equal (node 1 w₃) (node 1 w₂) 0 d (λ i a b. act-at i (omega arith)) ∙ g .entered .active;
+    }

@@ -1,0 +1,65 @@
+use Prim.Native.Nat.{_-_, _≤_, ℕ}
+use mathlib.Core.Path.{_∙_, _≡_, ap}
+use lib.ListN.{take}
+use lib.Seq.{take-suc}
+use native.Mathlib.Numerals.{add-one}
+use native.Mathlib.Omega.{arith}
+use borrow.Author.Needs.{needs}
+use Rattle.contraction_tables.proofs.TransferLaws.{entries-more, entries-none}
+use Rattle.contraction_tables.proofs.enter_active.Statement.{statement}
+use Rattle.contraction_tables.specs.Transfer.{Entries}
+use Rattle.contraction_tables.proofs.enter_active.Tie as tie
+
+abbrev Inv-loop : tie.InvT-loop
+Inv-loop work₀ n k active d₀ i₀ work d i = (i ≤ k) × Entries n (take i active) work₀ work d
+
+abbrev μ-loop : tie.MeasureT-loop
+μ-loop work₀ n k active d₀ i₀ work d i = k - i
+
+loop-holds : tie.Need-loop-holds Inv-loop μ-loop
+loop-holds c = (omega arith, entries-none _ (c .before .before .pre .4))
+
+mul-v : tie.Need-mul-v Inv-loop μ-loop
+mul-v c = search needs
+
+shared-slice-read-v : tie.Need-shared-slice-read-v Inv-loop μ-loop
+shared-slice-read-v c = search needs
+
+cast-v : tie.Need-cast-v Inv-loop μ-loop
+cast-v c = omega (arith, c .shared-slice-known2 .given (c .before .before .loop .i))
+
+enter-requires : tie.Need-enter-requires Inv-loop μ-loop
+enter-requires c κs = (c .before .before .before .before .before .before .pre .0, omega (arith, c .before .before .before .before .before .before .pre .1, c .before .before .before .loop .inv .1 .same), c .before .before .before .before .before .before .pre .3 (c .before .before .before .loop .i) (omega arith), (_, c .before .before .before .loop .inv .1 .entered))
+
+add-i : tie.Need-add-i Inv-loop μ-loop
+add-i c = search needs
+
+loop-less : tie.Need-loop-less Inv-loop μ-loop
+loop-less c = search needs
+
+loop-again : tie.Need-loop-again Inv-loop μ-loop
+loop-again c = let s = c .before .before .before .before .before .before .before .before .before .args .active .now in let i = c .before .before .before .before .before .before .loop .i in
+    (omega arith, entries-more (ap (λ (j : ℕ). take j s) (add-one i) ∙ take-suc s i 0 (omega arith)) (c .before .before .before .before .before .before .loop .inv .1) (c .before .before .enter .ensures))
+
+same-length : tie.Need-same-length Inv-loop μ-loop
+same-length c = c .before .loop .inv .1 .same
+
+returns : tie.Need-returns Inv-loop μ-loop
+returns c = let e : c .before .loop .i ≡ c .before .before .before .before .args .k = omega arith in rw e at (c .before .loop .inv .1)
+
+pub enter-active-spec : {M : Type 1} → statement M
+enter-active-spec =
+    tie.close
+    (tie.spec
+    Inv-loop
+    μ-loop
+    loop-holds
+    mul-v
+    shared-slice-read-v
+    cast-v
+    enter-requires
+    add-i
+    loop-less
+    loop-again
+    same-length
+    returns)

@@ -1,0 +1,43 @@
+-- What loading a graph gives: all active entries entered, the ends of the edges stored, and both together.
+-- Assumes nothing: these are definitions.
+use Prim.Native.Nat.{_*_, _+_, _<_, _≤_, ℕ}
+use mathlib.Core.List.{List}
+use mathlib.Core.Path.{_≡_}
+use lib.Dec.{eqb}
+use lib.ListN.{getD, length, take}
+use Rattle.core_reduce.specs.Core.{Loaded, activeIn, edgesIn}
+use Rattle.theory_graph.specs.Lists.{firsts, pairs}
+use Rattle.core_loading.specs.Loading.{Entered, Past}
+use Rattle.core_words.specs.Fields.{half, node}
+
+-- from a to b all of S are entered
+pub record Entries (n : ℕ) (S : List ℕ) (a b : List ℕ) (d : ℕ) : Type 0 where
+  pub same : length b ≡ length a
+  pub past : Past (16 * n) a b
+  pub entered : Entered n S d (node 0 b) (node 1 b)
+
+-- from a to b the ends of the first s of m edges are stored
+pub record Edges (n m : ℕ) (from to a b : List ℕ) (s : ℕ) : Type 0 where
+  pub same : length b ≡ length a
+  pub past : Past (16 * n + 4 * m) a b
+  pub nodes : (j : ℕ) → j < 16 → (v : ℕ) → v < n → node j b v ≡ node j a v
+  pub ends : (e : ℕ) → e < s → (half n 0 b (2 * e) ≡ getD from e 0) × (half n 0 b (2 * e + 1) ≡ getD to e 0)
+
+-- what can be loaded
+pub record Loadable (n m k : ℕ) (from to active w : List ℕ) : Type 0 where
+  pub few : n ≤ 65536
+  pub much : m ≤ 32768
+  pub room : 16 * n + 4 * m ≤ length w
+  pub from-length : m ≤ length from
+  pub to-length : m ≤ length to
+  pub active-length : k ≤ length active
+  pub ends : (e : ℕ) → e < m → (getD from e 0 < n) × (getD to e 0 < n)
+  pub entries : (i : ℕ) → i < k → getD active i 0 < n
+
+-- from a to b all is loaded: the edges as they are given, and of the active entries the d different ones
+pub record Prepared (n m k : ℕ) (from to active a b : List ℕ) (d : ℕ) : Type 0 where
+  pub same : length b ≡ length a
+  pub past : Past (16 * n + 4 * m) a b
+  pub loaded : Loaded n m d b
+  pub edges : edgesIn n m b ≡ pairs (take m from) (take m to)
+  pub actives : activeIn d b ≡ firsts eqb (take k active)

@@ -1,0 +1,73 @@
+// The lent 16-bit tables put into the words that the contraction takes, and its result read back into them.
+ghost use mathlib.Core.Path.{_≡_};
+ghost use Prim.Native.Nat.{ℕ, _+_, _*_, _<_, _≤_};
+ghost use lib.ListN.{length, getD, take};
+ghost use Rattle.core_words.specs.Fields.{node};
+ghost use Rattle.contraction_tables.specs.Transfer.{Entries, Edges, Loadable, Prepared};
+ghost use Rattle.theory_graph.specs.Lists.{table, over};
+
+// Enters the first k active entries; the count of different active nodes.
+fn enter_active(work: &mut [u32], n: usize, k: usize, active: &[u16]) -> usize
+    requires { ⌜ (n ≤ 65536) × (16 * n ≤ length (now work)) × (k ≤ length (now active)) × ((i : ℕ) → i < k → getD (now active) i 0 < n) × ((v : ℕ) → v < n → node 0 (now work) v ≡ 0) ⌝ }
+    ensures { λ r. ⌜ Entries n (take k (now (active .entry))) (now (work .entry)) (now (work .exit)) r ⌝ }
+{
+    let mut d: usize = 0;
+    for i in 0..k {
+        let v = active[i] as usize;
+        d = core_loading::enter(work, n, d, v);
+    }
+    d
+}
+
+// Loads the ends of the first m edges.
+fn load_edges(work: &mut [u32], n: usize, m: usize, from: &[u16], to: &[u16])
+    requires { ⌜ (n ≤ 65536) × (m ≤ 32768) × (16 * n + 4 * m ≤ length (now work)) × (m ≤ length (now from)) × (m ≤ length (now to)) ⌝ }
+    ensures { λ _. ⌜ Edges n m (now (from .entry)) (now (to .entry)) (now (work .entry)) (now (work .exit)) m ⌝ }
+{
+    for s in 0..m {
+        let a = from[s] as usize;
+        let b = to[s] as usize;
+        core_loading::put_edge(work, n, s, a, b);
+    }
+}
+
+// Internal: loads the graph; the count of different active nodes.
+pub fn load(
+    work: &mut [u32],
+    n: usize,
+    m: usize,
+    k: usize,
+    from: &[u16],
+    to: &[u16],
+    active: &[u16],
+) -> usize
+    requires { ⌜ Loadable n m k (now from) (now to) (now active) (now work) ⌝ }
+    ensures { λ r. ⌜ Prepared n m k (now (from .entry)) (now (to .entry)) (now (active .entry)) (now (work .entry)) (now (work .exit)) r ⌝ }
+{
+    core_loading::clear_marks(work, n);
+    let d = enter_active(work, n, k, active);
+    load_edges(work, n, m, from, to);
+    d
+}
+
+// Internal: the new numbers of the first k active entries.
+pub fn fill_map(work: &[u32], n: usize, k: usize, active: &[u16], map: &mut [u16])
+    requires { ⌜ (16 * n ≤ length (now work)) × (k ≤ length (now active)) × (k ≤ length (now map)) × ((i : ℕ) → i < k → (getD (now active) i 0 < n) × (node 0 (now work) (getD (now active) i 0) < 65536)) ⌝ }
+    ensures { λ _. ⌜ now (map .exit) ≡ over (table (λ i. node 0 (now (work .entry)) (getD (now (active .entry)) i 0)) 0 k) (now (map .entry)) ⌝ }
+{
+    for i in 0..k {
+        let x = core_words::get(work, active[i] as usize, 0);
+        map[i] = x as u16;
+    }
+}
+
+// Internal: field j of the first e nodes: an end of each edge.
+pub fn fill_ends(work: &[u32], e: usize, j: usize, out: &mut [u16])
+    requires { ⌜ (16 * e ≤ length (now work)) × (e ≤ length (now out)) × (j < 16) × ((i : ℕ) → i < e → node j (now work) i < 65536) ⌝ }
+    ensures { λ _. ⌜ now (out .exit) ≡ over (table (node j (now (work .entry))) 0 e) (now (out .entry)) ⌝ }
+{
+    for i in 0..e {
+        let x = core_words::get(work, i, j);
+        out[i] = x as u16;
+    }
+}

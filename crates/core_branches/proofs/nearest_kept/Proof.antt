@@ -1,0 +1,54 @@
+-- `branches::nearest_kept` meets its contract. The loop's invariant: the first i nodes of the order have theirs.
+-- Assumes nothing.
+use Prim.Native.Nat.{_-_, _≤_}
+use mathlib.Core.Path.{_≡_}
+use native.Mathlib.Omega.{arith}
+use Rattle.core_branches.proofs.NearestLaws.{nearest-can, nearest-more, nearest-none}
+use Rattle.core_branches.specs.Numbers.{NearestLoop}
+use Rattle.core_branches.proofs.nearest_kept.Statement.{statement}
+use Rattle.core_branches.proofs.nearest_kept.Tie as tie
+
+abbrev Inv-loop : tie.InvT-loop
+Inv-loop work₀ n seen i₀ work i = (i ≤ seen) × NearestLoop n work₀ i work
+
+abbrev μ-loop : tie.MeasureT-loop
+μ-loop work₀ n seen i₀ work i = seen - i
+
+loop-holds : tie.Need-loop-holds Inv-loop μ-loop
+loop-holds c = (omega arith, nearest-none (c .before .pre))
+
+get-requires : tie.Need-get-requires Inv-loop μ-loop
+get-requires c κs = let s = c .before .before .loop .inv .1 .rest .same in omega (arith, c .before .before .before .before .pre .room, c .before .before .before .before .pre .tree .less)
+
+nearest-at-requires : tie.Need-nearest-at-requires Inv-loop μ-loop
+nearest-at-requires c κs = nearest-can (c .before .before .before .before .before .before .pre) (c .before .before .before .before .loop .inv .1) (omega arith) (c .before .get .ensures .0)
+
+add-i : tie.Need-add-i Inv-loop μ-loop
+add-i c = omega (arith, c .before .before .before .before .before .before .before .before .before .pre .few, c .before .before .before .before .before .before .before .before .before .pre .tree .less)
+
+loop-less : tie.Need-loop-less Inv-loop μ-loop
+loop-less c = omega arith
+
+loop-again : tie.Need-loop-again Inv-loop μ-loop
+loop-again c = (omega arith, nearest-more (c .before .before .before .before .before .before .before .before .before .pre) (c .before .before .before .before .before .before .before .loop .inv .1) (omega arith) (c .before .before .before .before .get .ensures .0) (c .before .before .nearest-at .ensures))
+
+same-length : tie.Need-same-length Inv-loop μ-loop
+same-length c = c .before .loop .inv .1 .rest .same
+
+returns : tie.Need-returns Inv-loop μ-loop
+returns c = let e : c .before .loop .i ≡ c .before .before .before .args .seen = omega arith in rw e at (c .before .loop .inv .1)
+
+pub nearest-kept-spec : {M : Type 1} → statement M
+nearest-kept-spec =
+    tie.close
+    (tie.spec
+    Inv-loop
+    μ-loop
+    loop-holds
+    get-requires
+    nearest-at-requires
+    add-i
+    loop-less
+    loop-again
+    same-length
+    returns)

@@ -1,0 +1,186 @@
+ghost use mathlib.Core.Path.{_≡_};
+ghost use Prim.Native.Nat.{ℕ, _+_, _*_, _<_, _≤_};
+ghost use Rattle.core_branches.specs.BranchCounts.{CanReport, Report, CanCount, Counting};
+ghost use Rattle.core_branches.specs.Numbers.{CanAssign, Assigned, CanNumber, ActiveStep, CanNumberActives, NumberingActives, OtherStep, CanNumberOthers, NumberingOthers, CanSetNearest, NearestStep, CanFindNearest, NearestLoop, CanSetParent, SetParent, CanSetParents, ParentLoop};
+ghost use Rattle.core_branches.specs.Classes.{CanNumberClasses, ClassNumbers};
+
+// The class with the top t, which has no number, gets the number h, by its node v.
+fn assign_number(work: &mut [u32], n: usize, h: usize, v: usize, t: usize)
+    requires { ⌜ CanAssign n h (now work) v t ⌝ }
+    ensures { λ _. ⌜ Assigned n h v t (now (work .entry)) (now (work .exit)) ⌝ }
+{
+    core_words::put(work, h, 11, v);
+    core_words::put(work, t, 10, h + 1);
+}
+
+// The class of the active node v gets the next number where it has none.
+fn number_active(work: &mut [u32], n: usize, h: usize, v: usize) -> usize
+    requires { ⌜ CanNumber n h (now work) v ⌝ }
+    ensures { λ r. ⌜ ActiveStep n h v (now (work .entry)) (now (work .exit)) r ⌝ }
+{
+    let t = core_words::get(work, v, 6);
+    let x = core_words::get(work, t, 10);
+    if x != 0 {
+        return h;
+    }
+    assign_number(work, n, h, v, t);
+    core_words::put(work, t, 7, v + 1);
+    h + 1
+}
+
+// Numbers the classes of the active nodes in order of first appearance; how many they are.
+fn number_actives(work: &mut [u32], n: usize, k: usize) -> usize
+    requires { ⌜ CanNumberActives n k (now work) ⌝ }
+    ensures { λ h. ⌜ NumberingActives n k (now (work .entry)) k h (now (work .exit)) ⌝ }
+{
+    let mut h = 0;
+    for i in 0..k {
+        let v = core_words::get(work, i, 1);
+        h = number_active(work, n, h, v);
+    }
+    h
+}
+
+// Where v is the top of a class with an active node at or below it, and no root, the class above v has one branch more.
+fn report_branch(work: &mut [u32], n: usize, v: usize)
+    requires { ⌜ CanReport n (now work) v ⌝ }
+    ensures { λ _. ⌜ Report n v (now (work .entry)) (now (work .exit)) ⌝ }
+{
+    let t = core_words::get(work, v, 6);
+    if t != v {
+        return;
+    }
+    let e = core_words::get(work, v, 13);
+    if e == 0 {
+        return;
+    }
+    let l = core_words::get(work, v, 7);
+    if l == 0 {
+        return;
+    }
+    let p = core_words::get(work, v, 5);
+    let q = core_words::get(work, p, 6);
+    let old = core_words::get(work, q, 8);
+    core_words::put(work, q, 7, l);
+    core_words::put(work, q, 9, old);
+    core_words::put(work, q, 8, v + 1);
+}
+
+// The branches of each class, two of them where there are two: against the order, so that a class reports after all that lies below it.
+fn count_branches(work: &mut [u32], n: usize, seen: usize)
+    requires { ⌜ CanCount n seen (now work) ⌝ }
+    ensures { λ _. ⌜ Counting n seen (now (work .entry)) 0 (now (work .exit)) ⌝ }
+{
+    let mut i = seen;
+    while i != 0 {
+        i -= 1;
+        let v = core_words::get(work, i, 3);
+        report_branch(work, n, v);
+    }
+}
+
+// The class of v gets the next number where it has none and two branches.
+fn number_other(work: &mut [u32], n: usize, h: usize, v: usize) -> usize
+    requires { ⌜ CanNumber n h (now work) v ⌝ }
+    ensures { λ r. ⌜ OtherStep n h v (now (work .entry)) (now (work .exit)) r ⌝ }
+{
+    let p = core_words::get(work, v, 4);
+    if p == 0 {
+        return h;
+    }
+    let t = core_words::get(work, v, 6);
+    let x = core_words::get(work, t, 10);
+    if x != 0 {
+        return h;
+    }
+    let o = core_words::get(work, t, 9);
+    if o == 0 {
+        return h;
+    }
+    assign_number(work, n, h, v, t);
+    h + 1
+}
+
+// Numbers the other kept classes by their smallest nodes; how many classes have a number then.
+fn number_others(work: &mut [u32], n: usize, h: usize) -> usize
+    requires { ⌜ CanNumberOthers n h (now work) ⌝ }
+    ensures { λ r. ⌜ NumberingOthers n h (now (work .entry)) n r (now (work .exit)) ⌝ }
+{
+    let mut r = h;
+    for v in 0..n {
+        r = number_other(work, n, r, v);
+    }
+    r
+}
+
+// The top v gets the number of its class, or where it has none what the class above has.
+fn nearest_at(work: &mut [u32], n: usize, v: usize)
+    requires { ⌜ CanSetNearest n (now work) v ⌝ }
+    ensures { λ _. ⌜ NearestStep n v (now (work .entry)) (now (work .exit)) ⌝ }
+{
+    let t = core_words::get(work, v, 6);
+    if t != v {
+        return;
+    }
+    let x = core_words::get(work, v, 10);
+    if x != 0 {
+        core_words::put(work, v, 7, x);
+        return;
+    }
+    let p = core_words::get(work, v, 5);
+    let q = core_words::get(work, p, 6);
+    let y = core_words::get(work, q, 7);
+    core_words::put(work, v, 7, y);
+}
+
+// The nearest kept class at or above each class, by its number: in order, so that the class above has it already.
+fn nearest_kept(work: &mut [u32], n: usize, seen: usize)
+    requires { ⌜ CanFindNearest n seen (now work) ⌝ }
+    ensures { λ _. ⌜ NearestLoop n (now (work .entry)) seen (now (work .exit)) ⌝ }
+{
+    for i in 0..seen {
+        let v = core_words::get(work, i, 3);
+        nearest_at(work, n, v);
+    }
+}
+
+// The number of the nearest kept class above the class with the number x.
+fn parent_number(work: &mut [u32], n: usize, x: usize)
+    requires { ⌜ CanSetParent n (now work) x ⌝ }
+    ensures { λ _. ⌜ SetParent n x (now (work .entry)) (now (work .exit)) ⌝ }
+{
+    let v = core_words::get(work, x, 11);
+    let t = core_words::get(work, v, 6);
+    let e = core_words::get(work, t, 13);
+    if e == 0 {
+        core_words::put(work, x, 9, 0);
+        return;
+    }
+    let p = core_words::get(work, t, 5);
+    let q = core_words::get(work, p, 6);
+    let y = core_words::get(work, q, 7);
+    core_words::put(work, x, 9, y);
+}
+
+// The same for each of the h numbers.
+fn parent_numbers(work: &mut [u32], n: usize, h: usize)
+    requires { ⌜ CanSetParents n h (now work) ⌝ }
+    ensures { λ _. ⌜ ParentLoop n (now (work .entry)) h (now (work .exit)) ⌝ }
+{
+    for x in 0..h {
+        parent_number(work, n, x);
+    }
+}
+
+// Internal: numbers the kept classes, and finds the nearest kept class above each; how many they are.
+pub fn number_classes(work: &mut [u32], n: usize, m: usize, k: usize, seen: usize) -> usize
+    requires { ⌜ CanNumberClasses n m k seen (now work) ⌝ }
+    ensures { λ h. ⌜ ClassNumbers n m k (now (work .entry)) h (now (work .exit)) ⌝ }
+{
+    let g = number_actives(work, n, k);
+    count_branches(work, n, seen);
+    let h = number_others(work, n, g);
+    nearest_kept(work, n, seen);
+    parent_numbers(work, n, h);
+    h
+}

@@ -1,0 +1,50 @@
+-- `components::start_tops` meets its contract. The loop's invariant: the first v nodes are their own tops.
+-- Assumes nothing.
+use Prim.Native.Nat.{_-_, _≤_}
+use mathlib.Core.Path.{_≡_}
+use native.Mathlib.Omega.{arith}
+use Rattle.core_components.proofs.CompressionLaws.{own-more, own-none}
+use Rattle.core_components.specs.Tops.{OwnTops}
+use Rattle.core_components.proofs.start_tops.Statement.{statement}
+use Rattle.core_components.proofs.start_tops.Tie as tie
+
+abbrev Inv-loop : tie.InvT-loop
+Inv-loop work₀ n v₀ work v = (v ≤ n) × OwnTops n v work₀ work
+
+abbrev μ-loop : tie.MeasureT-loop
+μ-loop work₀ n v₀ work v = n - v
+
+loop-holds : tie.Need-loop-holds Inv-loop μ-loop
+loop-holds c = (omega arith, own-none _ _)
+
+put-requires : tie.Need-put-requires Inv-loop μ-loop
+put-requires c κs = let s = c .before .before .loop .inv .1 .rest .same in (omega arith, omega arith, omega arith)
+
+add-v : tie.Need-add-v Inv-loop μ-loop
+add-v c = omega arith
+
+loop-less : tie.Need-loop-less Inv-loop μ-loop
+loop-less c = omega arith
+
+loop-again : tie.Need-loop-again Inv-loop μ-loop
+loop-again c = (omega arith, own-more (omega arith) (c .before .before .before .before .before .loop .inv .1) (c .before .before .put .ensures))
+
+same-length : tie.Need-same-length Inv-loop μ-loop
+same-length c = c .before .loop .inv .1 .rest .same
+
+returns : tie.Need-returns Inv-loop μ-loop
+returns c = let e : c .before .loop .v ≡ c .before .before .before .args .n = omega arith in rw e at (c .before .loop .inv .1)
+
+pub start-tops-spec : {M : Type 1} → statement M
+start-tops-spec =
+    tie.close
+    (tie.spec
+    Inv-loop
+    μ-loop
+    loop-holds
+    put-requires
+    add-v
+    loop-less
+    loop-again
+    same-length
+    returns)

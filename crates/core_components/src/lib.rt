@@ -1,0 +1,138 @@
+ghost use mathlib.Core.Path.{_≡_};
+ghost use Prim.Native.Nat.{ℕ, _+_, _*_, _<_, _≤_};
+ghost use lib.ListN.{length};
+ghost use Rattle.core_words.specs.Fields.{node, Put};
+ghost use Rattle.core_forest.specs.Search.{BetweenTrees};
+ghost use Rattle.core_components.specs.Tops.{CanFind, Found, CanMergeUp, MergedUpAt, CanMergePath, SeenTop, SameTree, MergedPath, OwnTops, CanCompress, Compressed};
+ghost use Rattle.core_components.specs.Merging.{CanMergeEdge, EdgeMerged, CanMerge, EdgesMerged};
+ghost use Rattle.core_components.specs.Components.{Components};
+
+// The top of v; the path to it is halved on the way.
+fn find(work: &mut [u32], n: usize, v: usize) -> usize
+    requires { ⌜ CanFind n (now work) v ⌝ }
+    ensures { λ r. ⌜ Found n (now (work .entry)) v r (now (work .exit)) ⌝ }
+{
+    let mut v = v;
+    let mut u = core_words::get(work, v, 6);
+    while u != v {
+        let t = core_words::get(work, u, 6);
+        core_words::put(work, v, 6, t);
+        v = t;
+        u = core_words::get(work, v, 6);
+    }
+    v
+}
+
+// Merges the top a into the top of its parent, which it returns.
+fn merge_parent(work: &mut [u32], n: usize, a: usize) -> usize
+    requires { ⌜ CanMergeUp n (now work) a ⌝ }
+    ensures { λ r. ⌜ MergedUpAt n (now (work .entry)) a r (now (work .exit)) ⌝ }
+{
+    let p = core_words::get(work, a, 5);
+    let q = find(work, n, p);
+    core_words::put(work, a, 6, q);
+    q
+}
+
+// Merges all tops on the tree path from the top a to the top b: the later of the two goes up until they are one.
+fn merge_tops(work: &mut [u32], n: usize, a: usize, b: usize)
+    requires { ⌜ CanMergePath n (now work) × SeenTop n (now work) a × SeenTop n (now work) b × (node 12 (now work) a ≡ node 12 (now work) b) ⌝ }
+    ensures { λ _. ⌜ MergedPath n (now (work .entry)) a b (now (work .exit)) ⌝ }
+{
+    let mut a = a;
+    let mut b = b;
+    while a != b {
+        let pa = core_words::get(work, a, 4);
+        let pb = core_words::get(work, b, 4);
+        if pa < pb {
+            b = merge_parent(work, n, b);
+        } else {
+            a = merge_parent(work, n, a);
+        }
+    }
+}
+
+// Merges all tops on the tree path from x to y.
+fn merge_path(work: &mut [u32], n: usize, x: usize, y: usize)
+    requires { ⌜ CanMergePath n (now work) × SameTree n (now work) x y ⌝ }
+    ensures { λ _. ⌜ MergedPath n (now (work .entry)) x y (now (work .exit)) ⌝ }
+{
+    let a = find(work, n, x);
+    let b = find(work, n, y);
+    merge_tops(work, n, a, b);
+}
+
+// Merges along the tree path between the ends of edge e, where it is seen and no tree edge. A parallel of a tree edge is none.
+fn merge_edge(work: &mut [u32], n: usize, m: usize, e: usize)
+    requires { ⌜ CanMergeEdge n m e (now work) ⌝ }
+    ensures { λ _. ⌜ EdgeMerged n e (now (work .entry)) (now (work .exit)) ⌝ }
+{
+    let x = core_words::get_half(work, n, 2 * e, 0);
+    let y = core_words::get_half(work, n, 2 * e + 1, 0);
+    let p = core_words::get(work, x, 4);
+    if p == 0 {
+        return;
+    }
+    let s = core_words::get(work, x, 13);
+    if s == e + 1 {
+        return;
+    }
+    let t = core_words::get(work, y, 13);
+    if t == e + 1 {
+        return;
+    }
+    merge_path(work, n, x, y);
+}
+
+// Merges along the tree path of every edge.
+fn merge_edges(work: &mut [u32], n: usize, m: usize)
+    requires { ⌜ CanMerge n m (now work) ⌝ }
+    ensures { λ _. ⌜ EdgesMerged n m (now (work .entry)) m (now (work .exit)) ⌝ }
+{
+    for e in 0..m {
+        merge_edge(work, n, m, e);
+    }
+}
+
+// Each of the n nodes is its own top.
+fn start_tops(work: &mut [u32], n: usize)
+    requires { ⌜ (16 * n ≤ length (now work)) × (n ≤ 65536) ⌝ }
+    ensures { λ _. ⌜ OwnTops n n (now (work .entry)) (now (work .exit)) ⌝ }
+{
+    for v in 0..n {
+        core_words::put(work, v, 6, v);
+    }
+}
+
+// The top of v is final where the top of v's top is.
+fn compress(work: &mut [u32], n: usize, v: usize)
+    requires { ⌜ CanFind n (now work) v ⌝ }
+    ensures { λ _. ⌜ Put 6 v (node 6 (now (work .entry)) (node 6 (now (work .entry)) v)) (now (work .entry)) (now (work .exit)) ⌝ }
+{
+    let t = core_words::get(work, v, 6);
+    let u = core_words::get(work, t, 6);
+    core_words::put(work, v, 6, u);
+}
+
+// The tops of the first seen nodes of the order are made final: in order, so that the top of a node's top is final already.
+fn compress_all(work: &mut [u32], n: usize, seen: usize)
+    requires { ⌜ CanCompress n seen (now work) ⌝ }
+    ensures { λ _. ⌜ Compressed n seen (now (work .entry)) (now (work .exit)) ⌝ }
+{
+    for i in 0..seen {
+        let v = core_words::get(work, i, 3);
+        compress(work, n, v);
+    }
+}
+
+// Internal: the 2-edge-connected components of all that the active nodes reach, each by its top; how many nodes these are.
+pub fn find_components(work: &mut [u32], n: usize, m: usize, k: usize) -> usize
+    requires { ⌜ BetweenTrees n m k (now work) 0 0 ⌝ }
+    ensures { λ s. ⌜ Components n m k (now (work .entry)) (now (work .exit)) s ⌝ }
+{
+    let seen = core_forest::spanning_forest(work, n, m, k);
+    start_tops(work, n);
+    merge_edges(work, n, m);
+    compress_all(work, n, seen);
+    seen
+}

@@ -1,0 +1,116 @@
+-- Laws of linking: one half-edge more, an edge, all of them; what stays.
+-- Assumes nothing.
+use Prim.Native.Nat.{_*_, _+_, _-_, _/_, _<_, _≤_, ℕ}
+use mathlib.Core.List.{List}
+use mathlib.Core.Path.{_∙_, _≡_, ap, refl, sym}
+use lib.Dec.{eqb}
+use lib.ListN.{getD}
+use native.Mathlib.Omega.{arith}
+use borrow.Author.Tests.{eqb-false, eqb-true}
+use Rattle.core_forest.proofs.HalfEdges.{half-cases, twin-back, twin-even, twin-odd}
+use Rattle.core_forest.specs.AdjacencyLists.{AdjacencyLists, CanLink, LastFrom, Linking, origin, twin}
+use Rattle.theory_graph.proofs.Booleans.{onBool}
+use Rattle.core_words.proofs.FieldLaws.{update-at, update-other}
+use Rattle.core_words.specs.Fields.{Put, PutHalf, half, node, update}
+
+last-here : (out : ℕ → ℕ) (v i : ℕ) → out i ≡ v → LastFrom out v (i + 1) (i + 1)
+last-here out v i e = record { below = omega arith; at = λ _. let q : i + 1 - 1 ≡ i = omega arith in ap out q ∙ e; gap = λ h l k _. omega arith }
+
+last-more : (out : ℕ → ℕ) (u i c : ℕ) → (out i ≡ u → ⊥) → LastFrom out u i c → LastFrom out u (i + 1) c
+last-more out u i c ne l = record {
+  below = omega (arith, l .below);
+  at = l .at;
+  gap = λ h a b e. onBool (eqb h i) (λ q. ne (ap out (sym (eqb-true h i q)) ∙ e)) (λ q. let z : ¬ (h ≡ i) = eqb-false h i q in l .gap h a (omega arith) e);
+}
+
+module _ {n m h v : ℕ} {w : List ℕ} (k : Linking n m w w h) (l : h < 2 * m) (ev : v ≡ origin (half n 0 w) h) where
+  pub v-fits : v < n
+  v-fits = let b = twin-back (half n 0 w) m h l in rw (ev, ← b .1) (k .ends (twin h) (b .0))
+
+  pub half-linked : {x : ℕ} {w₁ w₂ : List ℕ} → x ≡ node 2 w v → PutHalf n 1 h x w w₁ → Put 2 v (h + 1) w₁ w₂ → Linking n m w w₂ (h + 1)
+  half-linked {x} {w₁} {w₂} ex p q = record {
+    few = k .few;
+    much = k .much;
+    room = rw (q .same, p .same) (k .room);
+    ends = rw tos (k .ends);
+    links = record {
+      heads = rw (tos, q .here) (update-at (λ u y. u < n → LastFrom to u (h + 1) y) (node 2 w₁) v (h + 1)
+          (λ _. last-here to v h (sym ev))
+          (λ u ne i. rw (p .nodes 2 (omega arith) u i) (last-more to u h (node 2 w u) (λ e. ne (sym e ∙ sym ev)) (k .links .heads u i))));
+      nexts = rw (tos, nexts) (update-at (λ j y. j < h + 1 → LastFrom to (to j) j y) (half n 1 w) h x
+          (λ _. rw (← ev, ex) (k .links .heads v v-fits))
+          (λ j ne i. k .links .nexts j (omega arith)));
+    };
+    same = q .same ∙ p .same;
+    tos = tos;
+    past = λ j i. ap (λ f. f j) nexts ∙ update-other (half n 1 w) h x j (λ e. omega arith);
+    nodes = λ j i ne u b. ap (λ f. f u) (q .else j i ne) ∙ p .nodes j i u b;
+  }
+    where
+      to : ℕ → ℕ
+      to = origin (half n 0 w)
+
+      tos : half n 0 w₂ ≡ half n 0 w
+      tos = q .halves n v-fits 0 ∙ p .else 0 (omega arith) (λ e. omega arith)
+
+      nexts : half n 1 w₂ ≡ update (half n 1 w) h x
+      nexts = q .halves n v-fits 1 ∙ p .here
+
+pub linking-none : {n m : ℕ} {w : List ℕ} → CanLink n m w → Linking n m w w 0
+linking-none u = record {
+  few = u .few;
+  much = u .much;
+  room = u .room;
+  ends = u .ends;
+  links = record {
+    heads = λ v l. rw (u .empty v l) (record { below = omega arith; at = λ i. absurd (omega arith); gap = λ h a b e. omega arith });
+    nexts = λ h l. absurd (omega arith);
+  };
+  same = refl;
+  tos = refl;
+  past = λ h l. refl;
+  nodes = λ j i ne v l. refl;
+}
+
+-- from the words as they are
+pub linking-self : {n m i : ℕ} {a w : List ℕ} → Linking n m a w i → Linking n m w w i
+linking-self k = record { few = k .few; much = k .much; room = k .room; ends = k .ends; links = k .links; same = refl; tos = refl; past = λ h l. refl; nodes = λ j i ne v l. refl }
+
+pub linking-then : {n m i j : ℕ} {a b c : List ℕ} → Linking n m a b i → Linking n m b c j → Linking n m a c j
+linking-then k l = record {
+  few = l .few;
+  much = l .much;
+  room = l .room;
+  ends = l .ends;
+  links = l .links;
+  same = l .same ∙ k .same;
+  tos = l .tos ∙ k .tos;
+  past = λ h i. l .past h i ∙ k .past h i;
+  nodes = λ j i ne v b. l .nodes j i ne v b ∙ k .nodes j i ne v b;
+}
+
+pub even-leaves : (to : ℕ → ℕ) (e y : ℕ) → y ≡ to (2 * e + 1) → y ≡ origin to (2 * e)
+unfolding origin
+even-leaves to e y q = q ∙ sym (ap to (twin-even e))
+
+pub odd-leaves : {n m i : ℕ} {a w : List ℕ} → Linking n m a w i → (e x : ℕ) → x ≡ half n 0 a (2 * e) → x ≡ origin (half n 0 w) (2 * e + 1)
+unfolding origin
+odd-leaves {n} {w = w} k e x q = q ∙ sym (ap (λ f. f (2 * e)) (k .tos)) ∙ sym (ap (half n 0 w) (twin-odd e))
+
+-- both half-edges of edge e
+pub edge-linked : {n m : ℕ} (e : ℕ) {w₀ w w₁ w₂ : List ℕ} → Linking n m w₀ w (2 * e) → Linking n m w w₁ (2 * e + 1) → Linking n m w₁ w₂ (2 * e + 1 + 1) → Linking n m w₀ w₂ (2 * (e + 1))
+edge-linked e k l o = let q : 2 * (e + 1) ≡ 2 * e + 1 + 1 = omega arith in rw q (linking-then k (linking-then l o))
+
+pub all-linked : {n m : ℕ} {a w : List ℕ} → Linking n m a w (2 * m) → AdjacencyLists n m w
+all-linked k = record { few = k .few; much = k .much; room = k .room; ends = k .ends; heads = k .links .heads; nexts = k .links .nexts }
+
+-- the words behind the half-edges stay
+pub linking-past : {n m i : ℕ} {a w : List ℕ} → Linking n m a w i → (j : ℕ) → 16 * n + 4 * m ≤ j → getD w j 0 ≡ getD a j 0
+unfolding half
+linking-past {n} {m} {a = a} {w} k j l = half-cases (j - 16 * n)
+    (λ e.
+    let q : j ≡ 16 * n + 2 * ((j - 16 * n) / 2) + 0 = omega arith in
+    ap (λ p. getD w p 0) q ∙ ap (λ f. f ((j - 16 * n) / 2)) (k .tos) ∙ ap (λ p. getD a p 0) (sym q))
+    (λ e.
+    let q : j ≡ 16 * n + 2 * ((j - 16 * n) / 2) + 1 = omega arith in
+    ap (λ p. getD w p 0) q ∙ k .past ((j - 16 * n) / 2) (omega arith) ∙ ap (λ p. getD a p 0) (sym q))

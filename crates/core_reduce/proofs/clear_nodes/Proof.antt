@@ -1,0 +1,51 @@
+-- `core::clear_nodes` meets its contract. The loop's invariant: the first v nodes are cleared.
+-- Assumes nothing.
+use Rattle.core_reduce.proofs.ClearLaws.{cleared-none, cleared-more}
+use Rattle.core_reduce.specs.Clearing.{Cleared}
+use mathlib.Core.List.{[], _∷_}
+use mathlib.Core.Path.{_≡_}
+use Prim.Native.Nat.{_-_, _≤_}
+use native.Mathlib.Omega.{arith}
+use Rattle.core_reduce.proofs.clear_nodes.Statement.{statement}
+use Rattle.core_reduce.proofs.clear_nodes.Tie as tie
+
+abbrev Inv-loop : tie.InvT-loop
+Inv-loop work₀ n v₀ work v = (v ≤ n) × Cleared (10 ∷ 9 ∷ 8 ∷ 7 ∷ 4 ∷ 2 ∷ []) n v work₀ work
+
+abbrev μ-loop : tie.MeasureT-loop
+μ-loop work₀ n v₀ work v = n - v
+
+loop-holds : tie.Need-loop-holds Inv-loop μ-loop
+loop-holds c = (omega arith, cleared-none _ _)
+
+clear-node-requires : tie.Need-clear-node-requires Inv-loop μ-loop
+clear-node-requires c κs = let s = c .before .before .loop .inv .1 .rest .same in (omega (arith, c .before .before .before .before .pre .0), c .before .before .before .before .pre .1, omega arith)
+
+add-v : tie.Need-add-v Inv-loop μ-loop
+add-v c = omega (arith, c .before .before .before .before .before .before .before .pre .1)
+
+loop-less : tie.Need-loop-less Inv-loop μ-loop
+loop-less c = omega arith
+
+loop-again : tie.Need-loop-again Inv-loop μ-loop
+loop-again c = (omega arith, cleared-more (c .before .before .before .before .before .loop .inv .1) (c .before .before .clear-node .ensures))
+
+same-length : tie.Need-same-length Inv-loop μ-loop
+same-length c = c .before .loop .inv .1 .rest .same
+
+returns : tie.Need-returns Inv-loop μ-loop
+returns c = let e : c .before .loop .v ≡ c .before .before .before .args .n = omega arith in rw e at (c .before .loop .inv .1)
+
+pub clear-nodes-spec : {M : Type 1} → statement M
+clear-nodes-spec =
+    tie.close
+    (tie.spec
+    Inv-loop
+    μ-loop
+    loop-holds
+    clear-node-requires
+    add-v
+    loop-less
+    loop-again
+    same-length
+    returns)

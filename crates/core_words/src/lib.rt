@@ -1,0 +1,47 @@
+ghost use mathlib.Core.Path.{_≡_};
+ghost use Prim.Native.Nat.{ℕ, _+_, _*_, _<_, _≤_};
+ghost use lib.ListN.{length, getD, set, replicate};
+ghost use Rattle.theory_graph.specs.Lists.{over};
+ghost use Rattle.core_words.specs.Fields.{node, half, Put, PutHalf};
+
+// Internal: field k of node v.
+pub fn get(work: &[u32], v: usize, k: usize) -> usize
+    requires { ⌜ 16 * v + k < length (now work) ⌝ }
+    ensures { λ r. ⌜ (r ≡ node k (now (work .entry)) v) × (r < 4294967296) ⌝ }
+{
+    work[16 * v + k] as usize
+}
+
+// Internal: sets field k of node v to x.
+pub fn put(work: &mut [u32], v: usize, k: usize, x: usize)
+    requires { ⌜ (16 * v + k < length (now work)) × (x < 4294967296) × (k < 16) ⌝ }
+    ensures { λ _. ⌜ Put k v x (now (work .entry)) (now (work .exit)) ⌝ }
+{
+    work[16 * v + k] = x as u32;
+}
+
+// Internal: field k of half-edge h, where there are n nodes.
+pub fn get_half(work: &[u32], n: usize, h: usize, k: usize) -> usize
+    requires { ⌜ 16 * n + 2 * h + k < length (now work) ⌝ }
+    ensures { λ r. ⌜ (r ≡ half n k (now (work .entry)) h) × (r < 4294967296) ⌝ }
+{
+    work[16 * n + 2 * h + k] as usize
+}
+
+// Internal: sets field k of half-edge h to x.
+pub fn put_half(work: &mut [u32], n: usize, h: usize, k: usize, x: usize)
+    requires { ⌜ (16 * n + 2 * h + k < length (now work)) × (x < 4294967296) × (k < 2) ⌝ }
+    ensures { λ _. ⌜ PutHalf n k h x (now (work .entry)) (now (work .exit)) ⌝ }
+{
+    work[16 * n + 2 * h + k] = x as u32;
+}
+
+// Internal: sets the first count words to 0.
+pub fn clear(work: &mut [u32], count: usize)
+    requires { ⌜ count ≤ length (now work) ⌝ }
+    ensures { λ _. ⌜ now (work .exit) ≡ over (replicate count 0) (now (work .entry)) ⌝ }
+{
+    for i in 0..count {
+        work[i] = 0;
+    }
+}

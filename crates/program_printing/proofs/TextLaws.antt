@@ -1,0 +1,138 @@
+-- Laws of the program's text: texts written one after the other, numbers in base ten, the lines of the queries.
+-- Assumes nothing.
+use Prim.Native.Nat.{_%_, _+_, _/_, _<_, _^_, _≤_, suc, zero, ℕ}
+use mathlib.Core.Bool.{Bool, false, true}
+use mathlib.Core.List.{List, [], _++_, _∷_, append-assoc, append-nil}
+use mathlib.Core.Path.{_∙_, _≡_, ap, ap₂, refl, subst, sym}
+use lib.Dec.{ltb}
+use lib.ListN.{getD, length, length-append, set, take}
+use lib.Seq.{length-sets, length-take-le, sets, take-suc}
+use native.Mathlib.Nat.{pow-suc}
+use native.Mathlib.Numerals.{add-one}
+use native.Mathlib.Omega.{arith}
+use borrow.Author.Tests.{le-ltb, lt-ltb, ltb-false, ltb-true}
+use Rattle.theory_graph.proofs.Booleans.{onBool}
+use Rattle.theory_graph.proofs.TableLaws.{sets-append}
+use Rattle.program_printing.specs.Printing.{Wrote}
+use Rattle.theory_timeline.specs.Events.{Event, asks}
+use Rattle.theory_timeline.specs.Program.{decimal, queryLine, queryLines, spell}
+
+-- one byte more of a text
+pub sets-more : (a t : List ℕ) (at i : ℕ) → i < length t → set (sets a at (take i t)) (at + i) (getD t i 0) ≡ sets a at (take (i + 1) t)
+sets-more a t at i l =
+    let e : at + length (take i t) ≡ at + i = omega (arith, length-take-le i t (omega arith)) in
+    sym (ap (λ (k : ℕ). sets a at (take k t)) (add-one i)
+    ∙ ap (sets a at) (take-suc t i 0 l)
+    ∙ sets-append (take i t) a at (getD t i 0 ∷ [])
+    ∙ ap (λ (k : ℕ). set (sets a at (take i t)) k (getD t i 0)) e)
+
+pub wrote-then : {at r q : ℕ} (s t : List ℕ) {a b c : List ℕ} → Wrote at s a b r → Wrote r t b c q → Wrote at (s ++ t) a c q
+wrote-then {at} s t {a} {b} w v =
+    record {
+      table = v .table ∙ ap₂ (λ (x : List ℕ) (k : ℕ). sets x k t) (w .table) (w .next) ∙ sym (sets-append s a at t);
+      next = omega (arith, v .next, w .next, length-append s t);
+    }
+
+pub wrote-none : (at : ℕ) (a : List ℕ) → Wrote at [] a a at
+wrote-none at a = record { table = refl; next = omega arith }
+
+pub wrote-length : {at r : ℕ} (s : List ℕ) {a b : List ℕ} → Wrote at s a b r → length b ≡ length a
+wrote-length {at} s {a} w = ap length (w .table) ∙ length-sets a at s
+
+-- ---- numbers in base ten
+spell-most : (k n : ℕ) (rest : List ℕ) → length (spell k n rest) ≤ k + length rest
+unfolding spell
+spell-most zero n rest = omega arith
+spell-most (suc k) n rest = go (ltb n 10) (spell-most k (n / 10) ((48 + n % 10) ∷ rest))
+  where
+    go : (b : Bool) → length (spell k (n / 10) ((48 + n % 10) ∷ rest)) ≤ k + suc (length rest)
+        → length {A = ℕ} (elim b as (λ x. List ℕ) [ true ↦ (48 + n) ∷ rest | false ↦ spell k (n / 10) ((48 + n % 10) ∷ rest) ]) ≤ suc k + length rest
+    go true h = omega arith
+    go false h = omega arith
+
+pub decimal-most : (n : ℕ) → length (decimal n) ≤ 20
+unfolding decimal
+decimal-most n = omega (arith, spell-most 20 n [])
+
+spell-one : (k n : ℕ) (rest : List ℕ) → n < 10 → spell (suc k) n rest ≡ (48 + n) ∷ rest
+unfolding spell
+spell-one k n rest l = ap (λ (b : Bool). elim b as (λ x. List ℕ) [ true ↦ (48 + n) ∷ rest | false ↦ spell k (n / 10) ((48 + n % 10) ∷ rest) ]) (lt-ltb n 10 l)
+
+spell-more : (k n : ℕ) (rest : List ℕ) → 10 ≤ n → spell (suc k) n rest ≡ spell k (n / 10) ((48 + n % 10) ∷ rest)
+unfolding spell
+spell-more k n rest l = ap (λ (b : Bool). elim b as (λ x. List ℕ) [ true ↦ (48 + n) ∷ rest | false ↦ spell k (n / 10) ((48 + n % 10) ∷ rest) ]) (le-ltb n 10 l)
+
+-- what follows stays behind
+spell-rest : (k n : ℕ) (rest : List ℕ) → spell k n rest ≡ spell k n [] ++ rest
+unfolding spell
+spell-rest zero n rest = refl
+spell-rest (suc k) n rest = onBool (ltb n 10)
+    (λ t. let l = ltb-true n 10 t in spell-one k n rest l ∙ sym (ap (λ (x : List ℕ). x ++ rest) (spell-one k n [] l)))
+    (λ t.
+    let l = ltb-false n 10 t in
+    spell-more k n rest l ∙ spell-rest k (n / 10) ((48 + n % 10) ∷ rest)
+    ∙ sym (ap (λ (x : List ℕ). x ++ rest) (spell-more k n [] l ∙ spell-rest k (n / 10) ((48 + n % 10) ∷ [])) ∙ append-assoc (spell k (n / 10) []) ((48 + n % 10) ∷ []) rest))
+
+-- more room for digits than there are changes nothing
+spell-room : (k n : ℕ) (rest : List ℕ) → n < 10 ^ suc k → spell (suc k) n rest ≡ spell (suc (suc k)) n rest
+spell-room zero n rest l = let m : n < 10 = l in spell-one zero n rest m ∙ sym (spell-one 1 n rest m)
+spell-room (suc k) n rest l = onBool (ltb n 10)
+    (λ t. let m = ltb-true n 10 t in spell-one (suc k) n rest m ∙ sym (spell-one (suc (suc k)) n rest m))
+    (λ t.
+    let m = ltb-false n 10 t in
+    spell-more (suc k) n rest m ∙ spell-room k (n / 10) ((48 + n % 10) ∷ rest) (omega (arith, pow-suc 10 (suc k))) ∙ sym (spell-more (suc (suc k)) n rest m))
+
+pub decimal-one : (n : ℕ) → n < 10 → decimal n ≡ (48 + n) ∷ []
+unfolding decimal
+decimal-one n l = spell-one 19 n [] l
+
+pub decimal-more : (n : ℕ) → 10 ≤ n → n < 18446744073709551616 → decimal n ≡ decimal (n / 10) ++ ((48 + n % 10) ∷ [])
+unfolding decimal
+decimal-more n l h =
+    spell-more 19 n [] l ∙ spell-rest 19 (n / 10) ((48 + n % 10) ∷ [])
+    ∙ ap (λ (x : List ℕ). x ++ ((48 + n % 10) ∷ [])) (spell-room 18 (n / 10) [] (omega arith))
+
+-- ---- the lines of the queries
+pub lines-snoc : (ev : ℕ → Event) (ans : ℕ → ℕ) (i n : ℕ) → queryLines ev ans i (n + 1) ≡ queryLines ev ans i n ++ queryLines ev ans (i + n) 1
+unfolding queryLines
+lines-snoc ev ans i zero = let e : i + 0 ≡ i = omega arith in ap (λ (k : ℕ). queryLines ev ans k 1) (sym e)
+lines-snoc ev ans i (suc n) =
+    let e : suc n + 1 ≡ suc (n + 1) = omega arith in
+    let f : suc i + n ≡ i + suc n = omega arith in
+    ap (queryLines ev ans i) e ∙ step (asks (ev i)) (lines-snoc ev ans (suc i) n ∙ ap (λ (k : ℕ). queryLines ev ans (suc i) n ++ queryLines ev ans k 1) f)
+  where
+    step : (b : Bool) → queryLines ev ans (suc i) (n + 1) ≡ queryLines ev ans (suc i) n ++ queryLines ev ans (i + suc n) 1
+        → elim b as (λ x. List ℕ) [ true ↦ queryLine i (ans i) ++ queryLines ev ans (suc i) (n + 1) | false ↦ queryLines ev ans (suc i) (n + 1) ]
+        ≡ (elim b as (λ x. List ℕ) [ true ↦ queryLine i (ans i) ++ queryLines ev ans (suc i) n | false ↦ queryLines ev ans (suc i) n ]) ++ queryLines ev ans (i + suc n) 1
+    step true h = ap (λ (l : List ℕ). queryLine i (ans i) ++ l) h ∙ sym (append-assoc (queryLine i (ans i)) (queryLines ev ans (suc i) n) (queryLines ev ans (i + suc n) 1))
+    step false h = h
+
+pub lines-zero : (ev : ℕ → Event) (ans : ℕ → ℕ) → queryLines ev ans 0 0 ≡ []
+unfolding queryLines
+lines-zero ev ans = refl
+
+pub from-zero : (ev : ℕ → Event) (ans : ℕ → ℕ) (i : ℕ) → queryLines ev ans i 1 ≡ queryLines ev ans (0 + i) 1
+from-zero ev ans i = let e : i ≡ 0 + i = omega arith in ap (λ (k : ℕ). queryLines ev ans k 1) e
+
+pub lines-query : (ev : ℕ → Event) (ans : ℕ → ℕ) (i : ℕ) → asks (ev i) ≡ true → queryLines ev ans i 1 ≡ queryLine i (ans i)
+unfolding queryLines
+lines-query ev ans i h = ap (λ (b : Bool). elim b as (λ x. List ℕ) [ true ↦ queryLine i (ans i) ++ [] | false ↦ [] ]) h ∙ append-nil (queryLine i (ans i))
+
+pub lines-none : (ev : ℕ → Event) (ans : ℕ → ℕ) (i : ℕ) → asks (ev i) ≡ false → queryLines ev ans i 1 ≡ []
+unfolding queryLines
+lines-none ev ans i h = ap (λ (b : Bool). elim b as (λ x. List ℕ) [ true ↦ queryLine i (ans i) ++ [] | false ↦ [] ]) h
+
+-- ---- where a text ends
+pub number-end : (n : ℕ) {at r : ℕ} {a b : List ℕ} → Wrote at (decimal n) a b r → (r ≤ at + 20) × (length b ≡ length a)
+number-end n w = (omega (arith, w .next, decimal-most n), wrote-length (decimal n) w)
+
+pub text-end : {at r : ℕ} (s : List ℕ) {a b : List ℕ} → Wrote at s a b r → (r ≡ at + length s) × (length b ≡ length a)
+text-end s w = (w .next, wrote-length s w)
+
+-- an equal text
+pub wrote-as : {at r : ℕ} {s t a b : List ℕ} → s ≡ t → Wrote at s a b r → Wrote at t a b r
+wrote-as {at} {r} {a = a} {b = b} e w = subst (λ (s : List ℕ). Wrote at s a b r) e w
+
+-- the last digit
+pub decimal-length : (n : ℕ) → 10 ≤ n → n < 18446744073709551616 → length (decimal n) ≡ length (decimal (n / 10)) + 1
+decimal-length n l h = ap length (decimal-more n l h) ∙ length-append (decimal (n / 10)) ((48 + n % 10) ∷ [])

@@ -1,0 +1,106 @@
+// The output: numbers in base ten, one line for each query, the totals, or the refusal. Each function writes its text at `at` and answers where the next goes.
+ghost use mathlib.Core.Path.{_≡_};
+ghost use mathlib.Core.List.{List};
+ghost use Prim.Native.Nat.{ℕ, _+_, _*_, _<_, _≤_};
+ghost use lib.ListN.{length};
+ghost use Rattle.theory_timeline.specs.Events.{asks};
+ghost use Rattle.theory_timeline.specs.Program.{decimal, queryLine, queryLines, totalsLine, refusedLine};
+ghost use Rattle.program_printing.specs.Printing.{Wrote, eventAt, byteAt};
+
+// Writes a text.
+fn put_text(out: &mut [u8], at: usize, text: &[u8]) -> usize
+    requires { ⌜ at + length (now text) ≤ length (now out) ⌝ }
+    ensures { λ r. ⌜ Wrote at (now (text .entry)) (now (out .entry)) (now (out .exit)) r ⌝ }
+{
+    let mut i: usize = 0;
+    while i < text.len() {
+        out[at + i] = text[i];
+        i += 1;
+    }
+    at + i
+}
+
+// Writes a number: the digits in front of the last one, then the last one.
+fn put_number(out: &mut [u8], at: usize, n: u64) -> usize
+    requires { ⌜ at + length (decimal n) ≤ length (now out) ⌝ }
+    ensures { λ r. ⌜ Wrote at (decimal n) (now (out .entry)) (now (out .exit)) r ⌝ }
+{
+    if n < 10 {
+        out[at] = 48 + n as u8;
+        return at + 1;
+    }
+    let next = put_number(out, at, n / 10);
+    out[next] = 48 + (n % 10) as u8;
+    next + 1
+}
+
+// Writes the line of a query.
+fn put_query(out: &mut [u8], at: usize, i: usize, answer: u8) -> usize
+    requires { ⌜ at + 42 ≤ length (now out) ⌝ }
+    ensures { λ r. ⌜ Wrote at (queryLine i answer) (now (out .entry)) (now (out .exit)) r × (r ≤ at + 42) ⌝ }
+{
+    let a = put_number(out, at, i as u64);
+    let b = put_text(out, a, b" ");
+    let c = put_number(out, b, answer as u64);
+    put_text(out, c, b"\n")
+}
+
+// Internal: writes the line of the totals.
+pub fn put_totals(out: &mut [u8], at: usize, queries: usize, open: usize, kept: usize) -> usize
+    requires { ⌜ at + 78 ≤ length (now out) ⌝ }
+    ensures { λ r. ⌜ Wrote at (totalsLine queries «open» kept) (now (out .entry)) (now (out .exit)) r ⌝ }
+{
+    let a = put_text(out, at, b"asks ");
+    let b = put_number(out, a, queries as u64);
+    let c = put_text(out, b, b" open ");
+    let d = put_number(out, c, open as u64);
+    let e = put_text(out, d, b" kept ");
+    let f = put_number(out, e, kept as u64);
+    put_text(out, f, b"\n")
+}
+
+// Internal: writes the line of a refusal.
+pub fn put_refused(out: &mut [u8], at: usize, code: usize, place: usize) -> usize
+    requires { ⌜ at + 53 ≤ length (now out) ⌝ }
+    ensures { λ r. ⌜ Wrote at (refusedLine code place) (now (out .entry)) (now (out .exit)) r ⌝ }
+{
+    let a = put_text(out, at, b"refused ");
+    let b = put_number(out, a, code as u64);
+    let c = put_text(out, b, b" at ");
+    let d = put_number(out, c, place as u64);
+    put_text(out, d, b"\n")
+}
+
+// Whether an event with this X asks.
+fn is_query(x: u16) -> bool
+    ensures { λ r. ⌜ ((y : ℕ) → r ≡ asks (x, y)) ⌝ }
+{
+    let names = replay_segments::names_segment(x);
+    !names
+}
+
+// Writes the line of event i, where it asks.
+fn put_event(out: &mut [u8], at: usize, i: usize, x: &[u16], answers: &[u8]) -> usize
+    requires { ⌜ (at + 42 ≤ length (now out)) × (i < length (now x)) × (i < length (now answers)) ⌝ }
+    ensures { λ r. ⌜ ((y : List ℕ) → Wrote at (queryLines (eventAt (now (x .entry)) y) (byteAt (now (answers .entry))) i 1) (now (out .entry)) (now (out .exit)) r) × (r ≤ at + 42) ⌝ }
+{
+    let q = is_query(x[i]);
+    if q {
+        return put_query(out, at, i, answers[i]);
+    }
+    at
+}
+
+// Internal: writes the lines of the first t events.
+pub fn put_queries(out: &mut [u8], t: usize, x: &[u16], answers: &[u8]) -> usize
+    requires { ⌜ (42 * t ≤ length (now out)) × (t ≤ 32) × (t ≤ length (now x)) × (t ≤ length (now answers)) ⌝ }
+    ensures { λ r. ⌜ ((y : List ℕ) → Wrote 0 (queryLines (eventAt (now (x .entry)) y) (byteAt (now (answers .entry))) 0 t) (now (out .entry)) (now (out .exit)) r) × (r ≤ 42 * t) ⌝ }
+{
+    let mut at: usize = 0;
+    let mut i: usize = 0;
+    while i < t {
+        at = put_event(out, at, i, x, answers);
+        i += 1;
+    }
+    at
+}

@@ -1,0 +1,157 @@
+-- Laws of the response: what a header says of its input, the tables that are filled from the input, and the print of a reply.
+-- Assumes nothing.
+use Prim.Native.Nat.{_*_, _+_, _<_, _≤_, ℕ}
+use mathlib.Core.Bool.{false, true}
+use mathlib.Core.List.{List, [], _++_, _∷_}
+use mathlib.Core.Path.{_∙_, _≡_, ap, ap₂, fun-ext, sym}
+use lib.Dec.{eqb, ltb}
+use lib.ListN.{List·getD-eq-default, drop, getD, length, length-append, length-drop, replicate, take}
+use lib.Seq.{getD-take, length-take-le, take-all}
+use native.Mathlib.Omega.{arith}
+use borrow.Author.Tests.{eqb-true, ltb-false, ltb-true, not-false}
+use Rattle.theory_graph.proofs.Booleans.{onBool}
+use Rattle.theory_graph.specs.Lists.{pairs}
+use Rattle.program_reading.proofs.ReadingLaws.{filled-take, many-events, many-junctions, many-segments, other-length, words16-length, word-at}
+use Rattle.program_printing.proofs.TextLaws.{decimal-most}
+use Rattle.program_printing.specs.Printing.{eventAt, printedOf}
+use Rattle.program_reading.specs.Reading.{Filled, HeaderOutcome, Read, checkInput, headerOutcome}
+use Rattle.program_reading.specs.declared.Header.the-variants.{Refused, Sizes}
+use Rattle.call_sizes.proofs.RefusalLaws.{fault-silent}
+use Rattle.theory_timeline.proofs.Acceptance.{getD-pairs, length-pairs}
+use Rattle.theory_timeline.specs.Call.{lent}
+use Rattle.theory_timeline.specs.Events.{Event}
+use Rattle.theory_timeline.specs.Program.{decimal, eventsOf, inputFault, inputFaults, inputLength, inputLent, junctionsOf, outputWith, printed, refusedLine, segmentsOf, shareOf, totalsLine, words16}
+use Rattle.theory_timeline.specs.Replay.{Lent, Outcome, given, replay}
+
+-- ---- the header
+module _ (I : List ℕ) where
+  accepted-right : inputFault I .0 ≡ 0 → (segmentsOf (words16 I) ≤ 64) × (eventsOf (words16 I) ≤ 32) × (length I ≡ 2 * inputLength (segmentsOf (words16 I)) (eventsOf (words16 I)))
+  unfolding inputFault inputFaults
+  accepted-right h =
+      let s = fault-silent (inputFaults I) (λ e. omega arith, (λ e. omega arith, (λ e. omega arith, (λ e. omega arith, (λ e. omega arith, tt))))) h in (
+        ltb-false 64 (segmentsOf (words16 I)) (s .1 .1 .0),
+        ltb-false 32 (eventsOf (words16 I)) (s .1 .1 .1 .0),
+        eqb-true (length I) (2 * inputLength (segmentsOf (words16 I)) (eventsOf (words16 I))) (not-false _ (s .1 .1 .1 .1 .0)),
+      )
+
+  module _ {n m t p : ℕ} (e : headerOutcome (Sizes n m t p) ≡ checkInput I) where
+    accepts : eqb (inputFault I .0) 0 ≡ true
+    accepts = sym (ap (λ (o : HeaderOutcome). o .accepted) e)
+
+    pub header-read : Read n m t I
+    header-read =
+        let f : m ≡ segmentsOf (words16 I) = rw accepts at (ap (λ (o : HeaderOutcome). o .m) e) in
+        let g : t ≡ eventsOf (words16 I) = rw accepts at (ap (λ (o : HeaderOutcome). o .t) e) in
+        let (a, b, c) = accepted-right (eqb-true (inputFault I .0) 0 accepts) in
+        record {
+          junctions = rw accepts at (ap (λ (o : HeaderOutcome). o .n) e);
+          segments = f;
+          events = g;
+          few-segments = omega arith;
+          few-events = omega arith;
+          long = c ∙ ap₂ (λ (x y : ℕ). 2 * inputLength x y) (sym f) (sym g);
+        }
+
+    header-share : p ≡ shareOf (words16 I)
+    header-share = rw accepts at (ap (λ (o : HeaderOutcome). o .p) e)
+
+    pub output-accepted : (work : List ℕ) → printed (inputLent work I) (replay (inputLent work I) p) ≡ outputWith work I
+    unfolding outputWith
+    output-accepted work = rw (outputWith, accepts) (ap (λ (q : ℕ). printed (inputLent work I) (replay (inputLent work I) q)) header-share)
+
+  pub output-refused : {c : ℕ} → headerOutcome (Refused c) ≡ checkInput I → (work : List ℕ) → refusedLine c 0 ≡ outputWith work I
+  unfolding outputWith
+  output-refused e work =
+      let r : eqb (inputFault I .0) 0 ≡ false = sym (ap (λ (o : HeaderOutcome). o .accepted) e) in
+      rw (outputWith, r) (ap₂ refusedLine (ap (λ (o : HeaderOutcome). o .code) e) (ap (λ (o : HeaderOutcome). o .place) e))
+
+  -- ---- the tables
+  module _ {n m t : ℕ} (r : Read n m t I) where
+    pub numbers : length (words16 I) ≡ 4 + 2 * m + 2 * t
+    numbers = words16-length I (inputLength m t) (r .long)
+
+    -- a table filled from number i on
+    pub table-is : (i k : ℕ) (a b : List ℕ) → Filled (words16 I) i k a b → k ≤ length a → i + k ≤ 4 + 2 * m + 2 * t → take k b ≡ take k (drop i (words16 I))
+    table-is i k a b f l h = filled-take (words16 I) i k a b f l (omega (arith, numbers))
+
+    pub lent-input : (work : List ℕ) {a b x y : List ℕ} → a ≡ take m (drop 4 (words16 I)) → b ≡ take m (drop (4 + m) (words16 I)) → x ≡ take t (drop (4 + 2 * m) (words16 I))
+        → y ≡ take t (drop (4 + 2 * m + t) (words16 I)) → lent n m t a b x y (replicate 32 0) work ≡ inputLent work I
+    unfolding inputLent
+    lent-input work e f g h =
+        (λ i. lent n m t (e i) (f i) (g i) (h i) (replicate 32 0) work)
+        ∙ (λ i. lent (r .junctions i) (r .segments i) (r .events i)
+        (take (r .segments i) (drop 4 (words16 I))) (take (r .segments i) (drop (4 + r .segments i) (words16 I)))
+        (take (r .events i) (drop (4 + 2 * r .segments i) (words16 I))) (take (r .events i) (drop (4 + 2 * r .segments i + r .events i) (words16 I)))
+        (replicate 32 0) work)
+
+-- ---- the print
+events-at : (t : ℕ) (x y : List ℕ) → length x ≡ t → length y ≡ t → (i : ℕ) → eventAt x y i ≡ getD (pairs (take t x) (take t y)) i (0, 0)
+events-at t x y a b i = onBool (ltb i t)
+    (λ e. sym (getD-pairs t x y i (omega arith) (omega arith) (ltb-true i t e)))
+    (λ e.
+    let l = ltb-false i t e in
+    ap₂ (λ (u v : ℕ). (u, v)) (List·getD-eq-default x 0 (omega arith)) (List·getD-eq-default y 0 (omega arith))
+    ∙ sym (List·getD-eq-default (pairs (take t x) (take t y)) (0, 0) (omega (arith, length-pairs t x y (omega arith) (omega arith)))))
+
+pub reply-printed : (n m t p : ℕ) (a b x y answers work : List ℕ) {o : Outcome} → length x ≡ t → length y ≡ t → o ≡ replay (lent n m t a b x y answers work) p
+    → printedOf (eventAt x y) t o ≡ printed (lent n m t a b x y answers work) (replay (lent n m t a b x y answers work) p)
+unfolding printed given
+reply-printed n m t p a b x y answers work f g e = ap₂ (λ (ev : ℕ → Event) (o : Outcome). printedOf ev t o) (fun-ext (events-at t x y f g)) e
+
+pub replied : (I : List ℕ) {n m t : ℕ} (r : Read n m t I) (p : ℕ) (work : List ℕ) {a b x y : List ℕ} → a ≡ take m (drop 4 (words16 I)) → b ≡ take m (drop (4 + m) (words16 I))
+    → x ≡ take t (drop (4 + 2 * m) (words16 I)) → y ≡ take t (drop (4 + 2 * m + t) (words16 I)) → {o : Outcome} → o ≡ replay (lent n m t a b x y (replicate 32 0) work) p
+    → printedOf (eventAt x y) t o ≡ printed (inputLent work I) (replay (inputLent work I) p)
+replied I {n} {m} {t} r p work {a} {b} {x} {y} ea eb ex ey {o} e =
+    let long = numbers I r in
+    let lx : length x ≡ t = ap length ex ∙ length-take-le t (drop (4 + 2 * m) (words16 I)) (omega (arith, length-drop (4 + 2 * m) (words16 I))) in
+    let ly : length y ≡ t = ap length ey ∙ length-take-le t (drop (4 + 2 * m + t) (words16 I)) (omega (arith, length-drop (4 + 2 * m + t) (words16 I))) in
+    reply-printed n m t p a b x y (replicate 32 0) work lx ly e ∙ ap (λ (l : Lent). printed l (replay l p)) (lent-input I r work ea eb ex ey)
+
+-- ---- where a line ends
+pub totals-most : (q o k : ℕ) → length (totalsLine q o k) ≤ 78
+unfolding totalsLine
+totals-most q o k =
+    omega (
+      arith,
+      decimal-most q,
+      decimal-most o,
+      decimal-most k,
+      length-append (decimal q) (32 ∷ 111 ∷ 112 ∷ 101 ∷ 110 ∷ 32 ∷ (decimal o ++ (32 ∷ 107 ∷ 101 ∷ 112 ∷ 116 ∷ 32 ∷ (decimal k ++ (10 ∷ []))))),
+      length-append (decimal o) (32 ∷ 107 ∷ 101 ∷ 112 ∷ 116 ∷ 32 ∷ (decimal k ++ (10 ∷ []))),
+      length-append (decimal k) (10 ∷ []),
+    )
+
+pub refused-most : (c i : ℕ) → length (refusedLine c i) ≤ 53
+unfolding refusedLine
+refused-most c i = omega (arith, decimal-most c, decimal-most i, length-append (decimal c) (32 ∷ 97 ∷ 116 ∷ 32 ∷ (decimal i ++ (10 ∷ []))), length-append (decimal i) (10 ∷ []))
+
+-- ---- reading 512 bytes is enough: an input longer than any list is refused in the same words whatever follows
+longer : (work I J : List ℕ) → 392 < length I → 392 < length J → junctionsOf (words16 I) ≡ junctionsOf (words16 J) → segmentsOf (words16 I) ≡ segmentsOf (words16 J) → eventsOf (words16 I) ≡ eventsOf (words16 J)
+    → outputWith work I ≡ outputWith work J
+longer work I J a b e f g =
+    onBool (ltb 192 (junctionsOf (words16 I)))
+    (λ h. let l = ltb-true 192 (junctionsOf (words16 I)) h in both (many-junctions I (omega arith) l) (many-junctions J (omega arith) (omega arith)))
+    (λ h.
+    let l = ltb-false 192 (junctionsOf (words16 I)) h in
+    onBool (ltb 64 (segmentsOf (words16 I)))
+    (λ h. let k = ltb-true 64 (segmentsOf (words16 I)) h in both (many-segments I (omega arith) l k) (many-segments J (omega arith) (omega arith) (omega arith)))
+    (λ h.
+    let k = ltb-false 64 (segmentsOf (words16 I)) h in
+    onBool (ltb 32 (eventsOf (words16 I)))
+    (λ h. let j = ltb-true 32 (eventsOf (words16 I)) h in both (many-events I (omega arith) l k j) (many-events J (omega arith) (omega arith) (omega arith) (omega arith)))
+    (λ h.
+    let j = ltb-false 32 (eventsOf (words16 I)) h in
+    both (other-length I (omega arith) l k j (λ q. omega arith)) (other-length J (omega arith) (omega arith) (omega arith) (omega arith) (λ q. omega arith)))))
+  where
+    both : {c : ℕ} → headerOutcome (Refused c) ≡ checkInput I → headerOutcome (Refused c) ≡ checkInput J → outputWith work I ≡ outputWith work J
+    both p q = sym (output-refused I p work) ∙ output-refused J q work
+
+pub enough : (work bytes : List ℕ) → outputWith work (take 512 bytes) ≡ outputWith work bytes
+enough work bytes = onBool (ltb 512 (length bytes))
+    (λ h.
+    let l = ltb-true 512 (length bytes) h in
+    let e : length (take 512 bytes) ≡ 512 = length-take-le 512 bytes (omega arith) in
+    let at : (i : ℕ) → i < 3 → getD (words16 (take 512 bytes)) i 0 ≡ getD (words16 bytes) i 0 = λ i b.
+    word-at (take 512 bytes) i (omega arith) ∙ ap₂ (λ (x y : ℕ). x + 256 * y) (getD-take 512 bytes (2 * i) 0 (omega arith)) (getD-take 512 bytes (2 * i + 1) 0 (omega arith)) ∙ sym (word-at bytes i (omega arith)) in
+    longer work (take 512 bytes) bytes (omega arith) (omega arith) (at 0 (omega arith)) (at 1 (omega arith)) (at 2 (omega arith)))
+    (λ h. ap (outputWith work) (take-all 512 bytes (ltb-false 512 (length bytes) h)))

@@ -1,0 +1,23 @@
+// The program's reading, printing and response as functions on slices; the program `replay` itself only reads, calls and writes.
+mod response;
+
+ghost use Prim.Native.Nat.{_≤_};
+ghost use lib.ListN.{length};
+ghost use Rattle.theory_timeline.specs.Program.{outputWith};
+ghost use Rattle.program_printing.specs.Printing.{Wrote};
+
+// Internal: writes the program's output for its input at the front of `out`, with the work table that it lends, and answers the output's length.
+pub fn respond(input: &[u8], work: &mut [u32], out: &mut [u8]) -> usize
+    requires { ⌜ 2048 ≤ length (now out) ⌝ }
+    ensures { λ r. ⌜ Wrote 0 (outputWith (now (work .entry)) (now (input .entry))) (now (out .entry)) (now (out .exit)) r × (r ≤ 2048) ⌝ }
+{
+    let header = program_reading::read_header(input);
+    match header {
+        program_reading::Header::Sizes(n, m, t, p) => {
+            return response::replay_input(input, n, m, t, p, work, out);
+        }
+        program_reading::Header::Refused(code) => {
+            return program_printing::put_refused(out, 0, code, 0);
+        }
+    }
+}

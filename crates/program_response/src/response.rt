@@ -1,0 +1,69 @@
+// The response to an input of the right length: the tables filled from it, the replay, and its reply in print.
+ghost use mathlib.Core.List.{List};
+ghost use Prim.Native.Nat.{ℕ, _*_, _≤_};
+ghost use lib.ListN.{length};
+ghost use Rattle.theory_timeline.specs.Call.{outcome};
+ghost use Rattle.theory_timeline.specs.Program.{inputLent, printed};
+ghost use Rattle.theory_timeline.specs.Replay.{replay};
+ghost use Rattle.program_printing.specs.Printing.{Wrote, eventAt, printedOf};
+ghost use Rattle.program_reading.specs.Reading.{Read};
+
+// Prints a reply to t events.
+pub(crate) fn put_reply(
+    out: &mut [u8],
+    t: usize,
+    x: &[u16],
+    answers: &[u8],
+    reply: theory_timeline::ReplayReply,
+) -> usize
+    requires { ⌜ (2048 ≤ length (now out)) × (t ≤ 32) × (t ≤ length (now x)) × (t ≤ length (now answers)) ⌝ }
+    ensures { λ r. ⌜ ((y work : List ℕ) → Wrote 0 (printedOf (eventAt (now (x .entry)) y) t (outcome reply (now (answers .entry)) work)) (now (out .entry)) (now (out .exit)) r) × (r ≤ 2048) ⌝ }
+{
+    match reply {
+        theory_timeline::ReplayReply::Done(totals) => {
+            let at = program_printing::put_queries(out, t, x, answers);
+            return program_printing::put_totals(out, at, totals.queries, totals.open, totals.kept);
+        }
+        theory_timeline::ReplayReply::Refused(code, place) => {
+            return program_printing::put_refused(out, 0, code, place);
+        }
+    }
+}
+
+// Replays an input with these sizes and this share, and prints the reply.
+pub(crate) fn replay_input(
+    input: &[u8],
+    n: usize,
+    m: usize,
+    t: usize,
+    p: usize,
+    work: &mut [u32],
+    out: &mut [u8],
+) -> usize
+    requires { ⌜ Read n m t (now input) × (2048 ≤ length (now out)) ⌝ }
+    ensures { λ r. ⌜ Wrote 0 (printed (inputLent (now (work .entry)) (now (input .entry))) (replay (inputLent (now (work .entry)) (now (input .entry))) p)) (now (out .entry)) (now (out .exit)) r × (r ≤ 2048) ⌝ }
+{
+    let mut a = [0u16; 64];
+    let mut b = [0u16; 64];
+    let mut x = [0u16; 32];
+    let mut y = [0u16; 32];
+    let mut answers = [0u8; 32];
+    program_reading::fill(input, 4, m, &mut a);
+    program_reading::fill(input, 4 + m, m, &mut b);
+    program_reading::fill(input, 4 + 2 * m, t, &mut x);
+    program_reading::fill(input, 4 + 2 * m + t, t, &mut y);
+    let xs = &x[..t];
+    let reply = call_replay::replay(
+        n,
+        m,
+        t,
+        p,
+        &a[..m],
+        &b[..m],
+        xs,
+        &y[..t],
+        &mut answers,
+        work,
+    );
+    put_reply(out, t, xs, &answers, reply)
+}

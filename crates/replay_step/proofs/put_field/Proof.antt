@@ -1,0 +1,81 @@
+-- The loop fills the words in order; the fields are read behind them.
+use Prim.Native.Nat.{_-_, _≤_}
+use mathlib.Core.Path.{_≡_}
+use lib.ListN.{drop}
+use lib.Seq.{sets}
+use native.Mathlib.Omega.{arith}
+use borrow.Author.Needs.{needs}
+use Rattle.theory_graph.specs.Lists.{table}
+use Rattle.replay_step.proofs.WordLaws.{fill-length, fill-step}
+use Rattle.replay_step.proofs.put_field.Statement.{statement}
+use Rattle.core_words.specs.Fields.{node}
+use Rattle.replay_step.proofs.put_field.Tie as tie
+
+abbrev Inv-loop : tie.InvT-loop
+Inv-loop work₀ m k s q i₀ work i = (i ≤ m) × (work ≡ sets work₀ q (table (node k (drop s work₀)) 0 i))
+
+abbrev μ-loop : tie.MeasureT-loop
+μ-loop work₀ m k s q i₀ work i = m - i
+
+loop-holds : tie.Need-loop-holds Inv-loop μ-loop
+loop-holds c = search needs
+
+mul-x : tie.Need-mul-x Inv-loop μ-loop
+mul-x c = search needs
+
+add-x : tie.Need-add-x Inv-loop μ-loop
+add-x c = search needs
+
+add-x-2 : tie.Need-add-x-2 Inv-loop μ-loop
+add-x-2 c = search needs
+
+mul-x-2 : tie.Need-mul-x-2 Inv-loop μ-loop
+mul-x-2 c = search needs
+
+slice-read-x : tie.Need-slice-read-x Inv-loop μ-loop
+slice-read-x c = omega (arith, fill-length (c .before .before .before .args .work .now) (c .before .before .before .args .q) (table (node (c .before .before .before .args .k) (drop (c .before .before .before .args .s) (c .before .before .before .args .work .now))) 0 (c .before .before .loop .i)) (c .before .before .loop .inv .1))
+
+add-work : tie.Need-add-work Inv-loop μ-loop
+add-work c = search needs
+
+mul-work : tie.Need-mul-work Inv-loop μ-loop
+mul-work c = search needs
+
+slice-write-work : tie.Need-slice-write-work Inv-loop μ-loop
+slice-write-work c = omega (arith, fill-length (c .before .before .before .args .work .now) (c .before .before .before .args .q) (table (node (c .before .before .before .args .k) (drop (c .before .before .before .args .s) (c .before .before .before .args .work .now))) 0 (c .before .before .loop .i)) (c .before .before .loop .inv .1))
+
+add-i : tie.Need-add-i Inv-loop μ-loop
+add-i c = search needs
+
+loop-less : tie.Need-loop-less Inv-loop μ-loop
+loop-less c = search needs
+
+loop-again : tie.Need-loop-again Inv-loop μ-loop
+loop-again c = (omega arith, fill-step (c .before .before .before .args .work .now) (c .before .before .loop .work) (c .before .before .before .args .k) (c .before .before .before .args .s) (c .before .before .before .args .q) (c .before .before .loop .i) (c .before .before .loop .inv .1) (omega arith))
+
+same-length : tie.Need-same-length Inv-loop μ-loop
+same-length c = fill-length (c .before .before .args .work .now) (c .before .before .args .q) (table (node (c .before .before .args .k) (drop (c .before .before .args .s) (c .before .before .args .work .now))) 0 (c .before .loop .i)) (c .before .loop .inv .1)
+
+returns : tie.Need-returns Inv-loop μ-loop
+returns c = let e : c .before .loop .i ≡ c .before .before .args .m = omega arith in rw e at (c .before .loop .inv .1)
+
+pub put-field-spec : {M : Type 1} → statement M
+put-field-spec =
+    tie.close
+    (tie.spec
+    Inv-loop
+    μ-loop
+    loop-holds
+    mul-x
+    add-x
+    add-x-2
+    mul-x-2
+    slice-read-x
+    add-work
+    mul-work
+    slice-write-work
+    add-i
+    loop-less
+    loop-again
+    same-length
+    returns)

@@ -1,2 +1,0 @@
-pub mod OpenSetLaws
-pub mod RefusalLaws

@@ -1,4 +1,0 @@
-pub mod Refusal
-pub mod Sizes
-pub mod OpenSet
-pub mod Reader

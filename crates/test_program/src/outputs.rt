@@ -1,0 +1,70 @@
+// Calls of the program's response, and the refusals that the program adds to those of the replay.
+use test_library::counts;
+ghost use Prim.Native.Nat.{_≤_};
+
+// The smaller of two numbers.
+fn capped(x: usize, most: usize) -> usize
+    ensures { λ r. ⌜ r ≤ most ⌝ }
+{
+    if x < most {
+        return x;
+    }
+    most
+}
+
+// The response to the first count bytes.
+pub(crate) fn respond(bytes: &[u8; 5120], count: usize, out: &mut [u8; 2048]) -> usize {
+    let s = &bytes[..];
+    let n = capped(count, s.len());
+    let mut work = [0u32; 16384];
+    program_response::respond(&s[..n], &mut work, out)
+}
+
+// Whether the first count bytes are this line.
+fn is_line(out: &[u8; 2048], count: usize, line: &[u8]) -> bool {
+    let n = line.len();
+    if n != count {
+        return false;
+    }
+    for j in 0..2048 {
+        if j < n {
+            if out[j] != line[j] {
+                return false;
+            }
+        }
+    }
+    true
+}
+
+// Whether an input is refused so. Its sizes are these and the share 8, and zeros follow.
+fn refused(n: u8, m: u8, t: u8, count: usize, line: &[u8]) -> bool {
+    let mut bytes = [0u8; 5120];
+    bytes[0] = n;
+    bytes[2] = m;
+    bytes[4] = t;
+    bytes[6] = 8;
+    let mut out = [0u8; 2048];
+    let r = respond(&bytes, count, &mut out);
+    is_line(&out, r, line)
+}
+
+// How many lengths up to 1023 are refused by 9, where the sizes ask for 28 bytes.
+pub(crate) fn lengths_refused() -> usize {
+    let mut count: usize = 0;
+    for length in 0..1024 {
+        count = counts::counted(count, refused(3, 3, 2, length, b"refused 9 at 0\n"));
+    }
+    count
+}
+
+fn is_past(n: u8, m: u8, t: u8) -> bool {
+    refused(n, m, t, 8, b"refused 10 at 0\n")
+}
+
+// How many of the three sizes are refused by 10 where one of them is at its limit, or past it by this, and the input ends after the sizes.
+pub(crate) fn sizes_refused(past: u8) -> usize {
+    let more = past % 2;
+    let n = counts::counted(0, is_past(192 + more, 0, 0));
+    let m = counts::counted(n, is_past(1, 64 + more, 0));
+    counts::counted(m, is_past(1, 0, 32 + more))
+}

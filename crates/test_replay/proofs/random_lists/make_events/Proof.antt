@@ -1,0 +1,45 @@
+use Prim.Native.Nat.{_≤_, _-_}
+use borrow.Author.Needs.{needs}
+use Rattle.test_replay.proofs.random_lists.make_events.Statement.{statement}
+use Rattle.test_replay.proofs.random_lists.make_events.Tie as tie
+
+abbrev Inv-loop : tie.InvT-loop
+Inv-loop l₀ s t open₀ i₀ l «open» i = i ≤ t
+
+abbrev μ-loop : tie.MeasureT-loop
+μ-loop l₀ s t open₀ i₀ l «open» i = t - i
+
+events-requires : tie.Need-events-requires Inv-loop μ-loop
+events-requires c κs = search needs
+
+loop-holds : tie.Need-loop-holds Inv-loop μ-loop
+loop-holds c = search needs
+
+make-event-requires : tie.Need-make-event-requires Inv-loop μ-loop
+make-event-requires c κs = search needs
+
+add-i : tie.Need-add-i Inv-loop μ-loop
+add-i c = search needs
+
+loop-less : tie.Need-loop-less Inv-loop μ-loop
+loop-less c = search needs
+
+loop-again : tie.Need-loop-again Inv-loop μ-loop
+loop-again c = search needs
+
+returns : tie.Need-returns Inv-loop μ-loop
+returns c = search needs
+
+pub make-events-spec : {M : Type 1} → statement M
+make-events-spec =
+    tie.close
+    (tie.spec
+    Inv-loop
+    μ-loop
+    events-requires
+    loop-holds
+    make-event-requires
+    add-i
+    loop-less
+    loop-again
+    returns)

@@ -1,0 +1,49 @@
+use Prim.Native.Nat.{_≤_, _-_}
+use borrow.Author.Needs.{needs}
+use Rattle.test_replay.proofs.small_lists.Statement.{statement}
+use Rattle.test_replay.proofs.small_lists.Tie as tie
+
+abbrev Inv-loop : tie.InvT-loop
+Inv-loop count₀ s₀ i₀ count s i = i ≤ 60000
+
+abbrev μ-loop : tie.MeasureT-loop
+μ-loop count₀ s₀ i₀ count s i = 60000 - i
+
+loop-holds : tie.Need-loop-holds Inv-loop μ-loop
+loop-holds c = search needs
+
+next-requires : tie.Need-next-requires Inv-loop μ-loop
+next-requires c κs = search needs
+
+small-list-requires : tie.Need-small-list-requires Inv-loop μ-loop
+small-list-requires c κs = search needs
+
+run-small-requires : tie.Need-run-small-requires Inv-loop μ-loop
+run-small-requires c κs = search needs
+
+add-i : tie.Need-add-i Inv-loop μ-loop
+add-i c = search needs
+
+loop-less : tie.Need-loop-less Inv-loop μ-loop
+loop-less c = search needs
+
+loop-again : tie.Need-loop-again Inv-loop μ-loop
+loop-again c = search needs
+
+returns : tie.Need-returns Inv-loop μ-loop
+returns c = search needs
+
+pub small-lists-spec : {M : Type 1} → statement M
+small-lists-spec =
+    tie.close
+    (tie.spec
+    Inv-loop
+    μ-loop
+    loop-holds
+    next-requires
+    small-list-requires
+    run-small-requires
+    add-i
+    loop-less
+    loop-again
+    returns)

@@ -1,0 +1,45 @@
+use Prim.Native.Nat.{_≤_, _-_}
+use borrow.Author.Needs.{needs}
+use Rattle.test_slow_contraction.proofs.name_class.Statement.{statement}
+use Rattle.test_slow_contraction.proofs.name_class.Tie as tie
+
+abbrev Inv-loop : tie.InvT-loop
+Inv-loop of₀ n c z x v₀ of v = v ≤ n
+
+abbrev μ-loop : tie.MeasureT-loop
+μ-loop of₀ n c z x v₀ of v = n - v
+
+loop-holds : tie.Need-loop-holds Inv-loop μ-loop
+loop-holds c = search needs
+
+get-requires : tie.Need-get-requires Inv-loop μ-loop
+get-requires c κs = search needs
+
+put-requires : tie.Need-put-requires Inv-loop μ-loop
+put-requires c κs = search needs
+
+add-v : tie.Need-add-v Inv-loop μ-loop
+add-v c = search needs
+
+loop-less : tie.Need-loop-less Inv-loop μ-loop
+loop-less c = search needs
+
+loop-again : tie.Need-loop-again Inv-loop μ-loop
+loop-again c = search needs
+
+returns : tie.Need-returns Inv-loop μ-loop
+returns c = search needs
+
+pub name-class-spec : {M : Type 1} → statement M
+name-class-spec =
+    tie.close
+    (tie.spec
+    Inv-loop
+    μ-loop
+    loop-holds
+    get-requires
+    put-requires
+    add-v
+    loop-less
+    loop-again
+    returns)

@@ -1,0 +1,33 @@
+use Prim.Native.Nat.{_≤_, _-_}
+use borrow.Author.Needs.{needs}
+use Rattle.test_slow_replay.proofs.mark.Statement.{statement}
+use Rattle.test_slow_replay.proofs.mark.Tie as tie
+
+abbrev Inv-loop : tie.InvT-loop
+Inv-loop active₀ l start end i₀ active i = start ≤ i
+
+abbrev μ-loop : tie.MeasureT-loop
+μ-loop active₀ l start end i₀ active i = end - i
+
+loop-holds : tie.Need-loop-holds Inv-loop μ-loop
+loop-holds c = search needs
+
+mark-event-requires : tie.Need-mark-event-requires Inv-loop μ-loop
+mark-event-requires c κs = search needs
+
+add-i : tie.Need-add-i Inv-loop μ-loop
+add-i c = search needs
+
+loop-less : tie.Need-loop-less Inv-loop μ-loop
+loop-less c = search needs
+
+loop-again : tie.Need-loop-again Inv-loop μ-loop
+loop-again c = search needs
+
+returns : tie.Need-returns Inv-loop μ-loop
+returns c = search needs
+
+pub mark-spec : {M : Type 1} → statement M
+mark-spec =
+    tie.close
+    (tie.spec Inv-loop μ-loop loop-holds mark-event-requires add-i loop-less loop-again returns)

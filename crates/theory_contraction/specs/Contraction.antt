@@ -1,0 +1,105 @@
+-- The contraction as a public call: what it is lent, its faults in their order, what it returns, and what each lent table holds afterwards.
+-- The contraction itself is defined in the crate theory_graph, specs/Contraction. Assumes nothing: these are definitions.
+use Prim.Native.Nat.{ℕ, _+_, _*_}
+use mathlib.Core.Bool.{Bool, true, false}
+use mathlib.Core.List.{List, [], _∷_, _++_, map}
+use lib.Dec.{eqb, leb, ltb}
+use lib.ListN.{length, getD, take, replicate}
+use Rattle.theory_graph.specs.Lists.{pairs, over}
+use Rattle.theory_graph.specs.Graph.{Edge}
+use Rattle.theory_graph.specs.Contraction.{Contracted, contract}
+use Rattle.call_sizes.specs.Refusal.{Row, row, Refusal, badEnds, firstFault, seek}
+use Rattle.call_sizes.specs.Sizes.{sizeFaults}
+
+-- the sizes and the tables that are lent
+pub record Lent : Type 0 where
+  pub n : ℕ
+  pub m : ℕ
+  pub k : ℕ
+  pub from : List ℕ
+  pub to : List ℕ
+  pub active : List ℕ
+  pub map : List ℕ
+  pub outFrom : List ℕ
+  pub outTo : List ℕ
+  pub work : List ℕ
+
+-- the sizes and the tables of a call as one record
+abbrev pub lent : ℕ → ℕ → ℕ → List ℕ → List ℕ → List ℕ → List ℕ → List ℕ → List ℕ → List ℕ → Lent
+lent n m k from to active map outFrom outTo work =
+    record { n = n; m = m; k = k; from = from; to = to; active = active; map = map; outFrom = outFrom; outTo = outTo; work = work }
+
+-- the words that a contraction of n nodes and m edges needs
+abbrev pub required : ℕ → ℕ → ℕ
+required n m = 16 * n + 8 * m + 512
+
+-- the edges and the active entries that count: entries past the sizes are ignored
+unfoldable pub edges : Lent → List Edge
+edges l = pairs (take (l .m) (l .from)) (take (l .m) (l .to))
+
+unfoldable pub entries : Lent → List ℕ
+entries l = take (l .k) (l .active)
+
+-- ---- faults
+-- active entry i is not below n
+abbrev pub badEntry : ℕ → List ℕ → ℕ → Bool
+badEntry n active i = leb n (getD active i 0)
+
+-- refusal 2: a table is shorter than its least length
+abbrev pub shortTables : Lent → List Row
+shortTables l =
+    row (ltb (length (l .from)) (l .m)) 2 0
+    ∷ row (ltb (length (l .to)) (l .m)) 2 0
+    ∷ row (ltb (length (l .active)) (l .k)) 2 0
+    ∷ row (ltb (length (l .map)) (l .k)) 2 0
+    ∷ row (ltb (length (l .outFrom)) (2 * l .k)) 2 0
+    ∷ row (ltb (length (l .outTo)) (2 * l .k)) 2 0
+    ∷ row (ltb (length (l .work)) (required (l .n) (l .m))) 2 0
+    ∷ []
+
+-- 1, 2, then 4 at the first edge with an end not below n, then 8 at the first active entry not below n
+unfoldable pub faults : Lent → List Row
+faults l =
+    let e : ℕ = seek (badEnds (l .n) (l .from) (l .to)) 0 (l .m) in
+    let a : ℕ = seek (badEntry (l .n) (l .active)) 0 (l .k) in
+    sizeFaults (l .n) (l .m) 0 (l .k) ++ shortTables l ++ row (ltb e (l .m)) 4 e ∷ row (ltb a (l .k)) 8 a ∷ []
+
+unfoldable pub fault : Lent → Refusal
+fault l = firstFault (faults l)
+
+-- ---- what is returned, and what the tables hold afterwards
+pub record Outcome : Type 0 where
+  -- whether the reply is the one of an accepted call: with the numbers alone, a refusal with the number 0 could pass for an empty result
+  pub accepted : Bool
+  -- 0, or the refusal's number; and its place
+  pub code : ℕ
+  pub place : ℕ
+  pub nodes : ℕ
+  pub edges : ℕ
+  -- the tables that may be written; the others are only read
+  pub map : List ℕ
+  pub outFrom : List ℕ
+  pub outTo : List ℕ
+  pub work : List ℕ
+
+unfoldable pub done : Lent → Outcome
+done l =
+    let c : Contracted = contract (l .n) (edges l) (entries l) in
+    record {
+      accepted = true;
+      code = 0;
+      place = 0;
+      nodes = c .nodes;
+      edges = length (c .edges);
+      map = over (c .map) (l .map);
+      outFrom = over (map (λ (e : Edge). e .0) (c .edges)) (l .outFrom);
+      outTo = over (map (λ (e : Edge). e .1) (c .edges)) (l .outTo);
+      work = over (replicate (required (l .n) (l .m)) 0) (l .work);
+    }
+
+unfoldable pub refused : Lent → Refusal → Outcome
+refused l f = record { accepted = false; code = f .0; place = f .1; nodes = 0; edges = 0; map = l .map; outFrom = l .outFrom; outTo = l .outTo; work = l .work }
+
+-- the outcome that a call with these sizes and tables must have
+unfoldable pub contraction : Lent → Outcome
+contraction l = elim (eqb (fault l .0) 0) [ true ↦ done l | false ↦ refused l (fault l) ]

@@ -1,0 +1,266 @@
+-- What acceptance gives: sizes within the limits, tables long enough, an allowed share, ends and active junctions below N, and events without a fault.
+-- In order: an event without a fault; parallel arrays as pairs; a list whose ends and active junctions are below N; an accepted replay; shares and acceptance.
+-- Assumes nothing.
+use Prim.Native.Nat.{_<_, _≤_, suc, zero, ℕ}
+use mathlib.Core.Bool.{Bool, _&&_, _||_, cond, false, not, true}
+use mathlib.Core.List.{List, List·Memᴰ, List·Memᴰ·head, List·Memᴰ·tail, [], _++_, _∷_}
+use mathlib.Core.Logic.{_⊎_, inl, inr}
+use mathlib.Core.Path.{_∙_, _≡_, ap, ap₂, refl, subst, sym}
+use lib.Dec.{eqb, leb, ltb}
+use lib.ListN.{drop, getD, length, take}
+use native.Mathlib.Omega.{arith}
+use borrow.Author.Tests.{eqb-false, eqb-true, le-ltb, leb-false, lt-ltb, ltb-false, ltb-true, ne-eqb, not-false, not-true}
+use Rattle.theory_graph.proofs.Booleans.{and-elim, contradict, onBool}
+use Rattle.theory_graph.proofs.Ends.{endsIn-all, endsIn-at}
+use Rattle.theory_graph.specs.Graph.{Edge, NodeSet}
+use Rattle.theory_graph.specs.Lists.{pairs}
+use Rattle.theory_graph.specs.SmallGraph.{endsIn}
+use Rattle.call_sizes.proofs.RefusalLaws.{Numbered, Silent, fault-silent, numbered-append, seek-found, seek-none, silent-left, silent-right, skip-silent}
+use Rattle.call_sizes.specs.Refusal.{Refusal, Row, firstFault, badEnds}
+use Rattle.call_sizes.specs.Sizes.{sizeFaults}
+use Rattle.theory_timeline.specs.DemandThree.{Allowed}
+use Rattle.theory_timeline.specs.Events.{Event, SegmentSet, activeOf, asks, closes, ends, opens, pick}
+use Rattle.theory_timeline.specs.Replay.{Lent, eventFault, fault, faultAt, faults, given, listFaults, required, shareFaults, shortTables}
+use Rattle.theory_timeline.specs.Windows.{Timeline, Window, active, during, event, openBefore, size}
+use Rattle.theory_timeline.specs.declared.Kind.{Kind}
+use Rattle.theory_timeline.specs.declared.Kind.the-variants.{Closes, Nothing, Opens, Query}
+
+-- ---- an event without a fault, of n junctions and m segments, where the segments of o are open
+pub record Fine (n m : ℕ) (o : SegmentSet) (e : Event) : Type 0 where
+  pub query : asks e ≡ true → (e .0 < n) × (e .1 < n)
+  pub segment : (opens e || closes e) ≡ true → e .1 < m
+  pub fresh : opens e ≡ true → o (e .1) ≡ false
+  pub stale : closes e ≡ true → o (e .1) ≡ true
+
+below-cond : (b : Bool) (c : ℕ) → cond b 0 (suc c) ≡ 0 → b ≡ true
+below-cond true c h = refl
+below-cond false c h = absurd (omega arith)
+
+pub fault-fine : (n m : ℕ) (o : SegmentSet) (e : Event) → n ≤ 4096 → eventFault n m o e ≡ 0 → Fine n m o e
+unfolding eventFault
+fault-fine n m o e few h = go (ltb (e .0) n) (eqb (e .0) 65535) (eqb (e .0) 65534) refl refl refl h
+  where
+    value : Kind → ℕ
+    value k = elim k [
+      | Query ↦ cond (ltb (e .1) n) 0 5
+      | Opens ↦ cond (ltb (e .1) m) (cond (o (e .1)) 6 0) 5
+      | Closes ↦ cond (ltb (e .1) m) (cond (o (e .1)) 0 7) 5
+      | Nothing ↦ 5
+    ]
+
+    first : (b : Bool) (c : ℕ) → cond b c 5 ≡ 0 → (b ≡ true) × (c ≡ 0)
+    first true c h = (refl, h)
+    first false c h = absurd (omega arith)
+
+    closed : (b : Bool) → _≡_ {A = ℕ} (cond b 6 0) 0 → b ≡ false
+    closed true h = absurd (omega arith)
+    closed false h = refl
+
+    opened : (b : Bool) → _≡_ {A = ℕ} (cond b 0 7) 0 → b ≡ true
+    opened true h = refl
+    opened false h = absurd (omega arith)
+
+    go : (q a c : Bool) → ltb (e .0) n ≡ q → eqb (e .0) 65535 ≡ a → eqb (e .0) 65534 ≡ c → value (cond q Query (cond a Opens (cond c Closes Nothing))) ≡ 0 → Fine n m o e
+    go true a c eq ea ec h =
+        let lo = ltb-true (e .0) n eq in
+        let na : eqb (e .0) 65535 ≡ false = ne-eqb (e .0) 65535 (λ x. omega arith) in
+        let nc : eqb (e .0) 65534 ≡ false = ne-eqb (e .0) 65534 (λ x. omega arith) in
+        record {
+          query = λ _. (lo, ltb-true (e .1) n (below-cond (ltb (e .1) n) 4 h));
+          segment = λ s. contradict s (ap₂ _||_ na nc);
+          fresh = λ s. contradict s na;
+          stale = λ s. contradict s nc;
+        }
+    go false true c eq ea ec h =
+        let (l, f) = first (ltb (e .1) m) (cond (o (e .1)) 6 0) h in
+        record {
+          query = λ s. contradict s (ap (λ (b : Bool). not (b || eqb (e .0) 65534)) ea);
+          segment = λ _. ltb-true (e .1) m l;
+          fresh = λ _. closed (o (e .1)) f;
+          stale = λ s. absurd (omega (arith, eqb-true (e .0) 65535 ea, eqb-true (e .0) 65534 s));
+        }
+    go false false true eq ea ec h =
+        let (l, f) = first (ltb (e .1) m) (cond (o (e .1)) 0 7) h in
+        record {
+          query = λ s. contradict s (ap₂ (λ (a b : Bool). not (a || b)) ea ec);
+          segment = λ _. ltb-true (e .1) m l;
+          fresh = λ s. contradict s ea;
+          stale = λ _. opened (o (e .1)) f;
+        }
+    go false false false eq ea ec h = absurd (omega arith)
+
+-- ---- two parallel arrays
+pub length-pairs : (k : ℕ) (x y : List ℕ) → k ≤ length x → k ≤ length y → length (pairs (take k x) (take k y)) ≡ k
+length-pairs zero x y a b = refl
+length-pairs (suc k) [] y a b = absurd (omega arith)
+length-pairs (suc k) (u ∷ x) [] a b = absurd (omega arith)
+length-pairs (suc k) (u ∷ x) (v ∷ y) a b = ap suc (length-pairs k x y (omega arith) (omega arith))
+
+pub getD-pairs : (k : ℕ) (x y : List ℕ) (i : ℕ) → k ≤ length x → k ≤ length y → i < k → getD (pairs (take k x) (take k y)) i (0, 0) ≡ (getD x i 0, getD y i 0)
+getD-pairs zero x y i a b l = absurd (omega arith)
+getD-pairs (suc k) [] y i a b l = absurd (omega arith)
+getD-pairs (suc k) (u ∷ x) [] i a b l = absurd (omega arith)
+getD-pairs (suc k) (u ∷ x) (v ∷ y) zero a b l = refl
+getD-pairs (suc k) (u ∷ x) (v ∷ y) (suc i) a b l = getD-pairs k x y i (omega arith) (omega arith) (omega arith)
+
+-- ---- a network and list in which all ends and active junctions are below N
+pub record Good (g : Timeline) : Type 0 where
+  pub segments : endsIn (λ v. ltb v (g .junctions)) (g .segments) ≡ true
+  pub active : (w : Window) (a : ℕ) → List·Memᴰ a (active g w) → a < g .junctions
+
+pub pick-inside : (N : NodeSet) (t : SegmentSet) (i : ℕ) (es : List Edge) → endsIn N es ≡ true → endsIn N (pick t i es) ≡ true
+pick-inside N t i [] h = refl
+pick-inside N t i (e ∷ es) h = and-elim (N (e .0)) (N (e .1) && endsIn N es) h λ p q. and-elim (N (e .1)) (endsIn N es) q λ r s. go (t i) p r (pick-inside N t (suc i) es s)
+  where
+    go : (b : Bool) → N (e .0) ≡ true → N (e .1) ≡ true → endsIn N (pick t (suc i) es) ≡ true → endsIn N (cond b (e ∷ pick t (suc i) es) (pick t (suc i) es)) ≡ true
+    go true p r s = ap₂ _&&_ p (ap₂ _&&_ r s)
+    go false p r s = s
+
+mem-take : (n : ℕ) (e : Event) (l : List Event) → List·Memᴰ e (take n l) → List·Memᴰ e l
+mem-take zero e l m = absurd (elim m [ ])
+mem-take (suc n) e [] m = m
+mem-take (suc n) e (x ∷ l) (List·Memᴰ·head p) = List·Memᴰ·head p
+mem-take (suc n) e (x ∷ l) (List·Memᴰ·tail m) = List·Memᴰ·tail (mem-take n e l m)
+
+mem-drop : (n : ℕ) (e : Event) (l : List Event) → List·Memᴰ e (drop n l) → List·Memᴰ e l
+mem-drop zero e l m = m
+mem-drop (suc n) e [] m = m
+mem-drop (suc n) e (x ∷ l) m = List·Memᴰ·tail (mem-drop n e l m)
+
+mem-at : (e : Event) (l : List Event) → List·Memᴰ e l → (i : ℕ) × (i < length l) × (getD l i (0, 0) ≡ e)
+mem-at e (x ∷ l) (List·Memᴰ·head p) = (0, omega arith, sym p)
+mem-at e (x ∷ l) (List·Memᴰ·tail m) = let (i, h, q) = mem-at e l m in (suc i, omega arith, q)
+
+-- an active junction is one of the two of an event of the list
+active-from : (segs : List Edge) (l : List Event) (a : ℕ) → List·Memᴰ a (activeOf segs l) → (e : Event) × List·Memᴰ e l × ((a ≡ ends segs e .0) ⊎ (a ≡ ends segs e .1))
+unfolding activeOf
+active-from segs [] a m = absurd (elim m [ ])
+active-from segs (e ∷ l) a (List·Memᴰ·head p) = (e, List·Memᴰ·head refl, inl p)
+active-from segs (e ∷ l) a (List·Memᴰ·tail (List·Memᴰ·head p)) = (e, List·Memᴰ·head refl, inr p)
+active-from segs (e ∷ l) a (List·Memᴰ·tail (List·Memᴰ·tail m)) = let (f, n, q) = active-from segs l a m in (f, List·Memᴰ·tail n, q)
+
+-- the two junctions of an event without a fault
+pub fine-ends : (n : ℕ) (segs : List Edge) (o : SegmentSet) (e : Event) → endsIn (λ v. ltb v n) segs ≡ true → Fine n (length segs) o e → (ends segs e .0 < n) × (ends segs e .1 < n)
+fine-ends n segs o e s f = go (opens e || closes e) refl
+  where
+    go : (b : Bool) → (opens e || closes e) ≡ b → ((cond b (getD segs (e .1) (0, 0)) e) .0 < n) × ((cond b (getD segs (e .1) (0, 0)) e) .1 < n)
+    go true p = let (x, y) = endsIn-at (λ v. ltb v n) segs (e .1) (f .segment p) s in (ltb-true _ n x, ltb-true _ n y)
+    go false p = f .query (ap not p)
+
+pub fine-good : (g : Timeline) → endsIn (λ v. ltb v (g .junctions)) (g .segments) ≡ true
+    → ((i : ℕ) → i < size g → Fine (g .junctions) (length (g .segments)) (openBefore g i) (event g i)) → Good g
+unfolding active during
+fine-good g s f =
+    record {
+      segments = s;
+      active = λ w a m.
+          let (e, n, q) = active-from (g .segments) (during g w) a m in
+          let (i, l, p) = mem-at e (g .events) (mem-drop (w .0) e (g .events) (mem-take (w .1) e (drop (w .0) (g .events)) n)) in
+          either (event g i) (f i l) (subst (λ (e : Event). (a ≡ ends (g .segments) e .0) ⊎ (a ≡ ends (g .segments) e .1)) (sym p) q);
+    }
+  where
+    either : {a : ℕ} {o : SegmentSet} (e : Event) → Fine (g .junctions) (length (g .segments)) o e → (a ≡ ends (g .segments) e .0) ⊎ (a ≡ ends (g .segments) e .1) → a < g .junctions
+    either {o} e f (inl q) = let (x, y) = fine-ends (g .junctions) (g .segments) o e s f in omega arith
+    either {o} e f (inr q) = let (x, y) = fine-ends (g .junctions) (g .segments) o e s f in omega arith
+
+-- ---- what an accepted replay was lent
+pub record Accepted (l : Lent) (p : ℕ) : Type 0 where
+  pub n-fits : l .n ≤ 4096
+  pub m-fits : l .m ≤ 8192
+  pub t-fits : l .t ≤ 4096
+  pub a-long : l .m ≤ length (l .a)
+  pub b-long : l .m ≤ length (l .b)
+  pub x-long : l .t ≤ length (l .x)
+  pub y-long : l .t ≤ length (l .y)
+  pub answers-long : l .t ≤ length (l .answers)
+  pub work-long : required (l .t) (l .n) ≤ length (l .work)
+  pub share : Allowed p
+  pub ends-fit : (s : ℕ) → s < l .m → badEnds (l .n) (l .a) (l .b) s ≡ false
+  pub events-fine : (i : ℕ) → i < l .t → faultAt l i ≡ 0
+
+list-numbered : (l : Lent) → Numbered (listFaults l)
+unfolding listFaults
+list-numbered l = (λ h. omega arith, (λ h. positive (seek-found (λ i. not (eqb (faultAt l i) 0)) 0 (l .t) (omega (arith, ltb-true _ (l .t) h))), tt))
+  where
+    positive : {x : ℕ} → not (eqb x 0) ≡ true → 0 < x
+    positive {x} h = let n : ¬ (x ≡ 0) = eqb-false x 0 (not-true (eqb x 0) h) in omega arith
+
+faults-numbered : (l : Lent) (p : ℕ) → Numbered (faults l p)
+unfolding faults
+faults-numbered l p =
+    numbered-append (sizeFaults (l .n) (l .m) (l .t) 0) (shortTables l ++ shareFaults p ++ listFaults l) (λ h. omega arith, (λ h. omega arith, (λ h. omega arith, (λ h. omega arith, tt))))
+    (numbered-append (shortTables l) (shareFaults p ++ listFaults l) (λ h. omega arith, (λ h. omega arith, (λ h. omega arith, (λ h. omega arith, (λ h. omega arith, (λ h. omega arith, tt))))))
+    (numbered-append (shareFaults p) (listFaults l) (λ h. omega arith, (λ h. omega arith, tt)) (list-numbered l)))
+
+pub accepted-from : (l : Lent) (p : ℕ) → fault l p .0 ≡ 0 → Accepted l p
+unfolding fault faults listFaults
+accepted-from l p h =
+    let s = fault-silent (faults l p) (faults-numbered l p) h in
+    let a = silent-left (sizeFaults (l .n) (l .m) (l .t) 0) (shortTables l ++ shareFaults p ++ listFaults l) s in
+    let r = silent-right (sizeFaults (l .n) (l .m) (l .t) 0) (shortTables l ++ shareFaults p ++ listFaults l) s in
+    let b = silent-left (shortTables l) (shareFaults p ++ listFaults l) r in
+    let q = silent-right (shortTables l) (shareFaults p ++ listFaults l) r in
+    let c = silent-left (shareFaults p) (listFaults l) q in
+    let e = silent-right (shareFaults p) (listFaults l) q in
+    record {
+      n-fits = ltb-false 4096 (l .n) (a .0);
+      m-fits = ltb-false 8192 (l .m) (a .1 .0);
+      t-fits = ltb-false 4096 (l .t) (a .1 .1 .0);
+      a-long = ltb-false (length (l .a)) (l .m) (b .0);
+      b-long = ltb-false (length (l .b)) (l .m) (b .1 .0);
+      x-long = ltb-false (length (l .x)) (l .t) (b .1 .1 .0);
+      y-long = ltb-false (length (l .y)) (l .t) (b .1 .1 .1 .0);
+      answers-long = ltb-false (length (l .answers)) (l .t) (b .1 .1 .1 .1 .0);
+      work-long = ltb-false (length (l .work)) (required (l .t) (l .n)) (b .1 .1 .1 .1 .1 .0);
+      share = (ltb-false p 4 (c .0), ltb-false 12 p (c .1 .0));
+      ends-fit = λ s k. seek-none (badEnds (l .n) (l .a) (l .b)) (l .m) s (e .0) k;
+      events-fine = λ i k. eqb-true (faultAt l i) 0 (not-false (eqb (faultAt l i) 0) (seek-none (λ i. not (eqb (faultAt l i) 0)) (l .t) i (e .1 .0) k));
+    }
+
+module _ (l : Lent) (p : ℕ) (a : Accepted l p) where
+  pub events-length : size (given l) ≡ l .t
+  unfolding given
+  events-length = length-pairs (l .t) (l .x) (l .y) (a .x-long) (a .y-long)
+
+  pub segments-length : length ((given l) .segments) ≡ l .m
+  unfolding given
+  segments-length = length-pairs (l .m) (l .a) (l .b) (a .a-long) (a .b-long)
+
+  pub accepted-ends : endsIn (λ v. ltb v (l .n)) ((given l) .segments) ≡ true
+  unfolding given
+  accepted-ends = endsIn-all (λ v. ltb v (l .n)) (pairs (take (l .m) (l .a)) (take (l .m) (l .b))) λ k j.
+      let i : k < l .m = omega (arith, segments-length′) in
+      ap (λ (e : Edge). ltb (e .0) (l .n) && ltb (e .1) (l .n)) (getD-pairs (l .m) (l .a) (l .b) k (a .a-long) (a .b-long) i)
+      ∙ both (getD (l .a) k 0) (getD (l .b) k 0) (a .ends-fit k i)
+    where
+      segments-length′ : length (pairs (take (l .m) (l .a)) (take (l .m) (l .b))) ≡ l .m
+      segments-length′ = length-pairs (l .m) (l .a) (l .b) (a .a-long) (a .b-long)
+
+      both : (x y : ℕ) → (leb (l .n) x || leb (l .n) y) ≡ false → (ltb x (l .n) && ltb y (l .n)) ≡ true
+      both x y h = onBool (leb (l .n) x) (λ t. contradict (ap (λ (b : Bool). b || leb (l .n) y) t) h) λ f.
+          let g : leb (l .n) y ≡ false = sym (ap (λ (b : Bool). b || leb (l .n) y) f) ∙ h in
+          ap₂ _&&_ (lt-ltb x (l .n) (leb-false (l .n) x f)) (lt-ltb y (l .n) (leb-false (l .n) y g))
+
+  pub accepted-fine : (i : ℕ) → i < l .t → Fine (l .n) (l .m) (openBefore (given l) i) (event (given l) i)
+  unfolding faultAt
+  accepted-fine i h = fault-fine (l .n) (l .m) (openBefore (given l) i) (event (given l) i) (a .n-fits) (a .events-fine i h)
+
+  pub accepted-good : Good (given l)
+  unfolding given
+  accepted-good = fine-good (given l) accepted-ends λ i h.
+      subst (λ (m : ℕ). Fine (l .n) m (openBefore (given l) i) (event (given l) i)) (sym segments-length) (accepted-fine i (omega (arith, events-length)))
+
+-- ---- with another allowed share nothing changes
+share-silent : (p : ℕ) → Allowed p → Silent (shareFaults p)
+share-silent p a = (le-ltb p 4 (a .0), (le-ltb 12 p (a .1), tt))
+
+first-append : (rs bs cs : List Row) → firstFault bs ≡ firstFault cs → firstFault (rs ++ bs) ≡ firstFault (rs ++ cs)
+first-append [] bs cs h = h
+first-append (r ∷ rs) bs cs h = ap (λ (f : Refusal). cond (r .test) (r .code, r .place) f) (first-append rs bs cs h)
+
+pub fault-share : (l : Lent) (p q : ℕ) → Allowed p → Allowed q → fault l p ≡ fault l q
+unfolding fault faults
+fault-share l p q a b =
+    first-append (sizeFaults (l .n) (l .m) (l .t) 0) (shortTables l ++ shareFaults p ++ listFaults l) (shortTables l ++ shareFaults q ++ listFaults l)
+    (first-append (shortTables l) (shareFaults p ++ listFaults l) (shareFaults q ++ listFaults l)
+    (skip-silent (shareFaults p) (listFaults l) (share-silent p a) ∙ sym (skip-silent (shareFaults q) (listFaults l) (share-silent q b))))

@@ -1,0 +1,144 @@
+-- The proof of demand 3, stated in specs/DemandThree: first one window, then two replays.
+-- Assumes nothing.
+use Prim.Native.Nat.{suc, zero, ℕ}
+use mathlib.Core.Bool.{Bool, _&&_, false, true}
+use mathlib.Core.List.{List, List·Memᴰ·head, List·Memᴰ·tail, [], _++_, _∷_, map}
+use mathlib.Core.Logic.{_↔_}
+use mathlib.Core.Path.{_∙_, _≡_, ap, ap₂, refl, subst, sym}
+use lib.Dec.{eqb, ltb}
+use lib.ListN.{drop, length, length-map, take}
+use lib.Seq.{take-at}
+use borrow.Author.Tests.{eq-eqb, eqb-true}
+use Rattle.theory_graph.proofs.Booleans.{contradict}
+use Rattle.theory_graph.proofs.ContractionIsSmall.{contract-small}
+use Rattle.theory_graph.proofs.CutOffs.{answer-unique, answerByCuts, answerByCuts-is}
+use Rattle.theory_graph.proofs.Definitions.{answer-is}
+use Rattle.theory_graph.proofs.Lists.{entry, mem-member}
+use Rattle.theory_graph.proofs.SmallGraphs.{SmallGraph}
+use Rattle.theory_graph.proofs.Transfer.{answer-transfer, small-carries}
+use Rattle.theory_graph.proofs.Uniqueness.{small-bound}
+use Rattle.theory_graph.specs.Contraction.{contract, keptClasses, number}
+use Rattle.theory_graph.specs.Graph.{Edge}
+use Rattle.theory_graph.specs.Lists.{member, pairs, range, sum}
+use Rattle.theory_graph.specs.SmallGraph.{endsIn, image}
+use Rattle.call_sizes.specs.Refusal.{Refusal}
+use Rattle.theory_timeline.proofs.Acceptance.{Accepted, Good, accepted-from, accepted-good, events-length, fault-share, pick-inside}
+use Rattle.theory_timeline.specs.DemandThree.{Alike, Allowed, Among, Demand-3, Demand-3-of-calls, Demand3, Faithful, outcomeOf}
+use Rattle.theory_timeline.specs.Events.{networkOf}
+use Rattle.theory_timeline.specs.Replay.{Lent, Outcome, bytes, done, fault, given, openAtEnd, queries, refused, replay}
+use Rattle.theory_timeline.specs.Windows.{Timeline, Window, active, kept, network, size, small, stands, windows}
+
+-- ---- one window
+within-among : (S : List ℕ) (F : List Edge) → Among S F → endsIn (member S) F ≡ true
+within-among S [] h = refl
+within-among S (e ∷ F) h =
+    let (p, q) = h e (List·Memᴰ·head refl) in
+    ap₂ _&&_ (mem-member (e .0) S p) (ap₂ _&&_ (mem-member (e .1) S q) (within-among S F (λ f m. h f (List·Memᴰ·tail m))))
+
+module _ (g : Timeline) (good : Good g) (w : Window) where
+  pub network-inside : endsIn (λ v. ltb v (g .junctions)) (network g w) ≡ true
+  unfolding network networkOf
+  network-inside = pick-inside (λ v. ltb v (g .junctions)) _ 0 (g .segments) (good .segments)
+
+  pub small-is : SmallGraph (network g w) (active g w) ((small g w) .nodes) ((small g w) .edges) (entry 0 (keptClasses (g .junctions) (network g w) (active g w))) (stands g w)
+  unfolding small contract stands number
+  small-is = contract-small (g .junctions) (network g w) (active g w) network-inside (good .active w)
+
+  pub faithful : Faithful g w
+  faithful =
+      record {
+        answers = λ F h x y mx my.
+            let E = network g w ++ F in
+            let H = (small g w) .edges ++ image (stands g w) F in
+            answer-is E x y
+            ∙ answer-unique H (stands g w x) (stands g w y) (answerByCuts E x y) (answerByCuts H (stands g w x) (stands g w y))
+            (answer-transfer (network g w) (active g w) ((small g w) .nodes) ((small g w) .edges) _ (stands g w) (small-carries _ _ _ _ _ _ small-is) F (within-among (active g w) F h) x y (answerByCuts E x y) mx my .0 (answerByCuts-is E x y))
+            (answerByCuts-is H (stands g w x) (stands g w y))
+            ∙ sym (answer-is H (stands g w x) (stands g w y));
+        nodes = small-bound (network g w) (active g w) ((small g w) .nodes) ((small g w) .edges) _ (stands g w) small-is;
+      }
+
+-- ---- two replays
+pub replay-done : (l : Lent) (p : ℕ) → (replay l p) .code ≡ 0 → (replay l p ≡ done l p) × Accepted l p
+unfolding replay refused
+replay-done l p = go (eqb (fault l p .0) 0) refl
+  where
+    go : (b : Bool) → eqb (fault l p .0) 0 ≡ b
+        → (elim b as (λ x. Outcome) [ true ↦ done l p | false ↦ refused l (fault l p) ]) .code ≡ 0
+        → ((elim b as (λ x. Outcome) [ true ↦ done l p | false ↦ refused l (fault l p) ]) ≡ done l p) × Accepted l p
+    go true e h = (refl, accepted-from l p (eqb-true (fault l p .0) 0 e))
+    go false e h = contradict (eq-eqb (fault l p .0) 0 h) e
+
+pub accepted-done : (l : Lent) (p : ℕ) → fault l p .0 ≡ 0 → replay l p ≡ done l p
+unfolding replay
+accepted-done l p h = ap (λ (b : Bool). elim b as (λ x. Outcome) [ true ↦ done l p | false ↦ refused l (fault l p) ]) (eq-eqb (fault l p .0) 0 h)
+
+done-verdict : (l : Lent) (p : ℕ) → (replay l p) .code ≡ 0 → fault l p .0 ≡ 0
+unfolding replay refused
+done-verdict l p = go (eqb (fault l p .0) 0) refl
+  where
+    go : (b : Bool) → eqb (fault l p .0) 0 ≡ b → (elim b as (λ x. Outcome) [ true ↦ done l p | false ↦ refused l (fault l p) ]) .code ≡ 0 → fault l p .0 ≡ 0
+    go true e h = eqb-true (fault l p .0) 0 e
+    go false e h = h
+
+range-length : (i n : ℕ) → length (range i n) ≡ n
+range-length i zero = refl
+range-length i (suc n) = ap suc (range-length (suc i) n)
+
+-- the first T entries of the answer table are the answer bytes
+pub bytes-length : (l : Lent) (p : ℕ) → Accepted l p → length (bytes (given l)) ≡ l .t
+unfolding bytes
+bytes-length l p a = length-map (range 0 (size (given l))) _ ∙ range-length 0 (size (given l)) ∙ events-length l p a
+
+pub answers-first : (l : Lent) (p : ℕ) → Accepted l p → take (l .t) ((done l p) .answers) ≡ bytes (given l)
+unfolding done
+answers-first l p a = take-at (bytes (given l)) (drop (length (bytes (given l))) (l .answers)) (l .t) (bytes-length l p a)
+
+alike-given : (l k : Lent) → Alike l k → given l ≡ given k
+unfolding given
+alike-given l k h = λ i. record { junctions = h .n i; segments = pairs (h .a i) (h .b i); events = pairs (h .x i) (h .y i) }
+
+code-done : (l : Lent) (p : ℕ) → (done l p) .code ≡ 0
+unfolding done
+code-done l p = refl
+
+share-done : (l : Lent) (p q : ℕ) → Allowed p → Allowed q → (replay l p) .code ≡ 0 → (replay l q) .code ≡ 0
+share-done l p q a b h = ap (λ (r : Outcome). r .code) (accepted-done l q (ap (λ (v : Refusal). v .0) (sym (fault-share l p q a b)) ∙ done-verdict l p h)) ∙ code-done l q
+
+share-tables : (l : Lent) (p q : ℕ) → ((done l p) .answers ≡ (done l q) .answers) × ((done l p) .work ≡ (done l q) .work)
+unfolding done
+share-tables l p q = (refl, refl)
+
+both : (l k : Lent) (p q : ℕ) → Allowed p → Allowed q → Demand3 l k p q (replay l p) (replay k q)
+unfolding kept done
+both l k p q a b =
+    record {
+      faithful = λ h w m. faithful (given l) (accepted-good l p (replay-done l p h .1)) w;
+      kept = λ h. let (e, c) = replay-done l p h in ap (λ (r : Outcome). r .kept) e ∙ ap (λ (t : ℕ). sum (map (λ w. (small (given l) w) .nodes) (windows p t))) (events-length l p c);
+      alike = λ h j s.
+          let (e, c) = replay-done l p h in
+          let (f, d) = replay-done k q j in
+          let g = alike-given l k s in (
+            ap (λ (r : Outcome). take (l .t) (r .answers)) e ∙ answers-first l p c ∙ ap bytes g ∙ sym (answers-first k q d) ∙ ap (λ (t : ℕ). take t ((done k q) .answers)) (sym (s .t)) ∙ ap (λ (r : Outcome). take (l .t) (r .answers)) (sym f),
+            ap (λ (r : Outcome). r .queries) e ∙ ap queries g ∙ ap (λ (r : Outcome). r .queries) (sym f),
+            ap (λ (r : Outcome). r .opened) e ∙ ap openAtEnd g ∙ ap (λ (r : Outcome). r .opened) (sym f),
+          );
+      tables = λ e. subst (λ (k : Lent). ((replay l p) .code ≡ 0 ↔ (replay k q) .code ≡ 0) × ((replay l p) .code ≡ 0 → ((replay l p) .answers ≡ (replay k q) .answers) × ((replay l p) .work ≡ (replay k q) .work))) e same;
+    }
+  where
+    same : ((replay l p) .code ≡ 0 ↔ (replay l q) .code ≡ 0) × ((replay l p) .code ≡ 0 → ((replay l p) .answers ≡ (replay l q) .answers) × ((replay l p) .work ≡ (replay l q) .work))
+    same = (
+      (share-done l p q a b, share-done l q p b a),
+      λ h.
+          let e = replay-done l p h .0 in
+          let f = replay-done l q (share-done l p q a b h) .0 in
+          let (x, y) = share-tables l p q in
+          (ap (λ (r : Outcome). r .answers) e ∙ x ∙ ap (λ (r : Outcome). r .answers) (sym f), ap (λ (r : Outcome). r .work) e ∙ y ∙ ap (λ (r : Outcome). r .work) (sym f)),
+    )
+
+-- ---- the theorem
+pub demand-3 : Demand-3
+demand-3 l k p q a b r s e f = subst (λ (x : Outcome). Demand3 l k p q x s) (sym e) (subst (λ (x : Outcome). Demand3 l k p q (replay l p) x) (sym f) (both l k p q a b))
+
+pub demand-3-of-calls : Demand-3-of-calls
+demand-3-of-calls c d a b e f = demand-3 (c .lends) (d .lends) (c .share) (d .share) a b (outcomeOf c) (outcomeOf d) e f

@@ -1,0 +1,94 @@
+-- Laws of lists of events: what they name, what is open after them, the edges of sets of segments, and active junctions.
+-- Assumes nothing.
+use Prim.Native.Nat.{_+_, suc, ℕ}
+use mathlib.Core.Bool.{Bool, _&&_, _||_, cond, false, true}
+use mathlib.Core.List.{List, List·Memᴰ, List·Memᴰ·head, List·Memᴰ·tail, [], _++_, _∷_}
+use mathlib.Core.Logic.{_⊎_, inl, inr}
+use mathlib.Core.Path.{_∙_, _≡_, ap, ap₂, refl, sym}
+use lib.Dec.{eqb}
+use lib.ListN.{getD}
+use native.Mathlib.Omega.{arith}
+use borrow.Author.Tests.{eqb-true}
+use Rattle.theory_graph.proofs.Booleans.{and-elim, contradict, or-elim}
+use Rattle.theory_graph.proofs.Lists.{here}
+use Rattle.theory_graph.specs.Cut.{cut}
+use Rattle.theory_graph.specs.Graph.{Edge, NodeSet}
+use Rattle.theory_graph.specs.SmallGraph.{endsIn}
+use Rattle.theory_timeline.specs.Events.{Event, activeOf, after, afterAll, closes, ends, named, names, opens, pick}
+
+-- ---- laws
+pub named-append : (a b : List Event) (s : ℕ) → named (a ++ b) s ≡ (named a s || named b s)
+named-append [] b s = refl
+named-append (e ∷ a) b s = ap (λ x. names e s || x) (named-append a b s) ∙ assoc (names e s) (named a s) (named b s)
+  where
+    assoc : (x y z : Bool) → (x || (y || z)) ≡ ((x || y) || z)
+    assoc true y z = refl
+    assoc false y z = refl
+
+-- what is not named stays as it is
+pub after-stays : (evs : List Event) (o : NodeSet) (s : ℕ) → named evs s ≡ false → afterAll evs o s ≡ o s
+after-stays [] o s h = refl
+after-stays (e ∷ evs) o s h = go (names e s) refl h (after-stays evs (after e o) s)
+  where
+    go : (b : Bool) → names e s ≡ b → (b || named evs s) ≡ false → (named evs s ≡ false → afterAll evs (after e o) s ≡ after e o s) → afterAll evs (after e o) s ≡ o s
+    go true p h rest = contradict refl h
+    go false p h rest = rest h ∙ ap (λ b. cond b (opens e) (o s)) p
+
+pub pick-sum : (U : NodeSet) (t a b : NodeSet) → ((s : ℕ) → ((a s ≡ t s) × (b s ≡ false)) ⊎ ((a s ≡ false) × (b s ≡ t s))) → (i : ℕ) (es : List Edge) → cut U (pick t i es) ≡ cut U (pick a i es) + cut U (pick b i es)
+pick-sum U t a b k i [] = refl
+pick-sum U t a b k i (e ∷ es) = go (t i) (a i) (b i) (k i) (pick-sum U t a b k (suc i) es)
+  where
+    go : (x y z : Bool) → ((y ≡ x) × (z ≡ false)) ⊎ ((y ≡ false) × (z ≡ x)) → cut U (pick t (suc i) es) ≡ cut U (pick a (suc i) es) + cut U (pick b (suc i) es)
+        → cut U (cond x (e ∷ pick t (suc i) es) (pick t (suc i) es)) ≡ cut U (cond y (e ∷ pick a (suc i) es) (pick a (suc i) es)) + cut U (cond z (e ∷ pick b (suc i) es) (pick b (suc i) es))
+    go true true true (inl (p, q)) h = contradict refl q
+    go true true true (inr (p, q)) h = contradict refl p
+    go true true false m h = omega arith
+    go true false true m h = omega arith
+    go true false false (inl (p, q)) h = contradict refl (sym p ∙ refl)
+    go true false false (inr (p, q)) h = contradict refl (sym q ∙ refl)
+    go false true z (inl (p, q)) h = contradict refl p
+    go false true z (inr (p, q)) h = contradict refl p
+    go false false true (inl (p, q)) h = contradict refl q
+    go false false true (inr (p, q)) h = contradict refl q
+    go false false false m h = h
+
+pub pick-within : (N : NodeSet) (t : NodeSet) (f : ℕ → Edge) (i : ℕ) (es : List Edge) → ((k : ℕ) → getD es k (0, 0) ≡ f (i + k)) → ((s : ℕ) → t s ≡ true → (N (f s .0) ≡ true) × (N (f s .1) ≡ true)) → endsIn N (pick t i es) ≡ true
+pick-within N t f i [] g h = refl
+pick-within N t f i (e ∷ es) g h = go (t i) refl (pick-within N t f (suc i) es (λ k. g (suc k) ∙ ap f (shift k)) h)
+  where
+    shift : (k : ℕ) → i + suc k ≡ suc i + k
+    shift k = omega arith
+
+    here : e ≡ f i
+    here = let z : i + 0 ≡ i = omega arith in g 0 ∙ ap f z
+
+    go : (b : Bool) → t i ≡ b → endsIn N (pick t (suc i) es) ≡ true → endsIn N (cond b (e ∷ pick t (suc i) es) (pick t (suc i) es)) ≡ true
+    go true p r = let (a, b) = h i p in ap₂ _&&_ (ap (λ (e : Edge). N (e .0)) here ∙ a) (ap₂ _&&_ (ap (λ (e : Edge). N (e .1)) here ∙ b) r)
+    go false p r = r
+
+pub active-named : (segs : List Edge) (evs : List Event) (s : ℕ) → named evs s ≡ true → List·Memᴰ (getD segs s (0, 0) .0) (activeOf segs evs) × List·Memᴰ (getD segs s (0, 0) .1) (activeOf segs evs)
+unfolding activeOf
+active-named segs [] s h = contradict h refl
+active-named segs (e ∷ evs) s h =
+    or-elim (names e s) (named evs s) h
+    (λ p. and-elim (opens e || closes e) (eqb s (e .1)) p λ a b.
+    let q : getD segs s (0, 0) ≡ ends segs e = ap (λ k. getD segs k (0, 0)) (eqb-true s (e .1) b) ∙ sym (ap (λ c. cond c (getD segs (e .1) (0, 0)) e) a) in
+    (List·Memᴰ·head (ap (λ (e : Edge). e .0) q), List·Memᴰ·tail (List·Memᴰ·head (ap (λ (e : Edge). e .1) q))))
+    (λ p. let (a, b) = active-named segs evs s p in (List·Memᴰ·tail (List·Memᴰ·tail a), List·Memᴰ·tail (List·Memᴰ·tail b)))
+
+pub active-left : (segs : List Edge) (a b : List Event) (v : ℕ) → List·Memᴰ v (activeOf segs a) → List·Memᴰ v (activeOf segs (a ++ b))
+unfolding activeOf
+active-left segs [] b v m = absurd (elim m [ ])
+active-left segs (e ∷ a) b v (List·Memᴰ·head p) = List·Memᴰ·head p
+active-left segs (e ∷ a) b v (List·Memᴰ·tail (List·Memᴰ·head p)) = List·Memᴰ·tail (List·Memᴰ·head p)
+active-left segs (e ∷ a) b v (List·Memᴰ·tail (List·Memᴰ·tail m)) = List·Memᴰ·tail (List·Memᴰ·tail (active-left segs a b v m))
+
+pub active-right : (segs : List Edge) (a b : List Event) (v : ℕ) → List·Memᴰ v (activeOf segs b) → List·Memᴰ v (activeOf segs (a ++ b))
+unfolding activeOf
+active-right segs [] b v m = m
+active-right segs (e ∷ a) b v m = List·Memᴰ·tail (List·Memᴰ·tail (active-right segs a b v m))
+
+-- ---- a query by itself: the network is all that is open
+pub pick-ext : (t u : NodeSet) → ((s : ℕ) → t s ≡ u s) → (i : ℕ) (es : List Edge) → pick t i es ≡ pick u i es
+pick-ext t u h i [] = refl
+pick-ext t u h i (e ∷ es) = ap₂ (λ b l. cond b (e ∷ l) l) (h i) (pick-ext t u h (suc i) es)

@@ -1,0 +1,174 @@
+-- The network of a part of a window is the window's with the segments that the window names, the part does not, and that are open before the part.
+-- So graphs that are made step by step down the windows are small graphs of the windows' own networks.
+-- In order: for lists of events, a window before ++ part ++ behind; for windows of a list; the start; down the tree of windows.
+-- Assumes nothing.
+use Prim.Native.Nat.{_+_, _-_, _≤_, suc, zero, ℕ}
+use mathlib.Core.Bool.{Bool, _&&_, _||_, false, not, true}
+use mathlib.Core.List.{List, List·Memᴰ, [], _++_, _∷_, map}
+use mathlib.Core.Logic.{_⊎_, inl, inr}
+use mathlib.Core.Path.{_∙_, _≡_, ap, ap₂, refl, subst, subst₂, sym}
+use lib.ListN.{drop, getD, take, take-append-drop}
+use lib.Seq.{drop-drop, take-add, take-nil, take-take}
+use native.Mathlib.Omega.{arith}
+use Rattle.theory_graph.proofs.Booleans.{and-elim, contradict, onBool}
+use Rattle.theory_graph.proofs.Composition.{compose}
+use Rattle.theory_graph.proofs.CutEquivalence.{small-cuts-equal}
+use Rattle.theory_graph.proofs.Cuts.{cut-append}
+use Rattle.theory_graph.proofs.Lists.{mem-member}
+use Rattle.theory_graph.proofs.SmallGraphDefinition.{definition-small}
+use Rattle.theory_graph.proofs.SmallGraphs.{SmallGraph}
+use Rattle.theory_graph.proofs.Transfer.{small-carries}
+use Rattle.theory_graph.specs.Cut.{cut}
+use Rattle.theory_graph.specs.Graph.{Edge, NodeSet}
+use Rattle.theory_graph.specs.Lists.{member}
+use Rattle.theory_graph.specs.SmallGraph.{Carries, endsIn, image}
+use Rattle.theory_timeline.proofs.EventLaws.{active-left, active-named, active-right, after-stays, named-append, pick-sum, pick-within}
+use Rattle.theory_timeline.proofs.WindowLaws.{first-part}
+use Rattle.theory_timeline.specs.DemandThree.{Allowed}
+use Rattle.theory_timeline.specs.Events.{Event, SegmentSet, activeOf, after, afterAll, named, networkOf, pick}
+use Rattle.theory_timeline.specs.Steps.{Made, Part, added, down, top}
+use Rattle.theory_timeline.specs.Windows.{Timeline, Window, active, during, firstPart, network, openBefore, size}
+
+-- ---- a window pre ++ (mid ++ post), and its part mid
+module _ (segs : List Edge) (pre mid post : List Event) (o : SegmentSet) where
+  abbrev whole : List Event
+  whole = pre ++ (mid ++ post)
+
+  -- the segments that are added
+  unfoldable pub addedOf : List Edge
+  addedOf = pick (λ s. afterAll pre o s && (named whole s && not (named mid s))) 0 segs
+
+  pub networkOf-part : (U : NodeSet) → cut U (networkOf segs whole o ++ addedOf) ≡ cut U (networkOf segs mid (afterAll pre o))
+  unfolding networkOf addedOf
+  networkOf-part U =
+      cut-append U (networkOf segs whole o) addedOf
+      ∙ sym (pick-sum U (λ s. afterAll pre o s && not (named mid s)) (λ s. o s && not (named whole s)) (λ s. afterAll pre o s && (named whole s && not (named mid s))) one 0 segs)
+    where
+      one : (s : ℕ) → (((o s && not (named whole s)) ≡ (afterAll pre o s && not (named mid s))) × ((afterAll pre o s && (named whole s && not (named mid s))) ≡ false))
+          ⊎ (((o s && not (named whole s)) ≡ false) × ((afterAll pre o s && (named whole s && not (named mid s))) ≡ (afterAll pre o s && not (named mid s))))
+      one s =
+          onBool (named whole s)
+          (λ w. inr (ap (λ b. o s && not b) w ∙ off (o s), ap (λ b. afterAll pre o s && (b && not (named mid s))) w))
+          (λ w.
+          let (np, r) = or-false (named pre s) (named (mid ++ post) s) (sym (named-append pre (mid ++ post) s) ∙ w) in
+          let (nm, _) = or-false (named mid s) (named post s) (sym (named-append mid post s) ∙ r) in
+          inl (ap₂ (λ a b. a && not b) (sym (after-stays pre o s np)) (w ∙ sym nm), ap (λ b. afterAll pre o s && (b && not (named mid s))) w ∙ off (afterAll pre o s)))
+        where
+          off : (a : Bool) → (a && false) ≡ false
+          off true = refl
+          off false = refl
+
+          or-false : (a b : Bool) → (a || b) ≡ false → (a ≡ false) × (b ≡ false)
+          or-false true b h = contradict refl h
+          or-false false b h = (refl, h)
+
+  pub addedOf-within : endsIn (member (activeOf segs whole)) addedOf ≡ true
+  unfolding addedOf
+  addedOf-within =
+      pick-within (member (activeOf segs whole)) (λ s. afterAll pre o s && (named whole s && not (named mid s))) (λ k. getD segs k (0, 0)) 0 segs (λ k. ap (λ n. getD segs n (0, 0)) (plus k)) λ s t.
+      and-elim (afterAll pre o s) (named whole s && not (named mid s)) t λ a b. and-elim (named whole s) (not (named mid s)) b λ w u.
+      let (p, q) = active-named segs whole s w in (mem-member _ (activeOf segs whole) p, mem-member _ (activeOf segs whole) q)
+    where
+      plus : (k : ℕ) → k ≡ 0 + k
+      plus k = omega arith
+
+pub left-part : (p : ℕ) (w : Window) → Allowed p → 2 ≤ w .1 → Part w (w .0, firstPart p (w .1))
+left-part p w a h = let f = first-part p (w .1) a h in record { after = omega arith; before = omega arith }
+
+pub right-part : (p : ℕ) (w : Window) → Allowed p → 2 ≤ w .1 → Part w (w .0 + firstPart p (w .1), w .1 - firstPart p (w .1))
+right-part p w a h = let f = first-part p (w .1) a h in record { after = omega arith; before = omega arith }
+
+-- ---- lists
+drop-take : {A : Type 0} (k r : ℕ) (l : List A) → drop k (take (k + r) l) ≡ take r (drop k l)
+drop-take zero r l = let e : 0 + r ≡ r = omega arith in ap (λ (n : ℕ). take n l) e
+drop-take (suc k) r [] = ap (drop (suc k)) (take-nil (suc k + r)) ∙ sym (take-nil r)
+drop-take (suc k) r (x ∷ l) = let e : suc k + r ≡ suc (k + r) = omega arith in ap (λ (n : ℕ). drop (suc k) (take n (x ∷ l))) e ∙ drop-take k r l
+
+pub after-append : (a b : List Event) (o : SegmentSet) → afterAll b (afterAll a o) ≡ afterAll (a ++ b) o
+after-append [] b o = refl
+after-append (e ∷ a) b o = after-append a b (after e o)
+
+pick-none : (i : ℕ) (es : List Edge) → pick (λ s. false) i es ≡ []
+pick-none i [] = refl
+pick-none i (e ∷ es) = pick-none (suc i) es
+
+-- ---- the events before a part, in it, and behind it
+module _ (g : Timeline) (w c : Window) (h : Part w c) where
+  abbrev k : ℕ
+  k = c .0 - w .0
+
+  abbrev pub pre : List Event
+  pre = take k (take (w .1) (drop (w .0) (g .events)))
+
+  abbrev pub post : List Event
+  post = drop (c .1) (drop k (take (w .1) (drop (w .0) (g .events))))
+
+  pub middle : take (c .1) (drop k (take (w .1) (drop (w .0) (g .events)))) ≡ during g c
+  unfolding during
+  middle =
+      let a = h .after in
+      let b = h .before in
+      let e : w .1 ≡ k + (w .1 - k) = omega arith in
+      let f : w .0 + k ≡ c .0 = omega arith in
+      let i : c .1 ≤ w .1 - k = omega arith in
+      ap (λ (n : ℕ). take (c .1) (drop k (take n (drop (w .0) (g .events))))) e
+      ∙ ap (take (c .1)) (drop-take k (w .1 - k) (drop (w .0) (g .events)))
+      ∙ take-take (c .1) (w .1 - k) (drop k (drop (w .0) (g .events))) i
+      ∙ ap (take (c .1)) (drop-drop k (w .0) (g .events) ∙ ap (λ (n : ℕ). drop n (g .events)) f)
+
+  pub split : pre ++ (during g c ++ post) ≡ during g w
+  unfolding during
+  split =
+      ap (λ (l : List Event). pre ++ (l ++ post)) (sym middle)
+      ∙ ap (λ (l : List Event). pre ++ l) (take-append-drop (c .1) (drop k (take (w .1) (drop (w .0) (g .events)))))
+      ∙ take-append-drop k (take (w .1) (drop (w .0) (g .events)))
+
+  pub opened : afterAll pre (openBefore g (w .0)) ≡ openBefore g (c .0)
+  unfolding openBefore
+  opened =
+      let a = h .after in
+      let b = h .before in
+      let f : w .0 + k ≡ c .0 = omega arith in
+      let i : k ≤ w .1 = omega arith in
+      after-append (take (w .0) (g .events)) pre (λ s. false)
+      ∙ ap (λ (l : List Event). afterAll l (λ s. false))
+      (ap (λ (l : List Event). take (w .0) (g .events) ++ l) (take-take k (w .1) (drop (w .0) (g .events)) i) ∙ sym (take-add (w .0) k (g .events)) ∙ ap (λ (n : ℕ). take n (g .events)) f)
+
+  -- ---- the laws of a part
+  pub network-part : (U : NodeSet) → cut U (network g w ++ added g w c) ≡ cut U (network g c)
+  unfolding network added addedOf
+  network-part U =
+      subst₂ (λ (l : List Event) (o : SegmentSet). cut U (networkOf (g .segments) l (openBefore g (w .0)) ++ pick (λ s. o s && (named l s && not (named (during g c) s))) 0 (g .segments)) ≡ cut U (networkOf (g .segments) (during g c) o))
+      split opened (networkOf-part (g .segments) pre (during g c) post (openBefore g (w .0)) U)
+
+  pub added-active : endsIn (member (active g w)) (added g w c) ≡ true
+  unfolding active added addedOf
+  added-active =
+      subst₂ (λ (l : List Event) (o : SegmentSet). endsIn (member (activeOf (g .segments) l)) (pick (λ s. o s && (named l s && not (named (during g c) s))) 0 (g .segments)) ≡ true)
+      split opened (addedOf-within (g .segments) pre (during g c) post (openBefore g (w .0)))
+
+  pub active-part : (v : ℕ) → List·Memᴰ v (active g c) → List·Memᴰ v (active g w)
+  unfolding active
+  active-part v m =
+      subst (λ (l : List Event). List·Memᴰ v (activeOf (g .segments) l)) split (active-right (g .segments) pre (during g c ++ post) v (active-left (g .segments) (during g c) post v m))
+
+  -- the step: where a graph carries the window's network, a small graph of it with the added segments is one of the part's network
+  pub part-small : (n : ℕ) (H : List Edge) (ρ σ : ℕ → ℕ) → Carries (network g w) (active g w) n H ρ σ
+      → (n′ : ℕ) (H′ : List Edge) (ρ′ σ′ : ℕ → ℕ) → SmallGraph (H ++ image σ (added g w c)) (map σ (active g c)) n′ H′ ρ′ σ′
+      → SmallGraph (network g c) (active g c) n′ H′ (λ v. ρ (ρ′ v)) (λ a. σ′ (σ a))
+  part-small n H ρ σ k n′ H′ ρ′ σ′ s =
+      small-cuts-equal _ _ network-part (active g c) n′ H′ _ _
+      (compose (network g w) (active g w) n H ρ σ k (added g w c) added-active (active g c) active-part n′ H′ ρ′ σ′ s)
+
+-- nothing is open at the start: the whole list's network is empty
+pub network-start : (g : Timeline) (n : ℕ) → network g (0, n) ≡ []
+unfolding network networkOf openBefore
+network-start g n = pick-none 0 (g .segments)
+
+-- ---- down the windows
+pub made-small : {g : Timeline} {w : Window} {n : ℕ} {H : List Edge} {σ : ℕ → ℕ} → Made g w n H σ → (ρ : ℕ → ℕ) × SmallGraph (network g w) (active g w) n H ρ σ
+made-small {g} (top {n = n} {H = H} {σ = σ} ρ s) =
+    (ρ, subst (λ (E : List Edge). SmallGraph E (active g (0, size g)) n H ρ σ) (sym (network-start g (size g))) (definition-small [] (active g (0, size g)) n H ρ σ s))
+made-small {g} (down {w = w} {n = n} {H = H} {σ = σ} {c = c} {n′ = n′} {H′ = H′} {σ′ = σ′} m h ρ′ s) =
+    let (ρ, t) = made-small m in
+    (λ v. ρ (ρ′ v), part-small g w c h n H ρ σ (small-carries (network g w) (active g w) n H ρ σ t) n′ H′ ρ′ σ′ (definition-small _ _ n′ H′ ρ′ σ′ s))

@@ -1,0 +1,102 @@
+-- The cases that document 01 marks P, as one table: what the definitions of the calls give, and what document 01 says. proofs/Cases proves every row.
+-- A replay is seen by its whole outcome but for the work table, a contraction by its outcome but for the work table, the program by the bytes that it writes.
+-- Assumes nothing: these are definitions.
+use Prim.Native.Nat.{_%_, _*_, _/_, ℕ}
+use mathlib.Core.List.{List, [], _∷_}
+use mathlib.Core.Path.{_≡_}
+use lib.ListN.{length, replicate, take}
+use Rattle.theory_timeline.specs.Program.{output}
+use Rattle.theory_contraction.specs.Contraction as C
+use Rattle.theory_timeline.specs.Replay as R
+
+-- ---- what is seen
+-- code, place, queries, open, kept, the answer table
+abbrev pub Replayed : Type 0
+Replayed = ℕ × ℕ × ℕ × ℕ × ℕ × List ℕ
+
+-- code, place, nodes, edges, the map table, the edge tables
+abbrev pub Contracted : Type 0
+Contracted = ℕ × ℕ × ℕ × ℕ × List ℕ × List ℕ × List ℕ
+
+pub data Seen : Type 0 where
+  replayed : Replayed → Seen
+  contracted : Contracted → Seen
+  wrote : List ℕ → Seen
+
+-- tables of just the least lengths, the answer table filled with 9 and the work table with 7
+abbrev pub replayOf : ℕ → List ℕ → List ℕ → List ℕ → List ℕ → ℕ → Seen
+replayOf n a b x y p =
+    let l : R.Lent = record { n = n; m = length a; t = length x; a = a; b = b; x = x; y = y; answers = replicate (length x) 9; work = replicate (R.required (length x) n) 7 } in
+    let r : R.Outcome = R.replay l p in
+    replayed (r .code, r .place, r .queries, r .opened, r .kept, r .answers)
+
+-- edge tables and map filled with 9
+abbrev pub contractionOf : ℕ → List ℕ → List ℕ → List ℕ → Seen
+contractionOf n from to active =
+    let l : C.Lent = record {
+      n = n;
+      m = length from;
+      k = length active;
+      from = from;
+      to = to;
+      active = active;
+      map = replicate (length active) 9;
+      outFrom = replicate (2 * length active) 9;
+      outTo = replicate (2 * length active) 9;
+      work = replicate (C.required n (length from)) 7;
+    } in
+    let r : C.Outcome = C.contraction l in
+    contracted (r .code, r .place, r .nodes, r .edges, r .map, take (r .edges) (r .outFrom), take (r .edges) (r .outTo))
+
+-- numbers as the program reads them
+abbrev pub bytesOf : List ℕ → List ℕ
+bytesOf [] = []
+bytesOf (w ∷ ws) = (w % 256) ∷ (w / 256) ∷ bytesOf ws
+
+-- the example: a triangle of segments, opened one after the other, with two queries of 0 and 2
+abbrev pub example : ℕ → Seen
+example = replayOf 3 (0 ∷ 1 ∷ 2 ∷ []) (1 ∷ 2 ∷ 0 ∷ []) (65535 ∷ 65535 ∷ 0 ∷ 65535 ∷ 0 ∷ []) (0 ∷ 1 ∷ 2 ∷ 2 ∷ 2 ∷ [])
+
+-- ---- the table
+abbrev pub Case : Type 0
+Case = Seen × Seen
+
+abbrev pub table : List Case
+table =
+    -- the example with p = 8, and as the program prints it
+    (example 8, replayed (0, 0, 2, 3, 19, 3 ∷ 3 ∷ 1 ∷ 3 ∷ 2 ∷ []))
+    ∷ (
+      wrote (output (bytesOf (3 ∷ 3 ∷ 5 ∷ 8 ∷ 0 ∷ 1 ∷ 2 ∷ 1 ∷ 2 ∷ 0 ∷ 65535 ∷ 65535 ∷ 0 ∷ 65535 ∷ 0 ∷ 0 ∷ 1 ∷ 2 ∷ 2 ∷ 2 ∷ []))),
+      -- "2 1", "4 2", "asks 2 open 3 kept 19"
+      wrote (50 ∷ 32 ∷ 49 ∷ 10 ∷ 52 ∷ 32 ∷ 50 ∷ 10 ∷ 97 ∷ 115 ∷ 107 ∷ 115 ∷ 32 ∷ 50 ∷ 32 ∷ 111 ∷ 112 ∷ 101 ∷ 110 ∷ 32 ∷ 51 ∷ 32 ∷ 107 ∷ 101 ∷ 112 ∷ 116 ∷ 32 ∷ 49 ∷ 57 ∷ 10 ∷ []),
+    )
+    -- with p = 12 the answers are the same and kept is 20
+    ∷ (example 12, replayed (0, 0, 2, 3, 20, 3 ∷ 3 ∷ 1 ∷ 3 ∷ 2 ∷ []))
+    -- junction 1 with itself, nothing open: 2
+    ∷ (replayOf 2 [] [] (1 ∷ []) (1 ∷ []) 8, replayed (0, 0, 1, 0, 1, 2 ∷ []))
+    -- 0 and 1, nothing open: 0
+    ∷ (replayOf 2 [] [] (0 ∷ []) (1 ∷ []) 8, replayed (0, 0, 1, 0, 2, 0 ∷ []))
+    -- one segment 0-1 open: 1; two such: 2
+    ∷ (replayOf 2 (0 ∷ []) (1 ∷ []) (65535 ∷ 0 ∷ []) (0 ∷ 1 ∷ []) 8, replayed (0, 0, 1, 1, 6, 3 ∷ 1 ∷ []))
+    ∷ (replayOf 2 (0 ∷ 0 ∷ []) (1 ∷ 1 ∷ []) (65535 ∷ 65535 ∷ 0 ∷ []) (0 ∷ 1 ∷ 1 ∷ []) 8, replayed (0, 0, 1, 2, 9, 3 ∷ 3 ∷ 2 ∷ []))
+    -- segment 0-0 open, N = 2: query of 0 and 1 gives 0
+    ∷ (replayOf 2 (0 ∷ []) (0 ∷ []) (65535 ∷ 0 ∷ []) (0 ∷ 1 ∷ []) 8, replayed (0, 0, 1, 1, 5, 3 ∷ 0 ∷ []))
+    -- path 0-1-2 to 0, 2: two nodes, edge 0 1
+    ∷ (contractionOf 3 (0 ∷ 1 ∷ []) (1 ∷ 2 ∷ []) (0 ∷ 2 ∷ []), contracted (0, 0, 2, 1, 0 ∷ 1 ∷ [], 0 ∷ [], 1 ∷ []))
+    -- star with centre 3, active 0, 1, 2: four nodes, edges 0 3, 1 3, 2 3
+    ∷ (contractionOf 4 (0 ∷ 1 ∷ 2 ∷ []) (3 ∷ 3 ∷ 3 ∷ []) (0 ∷ 1 ∷ 2 ∷ []), contracted (0, 0, 4, 3, 0 ∷ 1 ∷ 2 ∷ [], 0 ∷ 1 ∷ 2 ∷ [], 3 ∷ 3 ∷ 3 ∷ []))
+    -- triangle, all active: one node, no edge
+    ∷ (contractionOf 3 (0 ∷ 1 ∷ 2 ∷ []) (1 ∷ 2 ∷ 0 ∷ []) (0 ∷ 1 ∷ 2 ∷ []), contracted (0, 0, 1, 0, 0 ∷ 0 ∷ 0 ∷ [], [], []))
+    -- no active entries: no nodes
+    ∷ (contractionOf 2 (0 ∷ []) (1 ∷ []) [], contracted (0, 0, 0, 0, [], [], []))
+    -- active 1, 1 of two nodes: one node, map 0 0
+    ∷ (contractionOf 2 [] [] (1 ∷ 1 ∷ []), contracted (0, 0, 1, 0, 0 ∷ 0 ∷ [], [], []))
+    -- p = 3 refused by 3, with the answer table as it was; p = 4 accepted
+    ∷ (example 3, replayed (3, 0, 0, 0, 0, 9 ∷ 9 ∷ 9 ∷ 9 ∷ 9 ∷ []))
+    ∷ (example 4, replayed (0, 0, 2, 3, 19, 3 ∷ 3 ∷ 1 ∷ 3 ∷ 2 ∷ []))
+    ∷ []
+
+-- every row holds: what is computed is what document 01 says
+abbrev pub AllHold : List Case → Type 0
+AllHold [] = Unit {0}
+AllHold (r ∷ rs) = (r .0 ≡ r .1) × AllHold rs

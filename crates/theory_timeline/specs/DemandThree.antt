@@ -1,0 +1,74 @@
+-- Demand 3: one statement about two replays, with its parts (a) to (e). Its proof is proofs/DemandThree.
+-- It cites, of Replay: Lent, given, Outcome, replay; of Call: outcome; of Windows: windows, network, active, small, stands; of the crate theory_graph: answer, the answer of two nodes,
+-- image, the edges of a list with their ends moved, different, the number of different entries, and mostNodes, the bound 2k - 2 (k where k is below 2).
+-- Assumes nothing: these are definitions.
+use Prim.Native.Nat.{_≤_, ℕ}
+use mathlib.Core.List.{List, List·Memᴰ, _++_, map}
+use mathlib.Core.Logic.{_↔_}
+use mathlib.Core.Path.{_≡_}
+use lib.ListN.{take}
+use Rattle.theory_graph.specs.Graph.{Edge, answer}
+use Rattle.theory_graph.specs.Lists.{sum}
+use Rattle.theory_graph.specs.SmallGraph.{different, image, mostNodes}
+use Rattle.theory_timeline.specs.Call.{outcome}
+use Rattle.theory_timeline.specs.Replay.{Lent, Outcome, given, replay}
+use Rattle.theory_timeline.specs.Windows.{Timeline, Window, active, kept, network, small, stands, windows}
+use Rattle.theory_timeline.specs.declared.ReplayReply.{ReplayReply}
+
+-- ---- the words of the statement
+-- "The share p is 4 to 12"
+abbrev pub Allowed : ℕ → Type 0
+Allowed p = (4 ≤ p) × (p ≤ 12)
+
+-- each edge of F joins two junctions of S
+abbrev pub Among : List ℕ → List Edge → Type 0
+Among S F = (e : Edge) → List·Memᴰ e F → List·Memᴰ (e .0) S × List·Memᴰ (e .1) S
+
+-- (a), (b): a window's small graph answers as its network does, whatever is added between its active junctions, and it is small
+pub record Faithful (g : Timeline) (w : Window) : Type 0 where
+  pub answers : (F : List Edge) → Among (active g w) F → (x y : ℕ) → List·Memᴰ x (active g w) → List·Memᴰ y (active g w)
+      → answer (network g w ++ F) x y ≡ answer ((small g w) .edges ++ image (stands g w) F) (stands g w x) (stands g w y)
+  pub nodes : (small g w) .nodes ≤ mostNodes (different (active g w))
+
+-- lent alike but for ignored entries, the answer table and the work table (that M is the same follows where both are accepted)
+pub record Alike (l k : Lent) : Type 0 where
+  pub n : l .n ≡ k .n
+  pub t : l .t ≡ k .t
+  pub a : take (l .m) (l .a) ≡ take (k .m) (k .a)
+  pub b : take (l .m) (l .b) ≡ take (k .m) (k .b)
+  pub x : take (l .t) (l .x) ≡ take (k .t) (k .x)
+  pub y : take (l .t) (l .y) ≡ take (k .t) (k .y)
+
+-- ---- the statement: r is the outcome of lending l with the share p, s that of lending k with the share q; code 0 is acceptance
+pub record Demand3 (l k : Lent) (p q : ℕ) (r s : Outcome) : Type 0 where
+  -- (a), (b)
+  pub faithful : r .code ≡ 0 → (w : Window) → List·Memᴰ w (windows p (l .t)) → Faithful (given l) w
+  -- (c)
+  pub kept : r .code ≡ 0 → r .kept ≡ sum (map (λ w. (small (given l) w) .nodes) (windows p (l .t)))
+  -- (d)
+  pub alike : r .code ≡ 0 → s .code ≡ 0 → Alike l k → (take (l .t) (r .answers) ≡ take (l .t) (s .answers)) × (r .queries ≡ s .queries) × (r .opened ≡ s .opened)
+  -- (e)
+  pub tables : l ≡ k → (r .code ≡ 0 ↔ s .code ≡ 0) × (r .code ≡ 0 → (r .answers ≡ s .answers) × (r .work ≡ s .work))
+
+abbrev pub Demand-3 : Type 0
+Demand-3 = (l k : Lent) (p q : ℕ) → Allowed p → Allowed q → (r s : Outcome) → r ≡ replay l p → s ≡ replay k q → Demand3 l k p q r s
+
+-- ---- the same of calls that were made
+-- a call of the public `replay` (crate call_replay): its share, what it was lent, its reply, and the two tables that it may write as they were afterwards
+pub record Call : Type 0 where
+  pub share : ℕ
+  pub lends : Lent
+  pub reply : ReplayReply
+  pub answers : List ℕ
+  pub work : List ℕ
+
+-- the call's outcome, and what its own `ensures` says of it
+abbrev pub outcomeOf : Call → Outcome
+outcomeOf c = outcome (c .reply) (c .answers) (c .work)
+
+abbrev pub Promised : Call → Type 0
+Promised c = outcomeOf c ≡ replay (c .lends) (c .share)
+
+abbrev pub Demand-3-of-calls : Type 0
+Demand-3-of-calls = (c d : Call) → Allowed (c .share) → Allowed (d .share) → Promised c → Promised d
+    → Demand3 (c .lends) (d .lends) (c .share) (d .share) (outcomeOf c) (outcomeOf d)

@@ -1,0 +1,118 @@
+-- Document 01, "The program": the bytes that `replay` writes for the bytes that it reads.
+-- Assumes nothing: these are definitions.
+use Prim.Native.Nat.{_%_, _*_, _+_, _/_, suc, zero, ℕ}
+use mathlib.Core.Bool.{false, not, true}
+use mathlib.Core.List.{List, [], _++_, _∷_}
+use lib.Dec.{eqb, ltb}
+use lib.ListN.{drop, getD, length, replicate, take}
+use Rattle.call_sizes.specs.Refusal.{Refusal, Row, firstFault, row}
+use Rattle.theory_timeline.specs.Events.{Event, asks}
+use Rattle.theory_timeline.specs.Replay.{Lent, Outcome, given, replay}
+use Rattle.theory_timeline.specs.Windows.{event}
+
+-- ---- the input
+-- bytes as 16-bit little-endian numbers
+abbrev pub words16 : List ℕ → List ℕ
+words16 [] = []
+words16 (a ∷ []) = []
+words16 (a ∷ b ∷ bs) = (a + 256 * b) ∷ words16 bs
+
+-- the sizes and the share, at the front
+abbrev pub junctionsOf : List ℕ → ℕ
+junctionsOf ws = getD ws 0 0
+
+abbrev pub segmentsOf : List ℕ → ℕ
+segmentsOf ws = getD ws 1 0
+
+abbrev pub eventsOf : List ℕ → ℕ
+eventsOf ws = getD ws 2 0
+
+abbrev pub shareOf : List ℕ → ℕ
+shareOf ws = getD ws 3 0
+
+-- the numbers that an input with these sizes has: N, M, T, p, then A, B, X, Y
+abbrev pub inputLength : ℕ → ℕ → ℕ
+inputLength m t = 4 + 2 * m + 2 * t
+
+-- fewer than 8 bytes give 9; then 10 for a size above the program's limits; then 9 for any other length
+unfoldable pub inputFaults : List ℕ → List Row
+inputFaults bytes =
+    let ws : List ℕ = words16 bytes in
+    row (ltb (length bytes) 8) 9 0
+    ∷ row (ltb 192 (junctionsOf ws)) 10 0
+    ∷ row (ltb 64 (segmentsOf ws)) 10 0
+    ∷ row (ltb 32 (eventsOf ws)) 10 0
+    ∷ row (not (eqb (length bytes) (2 * inputLength (segmentsOf ws) (eventsOf ws)))) 9 0
+    ∷ []
+
+unfoldable pub inputFault : List ℕ → Refusal
+inputFault bytes = firstFault (inputFaults bytes)
+
+-- what the program lends to the replay: the tables of its input, an answer table, and its work table
+unfoldable pub inputLent : List ℕ → List ℕ → Lent
+inputLent work bytes =
+    let ws : List ℕ = words16 bytes in
+    let m : ℕ = segmentsOf ws in
+    let t : ℕ = eventsOf ws in
+    record {
+      n = junctionsOf ws;
+      m = m;
+      t = t;
+      a = take m (drop 4 ws);
+      b = take m (drop (4 + m) ws);
+      x = take t (drop (4 + 2 * m) ws);
+      y = take t (drop (4 + 2 * m + t) ws);
+      answers = replicate 32 0;
+      work = work;
+    }
+
+-- ---- the output
+-- a number in base ten, as ASCII digits, in front of what follows; at most k digits
+unfoldable pub spell : ℕ → ℕ → List ℕ → List ℕ
+spell zero n rest = rest
+spell (suc k) n rest = elim (ltb n 10) [ true ↦ (48 + n) ∷ rest | false ↦ spell k (n / 10) ((48 + n % 10) ∷ rest) ]
+
+unfoldable pub decimal : ℕ → List ℕ
+decimal n = spell 20 n []
+
+-- "i answer"
+unfoldable pub queryLine : ℕ → ℕ → List ℕ
+queryLine i answer = decimal i ++ (32 ∷ (decimal answer ++ (10 ∷ [])))
+
+-- one line for each query of the first n events from i on: the event's place and its answer
+unfoldable pub queryLines : (ℕ → Event) → (ℕ → ℕ) → ℕ → ℕ → List ℕ
+queryLines event answers i zero = []
+queryLines event answers i (suc n) =
+    let rest : List ℕ = queryLines event answers (suc i) n in
+    elim (asks (event i)) [ true ↦ queryLine i (answers i) ++ rest | false ↦ rest ]
+
+-- "asks q open o kept k"
+unfoldable pub totalsLine : ℕ → ℕ → ℕ → List ℕ
+totalsLine q o k =
+    97 ∷ 115 ∷ 107 ∷ 115 ∷ 32 ∷ (decimal q
+    ++ (32 ∷ 111 ∷ 112 ∷ 101 ∷ 110 ∷ 32 ∷ (decimal o
+    ++ (32 ∷ 107 ∷ 101 ∷ 112 ∷ 116 ∷ 32 ∷ (decimal k ++ (10 ∷ []))))))
+
+-- "refused c at i"
+unfoldable pub refusedLine : ℕ → ℕ → List ℕ
+refusedLine c i = 114 ∷ 101 ∷ 102 ∷ 117 ∷ 115 ∷ 101 ∷ 100 ∷ 32 ∷ (decimal c ++ (32 ∷ 97 ∷ 116 ∷ 32 ∷ (decimal i ++ (10 ∷ []))))
+
+-- what is printed of a replay
+unfoldable pub printed : Lent → Outcome → List ℕ
+printed l r =
+    elim (r .accepted) [
+      | true ↦ queryLines (event (given l)) (λ i. getD (r .answers) i 0) 0 (l .t) ++ totalsLine (r .queries) (r .opened) (r .kept)
+      | false ↦ refusedLine (r .code) (r .place)
+    ]
+
+-- the bytes written for the bytes read, with a given work table
+unfoldable pub outputWith : List ℕ → List ℕ → List ℕ
+outputWith work bytes =
+    elim (eqb (inputFault bytes .0) 0) [
+      | true ↦ printed (inputLent work bytes) (replay (inputLent work bytes) (shareOf (words16 bytes)))
+      | false ↦ refusedLine (inputFault bytes .0) (inputFault bytes .1)
+    ]
+
+-- "It lends a work table of 16,384 numbers"
+unfoldable pub output : List ℕ → List ℕ
+output = outputWith (replicate 16384 0)

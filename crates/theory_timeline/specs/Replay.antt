@@ -1,0 +1,128 @@
+-- The replay as a public call: what it is lent, its faults in their order, the answer bytes and the three numbers, and what each lent table holds afterwards.
+-- Assumes nothing: these are definitions.
+use Prim.Native.Nat.{_*_, _+_, ℕ}
+use mathlib.Core.Bool.{Bool, cond, false, not, true}
+use mathlib.Core.List.{List, [], _++_, _∷_, map}
+use lib.Dec.{eqb, ltb}
+use lib.ListN.{length, replicate, take}
+use Rattle.theory_graph.specs.Graph.{answer}
+use Rattle.theory_graph.specs.Lists.{filter, over, pairs, range}
+use Rattle.call_sizes.specs.Refusal.{Refusal, Row, firstFault, row, seek, badEnds}
+use Rattle.call_sizes.specs.Sizes.{sizeFaults}
+use Rattle.theory_timeline.specs.Events.{Event, SegmentSet, asks, kindOf}
+use Rattle.theory_timeline.specs.Windows.{Timeline, edgesOf, event, kept, openBefore, size}
+use Rattle.theory_timeline.specs.declared.Kind.the-variants.{Closes, Nothing, Opens, Query}
+
+-- ---- what a replay finds
+-- the answer byte of event i: 3 where it opens or closes, else the answer over the segments open before it
+unfoldable pub byte : Timeline → ℕ → ℕ
+byte g i = cond (asks (event g i)) (answer (edgesOf g (openBefore g i)) (event g i .0) (event g i .1)) 3
+
+unfoldable pub bytes : Timeline → List ℕ
+bytes g = map (byte g) (range 0 (size g))
+
+-- the queries, and the segments open at the end
+unfoldable pub queries : Timeline → ℕ
+queries g = length (filter (λ i. asks (event g i)) (range 0 (size g)))
+
+unfoldable pub openAtEnd : Timeline → ℕ
+openAtEnd g = length (filter (openBefore g (size g)) (range 0 (length (g .segments))))
+
+-- ---- what is lent
+pub record Lent : Type 0 where
+  pub n : ℕ
+  pub m : ℕ
+  pub t : ℕ
+  pub a : List ℕ
+  pub b : List ℕ
+  pub x : List ℕ
+  pub y : List ℕ
+  pub answers : List ℕ
+  pub work : List ℕ
+
+-- the network and the list that count: entries past the sizes are ignored
+unfoldable pub given : Lent → Timeline
+given l = record {
+  junctions = l .n;
+  segments = pairs (take (l .m) (l .a)) (take (l .m) (l .b));
+  events = pairs (take (l .t) (l .x)) (take (l .t) (l .y));
+}
+
+-- the required length of the work table
+abbrev pub required : ℕ → ℕ → ℕ
+required t n = 256 * t + 32 * n + 2048
+
+-- ---- faults
+-- the fault of an event, where the segments of o are open before it and there are n junctions and m segments: 0, 5, 6 or 7
+unfoldable pub eventFault : ℕ → ℕ → SegmentSet → Event → ℕ
+eventFault n m o e = elim (kindOf n (e .0)) [
+  | Query ↦ cond (ltb (e .1) n) 0 5
+  | Opens ↦ cond (ltb (e .1) m) (cond (o (e .1)) 6 0) 5
+  | Closes ↦ cond (ltb (e .1) m) (cond (o (e .1)) 0 7) 5
+  | Nothing ↦ 5
+]
+
+-- the fault of event i
+unfoldable pub faultAt : Lent → ℕ → ℕ
+faultAt l i = eventFault (l .n) (l .m) (openBefore (given l) i) (event (given l) i)
+
+-- refusal 2: a table is shorter than its least length
+abbrev pub shortTables : Lent → List Row
+shortTables l =
+    row (ltb (length (l .a)) (l .m)) 2 0
+    ∷ row (ltb (length (l .b)) (l .m)) 2 0
+    ∷ row (ltb (length (l .x)) (l .t)) 2 0
+    ∷ row (ltb (length (l .y)) (l .t)) 2 0
+    ∷ row (ltb (length (l .answers)) (l .t)) 2 0
+    ∷ row (ltb (length (l .work)) (required (l .t) (l .n))) 2 0
+    ∷ []
+
+-- refusal 3: the share is below 4 or above 12
+abbrev pub shareFaults : ℕ → List Row
+shareFaults p = row (ltb p 4) 3 0 ∷ row (ltb 12 p) 3 0 ∷ []
+
+-- 1, 2, 3, then 4 at the first segment with an end not below N, then the first event that shows 5, 6 or 7
+unfoldable pub listFaults : Lent → List Row
+listFaults l =
+    let s : ℕ = seek (badEnds (l .n) (l .a) (l .b)) 0 (l .m) in
+    let i : ℕ = seek (λ i. not (eqb (faultAt l i) 0)) 0 (l .t) in
+    row (ltb s (l .m)) 4 s ∷ row (ltb i (l .t)) (faultAt l i) i ∷ []
+
+unfoldable pub faults : Lent → ℕ → List Row
+faults l p = sizeFaults (l .n) (l .m) (l .t) 0 ++ shortTables l ++ shareFaults p ++ listFaults l
+
+unfoldable pub fault : Lent → ℕ → Refusal
+fault l p = firstFault (faults l p)
+
+-- ---- what is returned, and what the tables hold afterwards
+pub record Outcome : Type 0 where
+  -- whether the reply is the one of an accepted call: with the numbers alone, a refusal with the number 0 could pass for an empty result
+  pub accepted : Bool
+  -- 0, or the refusal's number; and its place
+  pub code : ℕ
+  pub place : ℕ
+  pub queries : ℕ
+  pub opened : ℕ
+  pub kept : ℕ
+  -- the tables that may be written; the others are only read
+  pub answers : List ℕ
+  pub work : List ℕ
+
+unfoldable pub done : Lent → ℕ → Outcome
+done l p = record {
+  accepted = true;
+  code = 0;
+  place = 0;
+  queries = queries (given l);
+  opened = openAtEnd (given l);
+  kept = kept (given l) p;
+  answers = over (bytes (given l)) (l .answers);
+  work = over (replicate (required (l .t) (l .n)) 0) (l .work);
+}
+
+unfoldable pub refused : Lent → Refusal → Outcome
+refused l f = record { accepted = false; code = f .0; place = f .1; queries = 0; opened = 0; kept = 0; answers = l .answers; work = l .work }
+
+-- the outcome that a call with these sizes, tables and share must have
+unfoldable pub replay : Lent → ℕ → Outcome
+replay l p = elim (eqb (fault l p .0) 0) [ true ↦ done l p | false ↦ refused l (fault l p) ]

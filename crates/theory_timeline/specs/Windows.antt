@@ -1,0 +1,80 @@
+-- Document 01, "Windows": the windows of a share, each window's network, active junctions and small graph, and kept.
+-- Assumes nothing: these are definitions.
+use Prim.Native.Nat.{_*_, _+_, _-_, _/_, max, suc, zero, ℕ}
+use mathlib.Core.Bool.{false, true}
+use mathlib.Core.List.{List, [], _++_, _∷_, map}
+use lib.Dec.{ltb}
+use lib.ListN.{drop, getD, length, take}
+use Rattle.theory_graph.specs.Contraction.{Contracted, contract, number}
+use Rattle.theory_graph.specs.Graph.{Edge}
+use Rattle.theory_graph.specs.Lists.{sum}
+use Rattle.theory_timeline.specs.Events.{Event, SegmentSet, activeOf, afterAll, networkOf, pick}
+
+-- a network and its list of events
+pub record Timeline : Type 0 where
+  pub junctions : ℕ
+  pub segments : List Edge
+  pub events : List Event
+
+abbrev pub size : Timeline → ℕ
+size g = length (g .events)
+
+abbrev pub event : Timeline → ℕ → Event
+event g i = getD (g .events) i (0, 0)
+
+-- "Every segment is closed at the start"
+abbrev pub atStart : SegmentSet
+atStart s = false
+
+-- the segments open before event i
+unfoldable pub openBefore : Timeline → ℕ → SegmentSet
+openBefore g i = afterAll (take i (g .events)) atStart
+
+-- the edges of a set of segments: of those open at a query for its reply, and of a window's network
+abbrev pub edgesOf : Timeline → SegmentSet → List Edge
+edgesOf g o = pick o 0 (g .segments)
+
+-- ---- windows
+-- a window is its first event and its number of events
+abbrev pub Window : Type 0
+Window = ℕ × ℕ
+
+-- the events of the first part of a window of n events, with the share p
+abbrev pub firstPart : ℕ → ℕ → ℕ
+firstPart p n = max 1 (n * p / 16)
+
+-- a window with all those that it is cut into, of at most k events
+unfoldable pub windowsFrom : ℕ → ℕ → ℕ → ℕ → List Window
+windowsFrom p zero at n = []
+windowsFrom p (suc k) at n =
+    elim (ltb n 2) [
+      | true ↦ (at, n) ∷ []
+      | false ↦ (at, n) ∷ windowsFrom p k at (firstPart p n) ++ windowsFrom p k (at + firstPart p n) (n - firstPart p n)
+    ]
+
+-- all windows of a list of t events
+unfoldable pub windows : ℕ → ℕ → List Window
+windows p t = windowsFrom p t 0 t
+
+-- ---- what a window has
+-- its events
+unfoldable pub during : Timeline → Window → List Event
+during g w = take (w .1) (drop (w .0) (g .events))
+
+-- its network, and its active junctions
+unfoldable pub network : Timeline → Window → List Edge
+network g w = networkOf (g .segments) (during g w) (openBefore g (w .0))
+
+unfoldable pub active : Timeline → Window → List ℕ
+active g w = activeOf (g .segments) (during g w)
+
+-- its small graph, and the node at which a junction stands in it
+unfoldable pub small : Timeline → Window → Contracted
+small g w = contract (g .junctions) (network g w) (active g w)
+
+unfoldable pub stands : Timeline → Window → ℕ → ℕ
+stands g w = number (g .junctions) (network g w) (active g w)
+
+-- kept: the sum of small-graph nodes over all windows
+unfoldable pub kept : Timeline → ℕ → ℕ
+kept g p = sum (map (λ w. (small g w) .nodes) (windows p (size g)))
