@@ -76,18 +76,18 @@ pairs-snoc [] (v ∷ b) x y e = absurd (omega arith)
 pairs-snoc (u ∷ a) [] x y e = absurd (omega arith)
 pairs-snoc (u ∷ a) (v ∷ b) x y e = ap (λ l. (u, v) ∷ l) (pairs-snoc a b x y (omega arith))
 
-pub copied-more : (U : NodeSet) (e j : ℕ) (v : List ℕ) → 10 * e ≤ length v → j < 4 * e
-    → cut U (areaEdges e (j + 1) v) ≡ cut U (areaEdges e j v) + crosses (U (getD v (2 * e + j) 0)) (U (getD v (6 * e + j) 0))
+pub copied-more : (U : NodeSet) (e j : ℕ) (v : List ℕ) → 13 * e ≤ length v → j < 4 * e
+    → cut U (areaEdges e (j + 1) v) ≡ cut U (areaEdges e j v) + crosses (U (getD v (5 * e + j) 0)) (U (getD v (9 * e + j) 0))
 copied-more U e j v h l =
-    let la : j < length (drop (2 * e) v) = rw length-drop (omega arith) in
-    let lb : j < length (drop (6 * e) v) = rw length-drop (omega arith) in
+    let la : j < length (drop (5 * e) v) = rw length-drop (omega arith) in
+    let lb : j < length (drop (9 * e) v) = rw length-drop (omega arith) in
     ap (λ k. cut U (areaEdges e k v)) (add-one j)
-    ∙ ap₂ (λ x y. cut U (pairs x y)) (take-suc (drop (2 * e) v) j 0 la) (take-suc (drop (6 * e) v) j 0 lb)
-    ∙ ap (cut U) (pairs-snoc (take j (drop (2 * e) v)) (take j (drop (6 * e) v)) (getD (drop (2 * e) v) j 0) (getD (drop (6 * e) v) j 0) (length-take-le j (drop (2 * e) v) (omega arith) ∙ sym (length-take-le j (drop (6 * e) v) (omega arith))))
-    ∙ cut-append U (areaEdges e j v) ((getD (drop (2 * e) v) j 0, getD (drop (6 * e) v) j 0) ∷ [])
-    ∙ ap (λ k. cut U (areaEdges e j v) + k) (tail ∙ ap₂ (λ x y. crosses (U x) (U y)) (getD-drop (2 * e) v j 0) (getD-drop (6 * e) v j 0))
+    ∙ ap₂ (λ x y. cut U (pairs x y)) (take-suc (drop (5 * e) v) j 0 la) (take-suc (drop (9 * e) v) j 0 lb)
+    ∙ ap (cut U) (pairs-snoc (take j (drop (5 * e) v)) (take j (drop (9 * e) v)) (getD (drop (5 * e) v) j 0) (getD (drop (9 * e) v) j 0) (length-take-le j (drop (5 * e) v) (omega arith) ∙ sym (length-take-le j (drop (9 * e) v) (omega arith))))
+    ∙ cut-append U (areaEdges e j v) ((getD (drop (5 * e) v) j 0, getD (drop (9 * e) v) j 0) ∷ [])
+    ∙ ap (λ k. cut U (areaEdges e j v) + k) (tail ∙ ap₂ (λ x y. crosses (U x) (U y)) (getD-drop (5 * e) v j 0) (getD-drop (9 * e) v j 0))
   where
-    tail : crosses (U (getD (drop (2 * e) v) j 0)) (U (getD (drop (6 * e) v) j 0)) + 0 ≡ crosses (U (getD (drop (2 * e) v) j 0)) (U (getD (drop (6 * e) v) j 0))
+    tail : crosses (U (getD (drop (5 * e) v) j 0)) (U (getD (drop (9 * e) v) j 0)) + 0 ≡ crosses (U (getD (drop (5 * e) v) j 0)) (U (getD (drop (9 * e) v) j 0))
     tail = omega arith
 
 -- ---- the loop that copies: j edges so far
@@ -95,24 +95,24 @@ pub record Copying (e m s n : ℕ) (w z : List ℕ) (j : ℕ) : Type 0 where
   pub low : j ≤ m
   pub long : length z ≡ length w
   pub edged : Edged s n j w z
-  pub same : (U : NodeSet) → cut U (edgesIn n j (drop s z)) ≡ cut U (areaEdges e j (take (10 * e) w))
+  pub same : (U : NodeSet) → cut U (edgesIn n j (drop s z)) ≡ cut U (areaEdges e j (take (13 * e) w))
 
 pub copying-none : (e m s n : ℕ) (w : List ℕ) → Copying e m s n w w 0
 copying-none e m s n w = record { low = omega arith; long = refl; edged = record { front = refl; nodes = λ i t v u. refl; ends = λ h u. absurd (omega arith) }; same = λ U. refl }
 
 module _ {e m s n j : ℕ} {w z : List ℕ} (q : EdgesReady e m s n w) (k : Copying e m s n w z j) (l : j < m) where
-  reads : (i : ℕ) → i < 10 * e → getD z i 0 ≡ getD w i 0
+  reads : (i : ℕ) → i < 13 * e → getD z i 0 ≡ getD w i 0
   reads i u = front-get s i w z (k .edged .front) (omega (arith, q .front))
 
-  pub copying-ends : (getD z (2 * e + j) 0 < n) × (getD z (6 * e + j) 0 < n)
+  pub copying-ends : (getD z (5 * e + j) 0 < n) × (getD z (9 * e + j) 0 < n)
   copying-ends =
       let r = q .nodes j l in
-      (omega (arith, r .0, reads (2 * e + j) (omega (arith, q .few))), omega (arith, r .1, reads (6 * e + j) (omega (arith, q .few))))
+      (omega (arith, r .0, reads (5 * e + j) (omega (arith, q .few))), omega (arith, r .1, reads (9 * e + j) (omega (arith, q .few))))
 
-  pub copying-need : (16 * n + 4 * j + 4 ≤ length (take (length z - s) (drop s z))) × (getD z (2 * e + j) 0 < 65536) × (getD z (6 * e + j) 0 < 65536) × (n ≤ 65536) × (j < 32768)
+  pub copying-need : (16 * n + 4 * j + 4 ≤ length (take (length z - s) (drop s z))) × (getD z (5 * e + j) 0 < 65536) × (getD z (9 * e + j) 0 < 65536) × (n ≤ 65536) × (j < 32768)
   copying-need = (rw (length-take, length-drop) (omega (arith, q .room, k .long)), omega (arith, copying-ends .0, q .many), omega (arith, copying-ends .1, q .many), q .many, omega (arith, q .few, q .much))
 
-  pub copying-more : (zs : List ℕ) → PutEdge n j (getD z (2 * e + j) 0) (getD z (6 * e + j) 0) (take (length z - s) (drop s z)) zs → Copying e m s n w (putMid s (length z - s) z zs) (j + 1)
+  pub copying-more : (zs : List ℕ) → PutEdge n j (getD z (5 * e + j) 0) (getD z (9 * e + j) 0) (take (length z - s) (drop s z)) zs → Copying e m s n w (putMid s (length z - s) z zs) (j + 1)
   copying-more zs p =
       let f : s ≤ length z = omega (arith, q .room, k .long) in
       record {
@@ -120,10 +120,10 @@ module _ {e m s n j : ℕ} {w z : List ℕ} (q : EdgesReady e m s n w) (k : Copy
         long = same-len-mid s (length z - s) z zs (p .same) ∙ k .long;
         edged = edged-more (k .edged) p f (copying-ends .0) (copying-ends .1);
         same = λ U.
-            let v = take (10 * e) w in
+            let v = take (13 * e) w in
             let c = copied-more U e j v (rw length-take (omega (arith, q .front, q .room))) (omega (arith, q .few)) in
-            let r1 : getD z (2 * e + j) 0 ≡ getD v (2 * e + j) 0 = reads (2 * e + j) (omega (arith, q .few)) ∙ sym (getD-take (10 * e) w (2 * e + j) 0 (omega (arith, q .few))) in
-            let r2 : getD z (6 * e + j) 0 ≡ getD v (6 * e + j) 0 = reads (6 * e + j) (omega (arith, q .few)) ∙ sym (getD-take (10 * e) w (6 * e + j) 0 (omega (arith, q .few))) in
+            let r1 : getD z (5 * e + j) 0 ≡ getD v (5 * e + j) 0 = reads (5 * e + j) (omega (arith, q .few)) ∙ sym (getD-take (13 * e) w (5 * e + j) 0 (omega (arith, q .few))) in
+            let r2 : getD z (9 * e + j) 0 ≡ getD v (9 * e + j) 0 = reads (9 * e + j) (omega (arith, q .few)) ∙ sym (getD-take (13 * e) w (9 * e + j) 0 (omega (arith, q .few))) in
             omega (arith, edges-more (k .edged) p f U, k .same U, c, ap₂ (λ x y. crosses (U x) (U y)) r1 r2);
       }
 

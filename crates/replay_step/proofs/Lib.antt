@@ -1,5 +1,6 @@
 pub mod WordLaws
 pub mod EdgeLaws
 pub mod EnterLaws
-pub mod AddingLaws
+pub mod BesideLaws
+pub mod AreaLaws
 pub mod StepLaws

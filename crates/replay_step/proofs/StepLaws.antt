@@ -1,45 +1,48 @@
--- The step: from the contraction of a window's graph with the added segments to the small graph of the part, and what the pieces of a step leave in the words.
--- In order: the words of a part; the small graph; what each piece needs; all pieces together.
+-- The step: what its pieces need, what is loaded for a part, and the small graph of the part; then the same for the whole list.
+-- In order: the words of a part; what each piece needs; what is loaded; the step; the whole list.
 -- Assumes nothing.
 use Prim.Native.Nat.{_*_, _+_, _-_, _<_, _≤_, suc, zero, ℕ}
-use mathlib.Core.Bool.{Bool, _||_}
-use mathlib.Core.List.{List, List·Memᴰ, [], _++_, _∷_, map}
+use mathlib.Core.List.{List, [], _++_, _∷_, map}
 use mathlib.Core.Path.{_∙_, _≡_, ap, ap₂, refl, subst, sym}
 use lib.Dec.{eqb, ltb}
-use lib.ListN.{drop, getD, length, length-drop, length-map, length-take, take}
-use lib.Seq.{drop-drop, getD-drop, getD-take, length-sets, length-take-le, sets, take-take}
+use lib.ListN.{drop, getD, length, length-drop, length-take, take}
+use lib.Seq.{getD-drop, getD-take, length-take-le, take-take}
 use native.Mathlib.Omega.{arith}
 use borrow.Author.Tests.{ltb-true}
-use borrow.Rule.Slice.PartMut.{putMid, same-len-mid, take-put}
-use Rattle.core_reduce.specs.Core.{Loaded, Reduced, activeIn, edgesIn, edgesOut}
-use Rattle.core_reduce.specs.declared.Counts.{Counts}
+use Rattle.core_loading.proofs.LoadingLaws.{entered-most}
+use Rattle.core_loading.specs.Loading.{Entered}
+use Rattle.core_reduce.specs.Core.{edgesIn}
+use Rattle.core_words.specs.Fields.{half, node}
 use Rattle.theory_graph.proofs.CutEquivalence.{small-cuts-equal}
-use Rattle.theory_graph.proofs.Cuts.{cut-append}
-use Rattle.theory_graph.proofs.EdgeCount.{firsts-most, mostNodes-double, small-edges-most}
+use Rattle.theory_graph.proofs.Cuts.{cut-append, cut-image}
 use Rattle.theory_graph.proofs.Ends.{endsIn-at}
-use Rattle.theory_graph.proofs.Lists.{map-twice, table-length, table-mem}
-use Rattle.theory_graph.proofs.ActiveLists.{in-firsts, small-repeats}
-use Rattle.theory_graph.proofs.SmallGraphDefinition.{definition-small, small-definition}
+use Rattle.theory_graph.proofs.Lists.{map-twice}
+use Rattle.theory_graph.proofs.Renumbering.{renumbered}
+use Rattle.theory_graph.proofs.SmallGraphDefinition.{definition-small}
 use Rattle.theory_graph.proofs.SmallGraphs.{SmallGraph}
+use Rattle.theory_graph.proofs.TableLaws.{pairs-at, pairs-length, table-equal}
 use Rattle.theory_graph.proofs.Uniqueness.{small-bound}
 use Rattle.theory_graph.specs.Cut.{cut}
 use Rattle.theory_graph.specs.Graph.{Edge, NodeSet}
-use Rattle.theory_graph.specs.Lists.{firsts, pairs, table}
+use Rattle.theory_graph.specs.Lists.{pairs, table}
 use Rattle.theory_graph.specs.SmallGraph.{image}
-use Rattle.call_open_set.specs.OpenSet.{isOpen}
-use Rattle.theory_timeline.proofs.Acceptance.{Fine, fault-fine}
-use Rattle.replay_step.proofs.AddingLaws.{adds-cut}
-use Rattle.theory_timeline.proofs.Networks.{middle, part-small}
-use Rattle.replay_step.proofs.WordLaws.{drop-back, drop-sets, front-get, low-map, map-ext, mid-before, mid-less, mid-sets, mid-take, take-less, take-sets, take-whole}
-use Rattle.theory_graph.proofs.TableLaws.{pairs-at, pairs-length, table-equal}
-use Rattle.core_loading.proofs.LoadingLaws.{entered-most}
-use Rattle.replay_step.specs.Area.{Area, SmallArea, Sound, StepReady, Stepped, areaEdges}
-use Rattle.theory_timeline.specs.Events.{Event, activeOf, afterAll, closes, ends, named, opens}
-use Rattle.replay_step.specs.Load.{ActiveReady, Actives, AddReady, Added, Copied, EdgesReady, adds}
-use Rattle.replay_segments.specs.Sets.{NamesSegments}
-use Rattle.theory_timeline.specs.Steps.{Part, added}
-use Rattle.theory_timeline.specs.Windows.{Timeline, active, atStart, during, event, openBefore, size}
-use Rattle.core_words.specs.Fields.{half, node}
+use Rattle.theory_timeline.proofs.Acceptance.{sound-good, sound-segment}
+use Rattle.theory_timeline.proofs.DemandThree.{small-is}
+use Rattle.theory_timeline.proofs.Networks.{middle, network-start, part-small}
+use Rattle.theory_timeline.proofs.TagLaws.{events-added, pick-image, pick-shift, words-at, words-part}
+use Rattle.theory_timeline.specs.Events.{Event, activeOf, ends}
+use Rattle.theory_timeline.specs.Steps as Steps
+use Rattle.theory_timeline.specs.Steps.{Sound, added}
+use Rattle.theory_timeline.specs.Tags.{addsEvent, endsAt, eventWords, pickEvents, word}
+use Rattle.theory_timeline.specs.Windows as Windows
+use Rattle.theory_timeline.specs.Windows.{Timeline, active, during, event, network, size}
+use Rattle.replay_step.proofs.BesideLaws.{adds-same, beside-same}
+use Rattle.replay_step.proofs.WordLaws.{front-get, low-map, mid-less, mid-take, take-less}
+use Rattle.replay_step.specs.Area.{Area, EventsIn, SmallArea, StepReady, Stepped, WholeMade, WholeReady, areaEdges, span}
+use Rattle.replay_step.specs.Load.{ActiveReady, Actives, AddReady, Added, AreaMade, Copied, EdgesReady, Edged, IsPart, MakeReady, PartLoaded, WholeLoaded, addsIn, placesIn, scratch}
+use Rattle.replay_step.specs.declared.Graph.{Graph}
+use Rattle.replay_step.specs.declared.Part.{Part}
+use Rattle.replay_step.specs.declared.Window.{Window}
 
 -- ---- the words of a part
 drop-active : (segs : List Edge) (σ : ℕ → ℕ) (k : ℕ) (evs : List Event) → drop (2 * k) (map σ (activeOf segs evs)) ≡ map σ (activeOf segs (drop k evs))
@@ -52,7 +55,9 @@ take-active : (segs : List Edge) (σ : ℕ → ℕ) (k : ℕ) (evs : List Event)
 unfolding activeOf
 take-active segs σ zero evs = refl
 take-active segs σ (suc k) [] = let q : 2 * suc k ≡ suc (suc (2 * k)) = omega arith in rw q refl
-take-active segs σ (suc k) (e ∷ evs) = let q : 2 * suc k ≡ suc (suc (2 * k)) = omega arith in rw q (ap (λ l. σ (ends segs e .0) ∷ σ (ends segs e .1) ∷ l) (take-active segs σ k evs))
+take-active segs σ (suc k) (e ∷ evs) =
+    let q : 2 * suc k ≡ suc (suc (2 * k)) = omega arith in
+    rw q (ap (λ l. σ (ends segs e .0) ∷ σ (ends segs e .1) ∷ l) (take-active segs σ k evs))
 
 pub active-length : (segs : List Edge) (evs : List Event) → length (activeOf segs evs) ≡ 2 * length evs
 unfolding activeOf
@@ -63,343 +68,362 @@ pub window-length : (g : Timeline) (at n : ℕ) → at + n ≤ size g → length
 unfolding active during
 window-length g at n l = active-length (g .segments) (take n (drop at (g .events))) ∙ rw (length-take, length-drop) (omega arith)
 
--- an event without a fault that opens or closes names a segment
-pub sound-fine : (g : Timeline) → Sound g → (i : ℕ) → i < size g → Fine (g .junctions) (length (g .segments)) (openBefore g i) (event g i)
-sound-fine g s i l = fault-fine (g .junctions) (length (g .segments)) (openBefore g i) (event g i) (s .few) (s .events i l)
+-- the two nodes of event i
+active-at : (segs : List Edge) (σ : ℕ → ℕ) (evs : List Event) (i : ℕ) → i < length evs
+    → (getD (map σ (activeOf segs evs)) (2 * i) 0 ≡ σ (ends segs (getD evs i (0, 0)) .0)) × (getD (map σ (activeOf segs evs)) (2 * i + 1) 0 ≡ σ (ends segs (getD evs i (0, 0)) .1))
+unfolding activeOf
+active-at segs σ [] i l = absurd (omega arith)
+active-at segs σ (e ∷ evs) zero l = (refl, refl)
+active-at segs σ (e ∷ evs) (suc i) l =
+    let p : 2 * suc i ≡ suc (suc (2 * i)) = omega arith in
+    let q : suc (suc (2 * i)) + 1 ≡ suc (suc (2 * i + 1)) = omega arith in
+    rw (p, q) (active-at segs σ evs i (omega arith))
 
-module _ (g : Timeline) (at n lo c : ℕ) (a : at ≤ lo) (b : lo + c ≤ at + n) where
-  part : Part (at, n) (lo, c)
-  part = record { after = a; before = b }
+event-nodes : (g : Timeline) (σ : ℕ → ℕ) (at n i : ℕ) → at + n ≤ size g → i < n
+    → (getD (map σ (active g (at, n))) (2 * i) 0 ≡ σ (endsAt g (at + i) .0)) × (getD (map σ (active g (at, n))) (2 * i + 1) 0 ≡ σ (endsAt g (at + i) .1))
+unfolding active during
+event-nodes g σ at n i l u =
+    let e : getD (take n (drop at (g .events))) i (0, 0) ≡ event g (at + i) = getD-take n (drop at (g .events)) i (0, 0) u ∙ getD-drop at (g .events) i (0, 0) in
+    let (a, b) = active-at (g .segments) σ (take n (drop at (g .events))) i (rw (length-take, length-drop) (omega arith)) in
+    (a ∙ ap (λ (e : Event). σ (ends (g .segments) e .0)) e, b ∙ ap (λ (e : Event). σ (ends (g .segments) e .1)) e)
 
-  part-words : (σ : ℕ → ℕ) → take (2 * c) (drop (2 * (lo - at)) (map σ (active g (at, n)))) ≡ map σ (active g (lo, c))
-  unfolding active during
-  part-words σ =
-      ap (take (2 * c)) (drop-active (g .segments) σ (lo - at) (during g (at, n))) ∙ take-active (g .segments) σ c (drop (lo - at) (during g (at, n)))
-      ∙ ap (λ l. map σ (activeOf (g .segments) l)) (middle g (at, n) (lo, c) part)
+part-places : (g : Timeline) (w c : Windows.Window) → Steps.Part w c → (σ : ℕ → ℕ) → take (2 * c .1) (drop (2 * (c .0 - w .0)) (map σ (active g w))) ≡ map σ (active g c)
+unfolding active during
+part-places g w c h σ =
+    ap (take (2 * c .1)) (drop-active (g .segments) σ (c .0 - w .0) (during g w)) ∙ take-active (g .segments) σ (c .1) (drop (c .0 - w .0) (during g w))
+    ∙ ap (λ l. map σ (activeOf (g .segments) l)) (middle g w c h)
 
-  -- the edges that are added are those of the added segments
-  adds-added : (s : Sound g) → at + n ≤ size g → (σ : ℕ → ℕ) (U : NodeSet)
-      → cut U (adds (named (during g (lo, c))) (openBefore g lo) (during g (at, n)) (map σ (active g (at, n)))) ≡ cut U (image σ (added g (at, n) (lo, c)))
-  unfolding active added during
-  adds-added s l σ U =
-      adds-cut (g .segments) σ (openBefore g lo) U (during g (at, n)) (named (during g (lo, c))) λ i k t.
-      let u : i < n = omega (arith, length-take n (drop at (g .events)), length-drop at (g .events)) in
-      let e : getD (take n (drop at (g .events))) i (0, 0) ≡ event g (at + i) = getD-take n (drop at (g .events)) i (0, 0) u ∙ getD-drop at (g .events) i (0, 0) in
-      subst (λ (v : Event). v .1 < length (g .segments)) (sym e) (sound-fine g s (at + i) (omega arith) .segment (ap (λ (v : Event). opens v || closes v) (sym e) ∙ t))
-
-  -- ---- the small graph
-  pub step-made : {nodes edges : ℕ} {v : List ℕ} → Sound g → Area g (at, n) nodes edges v → at + n ≤ size g
-      → (E : List Edge) → ((U : NodeSet) → cut U (areaEdges n edges v ++ adds (named (during g (lo, c))) (openBefore g lo) (during g (at, n)) (take (2 * n) v)) ≡ cut U E)
-      → (h m : ℕ) (ρ σ : ℕ → ℕ) (z : List ℕ) → SmallGraph E (firsts eqb (take (2 * c) (drop (2 * (lo - at)) (take (2 * n) v)))) h (areaEdges c m z) ρ σ
-      → take (2 * c) z ≡ map σ (take (2 * c) (drop (2 * (lo - at)) (take (2 * n) v))) → SmallArea g (lo, c) h m z
-  step-made {nodes} {edges} {v} s r l E q h m ρ σ z k w =
-      let T : take (2 * c) (drop (2 * (lo - at)) (take (2 * n) v)) ≡ map (r .σ) (active g (lo, c)) =
-      ap (λ l. take (2 * c) (drop (2 * (lo - at)) l)) (r .places) ∙ part-words (r .σ) in
-      let g1 : SmallGraph E (map (r .σ) (active g (lo, c))) h (areaEdges c m z) ρ σ = rw T at (small-repeats (take (2 * c) (drop (2 * (lo - at)) (take (2 * n) v))) k) in
-      let g2 : SmallGraph (areaEdges n edges v ++ image (r .σ) (added g (at, n) (lo, c))) (map (r .σ) (active g (lo, c))) h (areaEdges c m z) ρ σ =
-      small-cuts-equal E _ (λ U. sym (q U) ∙ cut-append U (areaEdges n edges v) _
-      ∙ ap (λ k. cut U (areaEdges n edges v) + k) (ap (λ l. cut U (adds (named (during g (lo, c))) (openBefore g lo) (during g (at, n)) l)) (r .places) ∙ adds-added s l (r .σ) U)
-      ∙ sym (cut-append U (areaEdges n edges v) (image (r .σ) (added g (at, n) (lo, c))))) _ _ _ _ _ g1 in
-      record {
-        ρ = λ u. r .ρ (ρ u);
-        σ = λ u. σ (r .σ u);
-        small = small-definition _ _ _ _ _ _ (part-small g (at, n) (lo, c) part nodes (areaEdges n edges v) (r .ρ) (r .σ) (r .carries) h (areaEdges c m z) ρ σ g2);
-        places = w ∙ ap (map σ) T ∙ map-twice σ (r .σ) (active g (lo, c));
-      }
-
--- ---- the edges out
-pairs-table : (a b : ℕ → ℕ) (i m : ℕ) → pairs (table a i m) (table b i m) ≡ table {A = Edge} (λ j. (a j, b j)) i m
-pairs-table a b i zero = refl
-pairs-table a b i (suc m) = ap (λ (l : List Edge). (a i, b i) ∷ l) (pairs-table a b (suc i) m)
-
-length-edges : (f : ℕ → Edge) (i m : ℕ) → length (table f i m) ≡ m
-length-edges f i zero = refl
-length-edges f i (suc m) = ap suc (length-edges f (suc i) m)
-
-module _ {n m k : ℕ} {w z : List ℕ} {h e : ℕ} (q : Reduced n m k w z h e) where
-  reduced-low : e ≤ n
-  reduced-low = omega (arith, small-edges-most _ _ _ _ _ _ (definition-small _ _ _ _ _ _ (q .small)), length-edges (λ j. (node 4 z j, node 5 z j)) 0 e, q .less)
-
-  reduced-few : (T : List ℕ) → activeIn k w ≡ firsts eqb T → e ≤ 2 * length T
-  reduced-few T r =
-      let g = definition-small _ _ _ _ _ _ (q .small) in
-      omega (
-        arith,
-        small-edges-most _ _ _ _ _ _ g,
-        length-edges (λ j. (node 4 z j, node 5 z j)) 0 e,
-        small-bound _ _ _ _ _ _ g,
-        mostNodes-double (length (firsts eqb (activeIn k w))),
-        firsts-most eqb (activeIn k w),
-        ap length r,
-        firsts-most eqb T,
-      )
+-- active nodes that are entered, seen through other words
+entered-same : {n k : ℕ} {S : List ℕ} {mark act mark′ act′ : ℕ → ℕ} → Entered n S k mark act → ((v : ℕ) → v < n → mark′ v ≡ mark v) → ((v : ℕ) → v < n → act′ v ≡ act v) → Entered n S k mark′ act′
+entered-same {n} {k} {S} {mark} {act} {mark′} {act′} e f h =
+    let m = entered-most e in
+    record {
+      active = table-equal act′ act 0 k (λ i a b. h i (omega arith)) ∙ e .active;
+      below = λ i l. rw (h i (omega arith)) (e .below i l);
+      marked = λ i l. ap mark′ (h i (omega arith)) ∙ f (act i) (e .below i l) ∙ e .marked i l;
+      marks = λ v u p. let (i, l, z) = e .marks v u (omega (arith, f v u)) in (i, l, h i (omega arith) ∙ z);
+    }
 
 -- ---- what each piece needs
-module _ {x y : List ℕ} {at n lo c nodes edges₀ : ℕ} {held w : List ℕ} (st : StepReady x y at n lo c nodes edges₀ held w) where
-  inside : at + n ≤ size (st .g)
-  inside = let p = pairs-length x y (at + n) (st .long-x) (st .long-y) in omega (arith, ap length (st .events))
+module _ {w : Window} {p : Part} {v : List ℕ} (st : StepReady w (p .at) (p .events) v) (ip : IsPart w p) where
+  abbrev n : ℕ
+  n = w .events
 
-  words-low : (i : ℕ) → i < 2 * n → getD w i 0 < nodes
+  abbrev s : ℕ
+  s = scratch p
+
+  abbrev A : List ℕ
+  A = active (st .g) (span w)
+
+  scratch-is : s ≡ 13 * n + 13 * p .events
+  scratch-is = ap (λ k. k + 13 * p .events) (ip .area)
+
+  words-low : (i : ℕ) → i < 2 * n → getD v i 0 < w .nodes
   words-low i l =
       let a = st .area in
-      let A = active (st .g) (at, n) in
-      let q : getD (map (a .σ) A) i 0 < nodes = low-map nodes (a .σ) A i (λ b m. a .carries .place b m .0) (omega (arith, window-length (st .g) at n inside)) in
-      let e : getD w i 0 ≡ getD (map (a .σ) A) i 0 =
-      sym (getD-take (10 * n) w i 0 (omega arith)) ∙ sym (getD-take (2 * n) (take (10 * n) w) i 0 l) ∙ ap (λ k. getD k i 0) (a .places) in
+      let q : getD (map (a .σ) A) i 0 < w .nodes = low-map (w .nodes) (a .σ) A i (λ b m. a .carries .place b m .0) (omega (arith, window-length (st .g) (w .at) n (st .inside))) in
+      let e : getD v i 0 ≡ getD (map (a .σ) A) i 0 =
+      sym (getD-take (13 * n) v i 0 (omega arith)) ∙ sym (getD-take (2 * n) (take (13 * n) v) i 0 l) ∙ ap (λ k. getD k i 0) (a .events .places) in
       omega arith
 
-  edges-low : (j : ℕ) → j < edges₀ → (getD w (2 * n + j) 0 < nodes) × (getD w (6 * n + j) 0 < nodes)
+  edges-low : (j : ℕ) → j < w .edges → (getD v (5 * n + j) 0 < w .nodes) × (getD v (9 * n + j) 0 < w .nodes)
   edges-low j l =
       let a = st .area in
-      let v = take (10 * n) w in
-      let lv : length v ≡ 10 * n = length-take-le (10 * n) w (omega (arith, st .room)) in
-      let A = take edges₀ (drop (2 * n) v) in
-      let B = take edges₀ (drop (6 * n) v) in
-      let la : j < length A = rw (length-take, length-drop) (omega (arith, a .few)) in
-      let lb : j < length B = rw (length-take, length-drop) (omega (arith, a .few)) in
-      let (p, q) = endsIn-at (λ v. ltb v nodes) (pairs A B) j (omega (arith, pairs-length A B (j + 1) (omega arith) (omega arith))) (a .carries .inside) in
-      let e = pairs-at A B j la lb in
-      let e1 : getD A j 0 ≡ getD w (2 * n + j) 0 = getD-take edges₀ (drop (2 * n) v) j 0 l ∙ getD-drop (2 * n) v j 0 ∙ getD-take (10 * n) w (2 * n + j) 0 (omega (arith, a .few)) in
-      let e2 : getD B j 0 ≡ getD w (6 * n + j) 0 = getD-take edges₀ (drop (6 * n) v) j 0 l ∙ getD-drop (6 * n) v j 0 ∙ getD-take (10 * n) w (6 * n + j) 0 (omega (arith, a .few)) in (
-        subst (λ (k : ℕ). k < nodes) (ap (λ (k : Edge). k .0) e ∙ e1) (ltb-true _ nodes p),
-        subst (λ (k : ℕ). k < nodes) (ap (λ (k : Edge). k .1) e ∙ e2) (ltb-true _ nodes q),
+      let u = take (13 * n) v in
+      let lu : length u ≡ 13 * n = length-take-le (13 * n) v (omega (arith, st .room)) in
+      let X = take (w .edges) (drop (5 * n) u) in
+      let Y = take (w .edges) (drop (9 * n) u) in
+      let la : j < length X = rw (length-take, length-drop) (omega (arith, a .few)) in
+      let lb : j < length Y = rw (length-take, length-drop) (omega (arith, a .few)) in
+      let (b, c) = endsIn-at (λ v. ltb v (w .nodes)) (pairs X Y) j (omega (arith, pairs-length X Y (j + 1) (omega arith) (omega arith))) (a .carries .inside) in
+      let e = pairs-at X Y j la lb in
+      let e1 : getD X j 0 ≡ getD v (5 * n + j) 0 = getD-take (w .edges) (drop (5 * n) u) j 0 l ∙ getD-drop (5 * n) u j 0 ∙ getD-take (13 * n) v (5 * n + j) 0 (omega (arith, a .few)) in
+      let e2 : getD Y j 0 ≡ getD v (9 * n + j) 0 = getD-take (w .edges) (drop (9 * n) u) j 0 l ∙ getD-drop (9 * n) u j 0 ∙ getD-take (13 * n) v (9 * n + j) 0 (omega (arith, a .few)) in (
+        subst (λ (k : ℕ). k < w .nodes) (ap (λ (k : Edge). k .0) e ∙ e1) (ltb-true _ (w .nodes) b),
+        subst (λ (k : ℕ). k < w .nodes) (ap (λ (k : Edge). k .1) e ∙ e2) (ltb-true _ (w .nodes) c),
       )
 
-  names : NamesSegments x y at n
-  names i l t =
-      let e : event (st .g) (at + i) ≡ (getD x (at + i) 0, getD y (at + i) 0) = ap (λ k. getD k (at + i) (0, 0)) (st .events) ∙ pairs-at x y (at + i) (omega (arith, st .long-x)) (omega (arith, st .long-y)) in
-      let f = sound-fine (st .g) (st .sound) (at + i) (omega (arith, inside)) .segment (ap (λ (k : Event). opens k || closes k) e ∙ t) in
-      omega (arith, f, ap (λ (k : Event). k .1) e, st .sound .segments-few)
+  pub active-need : ActiveReady (p .places) (2 * p .events) s (w .nodes) v
+  active-need = record {
+    front = omega (arith, st .starts, st .ends, ip .places, scratch-is);
+    room = omega (arith, st .room, scratch-is);
+    many = st .many;
+    nodes = λ i l. words-low (p .places + i) (omega (arith, st .starts, st .ends, ip .places));
+  }
 
-  pub need-active : ActiveReady (2 * (lo - at)) (2 * c) (10 * n + 10 * c) nodes w
-  need-active =
-      record {
-        front = omega (arith, st .starts, st .ends);
-        room = omega (arith, st .room);
-        many = st .many;
-        nodes = λ i l. words-low (2 * (lo - at) + i) (omega (arith, st .starts, st .ends));
-      }
+  pub edges-need : (z : List ℕ) → take s z ≡ take s v → length z ≡ length v → EdgesReady n (w .edges) s (w .nodes) z
+  edges-need z f e = record {
+    front = omega (arith, scratch-is);
+    room = omega (arith, st .room, scratch-is);
+    few = st .area .few;
+    much = omega (arith, st .much);
+    many = st .many;
+    nodes = λ j l. let q = edges-low j l in (
+      omega (arith, q .0, front-get s (5 * n + j) v z f (omega (arith, st .area .few, scratch-is))),
+      omega (arith, q .1, front-get s (9 * n + j) v z f (omega (arith, st .area .few, scratch-is))),
+    );
+  }
 
-  pub need-edges : (z : List ℕ) → take (10 * n + 10 * c) z ≡ take (10 * n + 10 * c) w → length z ≡ length w → EdgesReady n edges₀ (10 * n + 10 * c) nodes z
-  need-edges z f e =
-      record {
-        front = omega arith;
-        room = omega (arith, st .room);
-        few = st .area .few;
-        much = st .much;
-        many = st .many;
-        nodes = λ j l. let q = edges-low j l in (
-          omega (arith, q .0, front-get (10 * n + 10 * c) (2 * n + j) w z f (omega (arith, st .area .few))),
-          omega (arith, q .1, front-get (10 * n + 10 * c) (6 * n + j) w z f (omega (arith, st .area .few))),
-        );
-      }
-
-  pub need-added : (z : List ℕ) → take (10 * n + 10 * c) z ≡ take (10 * n + 10 * c) w → length z ≡ length w → ((h : ℕ) → h < 2 * edges₀ → half nodes 0 (drop (10 * n + 10 * c) z) h < nodes) → length held ≡ 128
-      → AddReady x y at n (10 * n + 10 * c) nodes edges₀ z × (length held ≡ 128) × (at ≤ lo) × (lo + c ≤ at + n)
-  need-added z f e g k = (
+  pub events-need : (i j m : ℕ) (z : List ℕ) → i ≤ j → j ≤ n → m ≤ w .edges + i → take s z ≡ take s v → length z ≡ length v → ((h : ℕ) → h < 2 * m → half (w .nodes) 0 (drop s z) h < w .nodes)
+      → AddReady w p i j m z × (p .at + p .events ≤ 4096)
+  events-need i j m z a b l f e h = (
     record {
-      front = omega arith;
-      room = omega (arith, st .room);
-      few = st .area .few;
+      order = a;
+      inside = b;
       much = st .much;
+      front = omega (arith, scratch-is);
+      room = omega (arith, st .room, scratch-is);
+      few = omega (arith, st .area .few, st .much);
       many = st .many;
-      long-x = st .long-x;
-      long-y = st .long-y;
-      nodes = λ i l. omega (arith, words-low i l, front-get (10 * n + 10 * c) i w z f (omega arith));
-      ends = g;
-      segments = names;
+      nodes = λ d u. omega (arith, words-low d u, front-get s d v z f (omega (arith, scratch-is)));
+      ends = h;
     },
-    k,
-    st .starts,
-    st .ends,
+    omega (arith, st .ends, st .much),
   )
 
-  pub need-map : (z : List ℕ) → take (10 * n + 10 * c) z ≡ take (10 * n + 10 * c) w → length z ≡ length w
-      → (2 * (lo - at) + 2 * c ≤ 10 * n) × (10 * n + 2 * c ≤ 10 * n + 10 * c) × (10 * n + 10 * c + 16 * nodes ≤ length z) × ((i : ℕ) → i < 2 * c → getD z (2 * (lo - at) + i) 0 < nodes)
-  need-map z f e = (
-    omega (arith, st .starts, st .ends),
-    omega arith,
-    omega (arith, st .room),
-    λ i l. omega (arith, words-low (2 * (lo - at) + i) (omega (arith, st .starts, st .ends)), front-get (10 * n + 10 * c) (2 * (lo - at) + i) w z f (omega (arith, st .starts, st .ends))),
-  )
+  pub behind-need : {y z : List ℕ} {m : ℕ} → Added w p 0 (p .at - w .at) (w .edges) y z m → take s y ≡ take s v → length y ≡ length v
+      → AddReady w p (p .at - w .at + p .events) n m z × (p .at + p .events ≤ 4096)
+  behind-need {z = z} {m} a f e =
+      events-need (p .at - w .at + p .events) n m z (omega (arith, st .starts, st .ends)) (omega arith) (omega (arith, a .most)) (a .edged .front ∙ f) (a .long ∙ e) (a .edged .ends)
 
--- ---- all pieces
--- w: at the start; w₁: active nodes entered; w₂: edges copied; w₃: segments added; zs: the contraction's words after it; w₅, w₆, w₇: numbers and edges written
-module _ {x y : List ℕ} {at n lo c nodes edges₀ : ℕ} {held w : List ℕ} (st : StepReady x y at n lo c nodes edges₀ held w) {w₁ w₂ w₃ : List ℕ} {k m : ℕ}
-    (A : Actives (2 * (lo - at)) (2 * c) (10 * n + 10 * c) nodes w w₁ k) (B : Copied n edges₀ (10 * n + 10 * c) nodes w₁ w₂)
-    (C : Added (named (take c (drop lo (pairs x y)))) (isOpen held) (take n (drop at (pairs x y))) n (10 * n + 10 * c) nodes edges₀ w₂ w₃ m) (l₁ : length w₁ ≡ length w) (l₂ : length w₂ ≡ length w) (l₃ : length w₃ ≡ length w) where
-  abbrev s : ℕ
-  s = 10 * n + 10 * c
+  -- ---- what is loaded: active nodes entered (w₁), edges copied (w₂), the events before the part (w₃) and behind it (w₄)
+  module _ {w₁ w₂ w₃ w₄ : List ℕ} {k m r : ℕ} (A₁ : Actives (p .places) (2 * p .events) s (w .nodes) v w₁ k) (B : Copied n (w .edges) s (w .nodes) w₁ w₂)
+      (C : Added w p 0 (p .at - w .at) (w .edges) w₂ w₃ m) (D : Added w p (p .at - w .at + p .events) n m w₃ w₄ r) (l₁ : length w₁ ≡ length v) (l₂ : length w₂ ≡ length v) where
+    front-2 : take s w₂ ≡ take s v
+    front-2 = B .edged .front ∙ A₁ .front
 
-  abbrev T : List ℕ
-  T = take (2 * c) (drop (2 * (lo - at)) w)
+    front-3 : take s w₃ ≡ take s v
+    front-3 = C .edged .front ∙ front-2
 
-  abbrev L : List ℕ
-  L = take (length w₃ - s) (drop s w₃)
+    front-4 : take s w₄ ≡ take s v
+    front-4 = D .edged .front ∙ front-3
 
-  same-L : L ≡ drop s w₃
-  same-L = take-whole s w₃
+    fields : (j : ℕ) → j < 16 → (u : ℕ) → u < w .nodes → node j (drop s w₄) u ≡ node j (drop s w₁) u
+    fields j l u h = D .edged .nodes j l u h ∙ C .edged .nodes j l u h ∙ B .edged .nodes j l u h
 
-  front-3 : take s w₃ ≡ take s w
-  front-3 = C .edged .front ∙ B .edged .front ∙ A .front
+    words-of : (z : List ℕ) → take s z ≡ take s v → (d : ℕ) → d < 5 * n → getD z d 0 ≡ getD v d 0
+    words-of z f d u = front-get s d v z f (omega (arith, scratch-is))
 
-  field : (j : ℕ) → j < 16 → (v : ℕ) → v < nodes → node j L v ≡ node j (drop s w₁) v
-  field j l v u = ap (λ q. node j q v) same-L ∙ C .edged .nodes j l v u ∙ B .edged .nodes j l v u
+    pub part-loaded : PartLoaded w p v w₄ (record { nodes = w .nodes; edges = r; active = k })
+    part-loaded = record {
+      nodes = refl;
+      front = front-4;
+      ready = record {
+        places = omega (arith, st .starts, st .ends, ip .places, ip .area);
+        words = omega (arith, st .starts, st .ends, ip .words, ip .area);
+        room = omega (arith, st .room, scratch-is, C .most, D .most, C .long, D .long, st .starts, st .ends);
+        much = omega (arith, st .much, st .starts, st .ends);
+        many = st .many;
+        few = omega (arith, C .most, D .most, st .area .few, st .much, st .starts, st .ends);
+        nodes = λ i l. omega (arith, active-need .nodes i l, front-get s (p .places + i) v w₄ front-4 (omega (arith, active-need .front)));
+        entered = rw (mid-less (p .places) (2 * p .events) s v w₄ (omega (arith, active-need .front)) (omega (arith, active-need .front, st .room, C .long, D .long, scratch-is)) (omega (arith, active-need .front, st .room, scratch-is)) front-4)
+            (entered-same (A₁ .entered) (fields 0 (omega arith)) (fields 1 (omega arith)));
+        ends = D .edged .ends;
+      };
+      edges = λ U.
+          let a = st .starts in
+          let b = st .ends in
+          let z : p .at - w .at - 0 ≡ p .at - w .at = omega arith in
+          let c1 = ap (λ (d : ℕ). cut U (pickEvents (addsIn w p w₂) (placesIn w₂) 0 d)) z ∙ ap (cut U) (beside-same w p v w₂ (words-of w₂ front-2) 0 (p .at - w .at) (omega arith)) in
+          let c2 = ap (cut U) (beside-same w p v w₃ (words-of w₃ front-3) (p .at - w .at + p .events) (n - (p .at - w .at + p .events)) (omega arith)) in
+          let c3 = B .same U ∙ ap (λ (l : List ℕ). cut U (areaEdges n (w .edges) l)) (take-less (13 * n) s v w₁ (omega (arith, scratch-is)) (A₁ .front)) in
+          omega (arith, D .more U, C .more U, c1, c2, c3);
+    }
 
-  list-L : table (node 1 L) 0 k ≡ firsts eqb T
-  list-L = table-equal (node 1 L) (node 1 (drop s w₁)) 0 k (λ j a b. field 1 (omega arith) j (omega (arith, entered-most (A .entered)))) ∙ A .entered .active
+-- ---- the step
+same-window : (r : Window) (lo c : ℕ) → r .at ≡ lo → r .events ≡ c → _≡_ {A = Window} (record { at = lo; events = c; nodes = r .nodes; edges = r .edges }) r
+same-window r lo c a b = λ i. record { at = sym a i; events = sym b i; nodes = r .nodes; edges = r .edges }
 
-  active-L : (i : ℕ) → i < k → node 1 L i ≡ node 1 (drop s w₁) i
-  active-L i l = field 1 (omega arith) i (omega (arith, entered-most (A .entered)))
+-- a small graph of a window's network, in the words that the reader knows
+small-area : (g : Timeline) → Sound g → (r : Window) {z : List ℕ} {ρ σ : ℕ → ℕ} → SmallGraph (network g (span r)) (active g (span r)) (r .nodes) (areaEdges (r .events) (r .edges) z) ρ σ
+    → EventsIn g (span r) σ z → SmallArea g r z
+small-area g sound r {σ = σ} s e = record {
+  σ = σ;
+  graph = renumbered (network g (span r)) (active g (span r)) _ _ _ _ (small-is g (sound-good g sound) (span r)) _ _ _ _ s;
+  bound = small-bound _ _ _ _ _ _ s;
+  events = e;
+}
 
-  pub loaded : Loaded nodes m k L
-  loaded =
-      let e = A .entered in
-      record {
-        few = st .many;
-        much = omega (arith, C .most, st .area .few, st .much);
-        room = rw (length-take, length-drop) (omega (arith, C .most, st .room));
-        less = entered-most e;
-        ends = rw same-L (C .edged .ends);
-        active = λ i l. rw (active-L i l) (e .below i l);
-        marked = λ i l. ap (node 0 L) (active-L i l) ∙ field 0 (omega arith) _ (e .below i l) ∙ e .marked i l;
-        marks = λ v u p.
-            let q : 0 < node 0 (drop s w₁) v = omega (arith, field 0 (omega arith) v u) in
-            let (i, li, z) = e .marks v u q in
-            (i, li, active-L i li ∙ z);
+module _ {w : Window} {p : Part} {v : List ℕ} (st : StepReady w (p .at) (p .events) v) (ip : IsPart w p) {z : List ℕ} {l : Graph} (pl : PartLoaded w p v z l) (lz : length z ≡ length v) {y : List ℕ} {r : Window}
+    (am : AreaMade p l z y r) where
+  abbrev c : ℕ
+  c = p .events
+
+  abbrev B : ℕ
+  B = p .at - w .at
+
+  abbrev S : ℕ
+  S = scratch p
+
+  abbrev u : List ℕ
+  u = take (13 * w .events) v
+
+  scratch-at : S ≡ 13 * w .events + 13 * c
+  scratch-at = ap (λ k. k + 13 * c) (ip .area)
+
+  part : Steps.Part (span w) (p .at, c)
+  part = record { after = st .starts; before = st .ends }
+
+  -- the part's places and words, in the window's area
+  places-z : take (2 * c) (drop (p .places) z) ≡ take (2 * c) (drop (2 * B) (take (2 * w .events) u))
+  places-z =
+      mid-less (p .places) (2 * c) S v z (omega (arith, pl .ready .places)) (omega (arith, pl .ready .places, pl .ready .room)) (omega (arith, pl .ready .places, pl .ready .room, lz)) (pl .front)
+      ∙ ap (λ k. take (2 * c) (drop k v)) (ip .places)
+      ∙ sym (ap (λ l. take (2 * c) (drop (2 * B) l)) (take-take (2 * w .events) (13 * w .events) v (omega arith))
+      ∙ mid-take (2 * B) (2 * c) (2 * w .events) v (omega (arith, st .starts, st .ends)) (omega (arith, st .room)))
+
+  words-z : take (3 * c) (drop (p .words) z) ≡ take (3 * c) (drop (3 * B) (take (3 * w .events) (drop (2 * w .events) u)))
+  words-z =
+      let e : 2 * w .events + 3 * B ≡ 3 * B + 2 * w .events = omega arith in
+      mid-less (p .words) (3 * c) S v z (omega (arith, pl .ready .words)) (omega (arith, pl .ready .words, pl .ready .room)) (omega (arith, pl .ready .words, pl .ready .room, lz)) (pl .front)
+      ∙ ap (λ k. take (3 * c) (drop k v)) (ip .words)
+      ∙ sym (mid-take (3 * B) (3 * c) (3 * w .events) (drop (2 * w .events) u) (omega (arith, st .starts, st .ends)) (rw (length-drop, length-take) (omega (arith, st .room)))
+      ∙ ap (take (3 * c)) (drop-more (3 * B) (2 * w .events) u)
+      ∙ mid-take (2 * w .events + 3 * B) (3 * c) (13 * w .events) v (omega (arith, st .starts, st .ends)) (omega (arith, st .room)))
+    where
+      drop-more : (i j : ℕ) (l : List ℕ) → drop i (drop j l) ≡ drop (j + i) l
+      drop-more i zero l = let e : i ≡ 0 + i = omega arith in ap (λ k. drop k l) e
+      drop-more i (suc j) [] = drop-nil i ∙ sym (drop-nil (suc j + i))
+        where
+          drop-nil : (i : ℕ) → drop {A = ℕ} i [] ≡ []
+          drop-nil zero = refl
+          drop-nil (suc i) = refl
+      drop-more i (suc j) (x ∷ l) = let e : suc j + i ≡ suc (j + i) = omega arith in drop-more i j l ∙ ap (λ k. drop k (x ∷ l)) (sym e)
+
+  module _ (g : Timeline) (sound : Sound g) (inside : w .at + w .events ≤ size g) (a : Area g w u) where
+    -- the events beside the part, by their words and by the list
+    beside : (U : NodeSet) (i k : ℕ) → i + k ≤ w .events
+        → cut U (pickEvents (addsIn w p v) (placesIn v) i k) ≡ cut U (image (a .σ) (pickEvents (addsEvent g (span w) (p .at, c)) (endsAt g) (w .at + i) k))
+    beside U i k h =
+        ap (cut U) (pick-shift (addsIn w p v) (addsEvent g (span w) (p .at, c)) (placesIn v) (λ j. (a .σ (endsAt g j .0), a .σ (endsAt g j .1))) (w .at) i k λ j x y. (adds-at j (omega arith), nodes-at j (omega arith)))
+        ∙ ap (cut U) (pick-image (addsEvent g (span w) (p .at, c)) (endsAt g) (a .σ) (w .at + i) k)
+      where
+        read : (d : ℕ) → d < 13 * w .events → getD v d 0 ≡ getD u d 0
+        read d l = sym (getD-take (13 * w .events) v d 0 l)
+
+        word-at : (j d : ℕ) → j < w .events → d < 3 → getD v (2 * w .events + (3 * j + d)) 0 ≡ word g d (w .at + j)
+        word-at j d x y =
+            read (2 * w .events + (3 * j + d)) (omega arith) ∙ sym (getD-take (3 * w .events) (drop (2 * w .events) u) (3 * j + d) 0 (omega arith) ∙ getD-drop (2 * w .events) u (3 * j + d) 0)
+            ∙ ap (λ l. getD l (3 * j + d) 0) (a .events .words) ∙ words-at g (w .at) (w .events) j d x y
+
+        adds-at : (j : ℕ) → j < w .events → addsIn w p v j ≡ addsEvent g (span w) (p .at, c) (w .at + j)
+        adds-at j x =
+            let z0 : 2 * w .events + 3 * j ≡ 2 * w .events + (3 * j + 0) = omega arith in
+            let z1 : 2 * w .events + 3 * j + 1 ≡ 2 * w .events + (3 * j + 1) = omega arith in
+            let z2 : 2 * w .events + 3 * j + 2 ≡ 2 * w .events + (3 * j + 2) = omega arith in
+            adds-same (span w) (p .at, c) (w .at + j) (ap (λ k. getD v k 0) z0 ∙ word-at j 0 x (omega arith)) (ap (λ k. getD v k 0) z1 ∙ word-at j 1 x (omega arith)) (ap (λ k. getD v k 0) z2 ∙ word-at j 2 x (omega arith))
+
+        node-at : (d : ℕ) → d < 2 * w .events → getD v d 0 ≡ getD (map (a .σ) (active g (span w))) d 0
+        node-at d x = read d (omega arith) ∙ sym (getD-take (2 * w .events) u d 0 x) ∙ ap (λ l. getD l d 0) (a .events .places)
+
+        nodes-at : (j : ℕ) → j < w .events → placesIn v j ≡ (a .σ (endsAt g (w .at + j) .0), a .σ (endsAt g (w .at + j) .1))
+        nodes-at j x =
+            let (e, f) = event-nodes g (a .σ) (w .at) (w .events) j inside x in
+            ap₂ (λ (x y : ℕ). (x, y)) (node-at (2 * j) (omega arith) ∙ e) (node-at (2 * j + 1) (omega arith) ∙ f)
+
+    -- what is loaded is the window's graph with the added segments
+    edges-are : (U : NodeSet) → cut U (edgesIn (l .nodes) (l .edges) (drop S z)) ≡ cut U (areaEdges (w .events) (w .edges) u ++ image (a .σ) (added g (span w) (p .at, c)))
+    edges-are U =
+        let s1 = st .starts in
+        let s2 = st .ends in
+        let z0 : w .at + 0 ≡ w .at = omega arith in
+        let z1 : w .at + (B + c) ≡ p .at + c = omega arith in
+        let z2 : w .events - (B + c) ≡ w .at + w .events - (p .at + c) = omega arith in
+        let f = addsEvent g (span w) (p .at, c) in
+        let b1 = beside U 0 B (omega arith) ∙ ap (λ (k : ℕ). cut U (image (a .σ) (pickEvents f (endsAt g) k B))) z0 ∙ cut-image U (a .σ) (pickEvents f (endsAt g) (w .at) B) in
+        let b2 = beside U (B + c) (w .events - (B + c)) (omega arith) ∙ ap₂ (λ (k n : ℕ). cut U (image (a .σ) (pickEvents f (endsAt g) k n))) z1 z2
+            ∙ cut-image U (a .σ) (pickEvents f (endsAt g) (p .at + c) (w .at + w .events - (p .at + c))) in
+        let e = events-added g (span w) (p .at, c) part inside (sound-segment g sound) (λ k. U (a .σ k)) in
+        omega (
+          arith,
+          pl .edges U,
+          b1,
+          b2,
+          e,
+          cut-append U (areaEdges (w .events) (w .edges) u) (image (a .σ) (added g (span w) (p .at, c))),
+          cut-image U (a .σ) (added g (span w) (p .at, c)),
+        )
+
+    pub part-made : SmallArea g r (take (13 * c) (drop (13 * w .events) y))
+    part-made =
+        let T : take (2 * c) (drop (p .places) z) ≡ map (a .σ) (active g (p .at, c)) = places-z ∙ ap (λ l. take (2 * c) (drop (2 * B) l)) (a .events .places) ∙ part-places g (span w) (p .at, c) part (a .σ) in
+        let g1 : SmallGraph (edgesIn (l .nodes) (l .edges) (drop S z)) (map (a .σ) (active g (p .at, c))) (r .nodes) (areaEdges c (r .edges) (take (13 * c) (drop (p .area) y))) (am .ρ) (am .σ) =
+        rw T at (definition-small _ _ _ _ _ _ (am .small)) in
+        let g2 = part-small g (span w) (p .at, c) part (w .nodes) (areaEdges (w .events) (w .edges) u) (a .ρ) (a .σ) (a .carries) (r .nodes) _ (am .ρ) (am .σ) (small-cuts-equal _ _ edges-are _ _ _ _ _ g1) in
+        subst (λ (k : ℕ). SmallArea g r (take (13 * c) (drop k y))) (ip .area)
+        (subst (λ (q : Window). SmallArea g q (take (13 * c) (drop (p .area) y))) (same-window r (p .at) c (am .at) (am .events))
+        (small-area g sound (record { at = p .at; events = c; nodes = r .nodes; edges = r .edges }) g2 (record {
+          places = am .places ∙ ap (map (am .σ)) T ∙ map-twice (am .σ) (a .σ) (active g (p .at, c));
+          words = am .words ∙ words-z ∙ ap (λ l. take (3 * c) (drop (3 * B) l)) (a .events .words) ∙ words-part g (w .at) (w .events) (p .at) c (st .starts) (st .ends);
+        })))
+
+  pub stepped : Stepped w (p .at) c v y r
+  stepped = record {
+    at = am .at;
+    events = am .events;
+    front = ap (λ (k : ℕ). take k y) (sym (ip .area)) ∙ am .front ∙ take-less (p .area) S v z (omega arith) (pl .front) ∙ ap (λ (k : ℕ). take k v) (ip .area);
+    made = part-made;
+  }
+
+-- ---- the whole list
+map-self : (S : List ℕ) → map (λ a. a) S ≡ S
+map-self [] = refl
+map-self (a ∷ S) = ap (λ l. a ∷ l) (map-self S)
+
+abbrev above : ℕ → Part
+above t = record { at = 0; events = t; places = 0; words = 2 * t; area = 5 * t }
+
+module _ {n t : ℕ} {v : List ℕ} (q : WholeReady n t v) where
+  listed : (i : ℕ) → i < 2 * t → getD v i 0 < n
+  listed i l =
+      let g = q .g in
+      let A = active g (0, t) in
+      let z : length A ≡ 2 * t = window-length g 0 t (omega (arith, q .all)) in
+      let b : getD (map (λ a. a) A) i 0 < n = low-map n (λ a. a) A i (λ a m. omega (arith, sound-good g (q .sound) .active (0, t) a m, q .junctions)) (omega arith) in
+      let e : getD v i 0 ≡ getD (map (λ a. a) A) i 0 =
+      sym (getD-take (5 * t) v i 0 (omega arith)) ∙ sym (getD-take (2 * t) (take (5 * t) v) i 0 l) ∙ ap (λ k. getD k i 0) (q .events .places) in
+      omega arith
+
+  pub whole-active : ActiveReady 0 (2 * t) (5 * t + 13 * t) n v
+  whole-active = record {
+    front = omega arith;
+    room = omega (arith, q .room);
+    many = omega (arith, q .sound .few, q .junctions);
+    nodes = λ i l. let z : 0 + i ≡ i = omega arith in omega (arith, ap (λ k. getD v k 0) z, listed i l);
+  }
+
+  module _ {z : List ℕ} {l : Graph} (wl : WholeLoaded n (above t) v z l) (lz : length z ≡ length v) where
+    pub whole-ready : MakeReady (above t) l z
+    whole-ready = record {
+      places = omega arith;
+      words = omega arith;
+      room = omega (arith, q .room, wl .nodes, wl .edges);
+      much = q .much;
+      many = omega (arith, q .sound .few, q .junctions, wl .nodes);
+      few = omega (arith, wl .edges);
+      nodes = λ i u. omega (arith, whole-active .nodes i u, front-get (5 * t + 13 * t) (0 + i) v z (wl .actives .front) (omega arith), wl .nodes);
+      entered = rw (wl .nodes, mid-less 0 (2 * t) (5 * t + 13 * t) v z (omega arith) (omega arith) (omega arith) (wl .actives .front)) (wl .actives .entered);
+      ends = λ h u. absurd (omega (arith, wl .edges));
+    }
+
+    module _ {y : List ℕ} {r : Window} (am : AreaMade (above t) l z y r) where
+      front-z : (i k : ℕ) → i + k ≤ 5 * t → take k (drop i z) ≡ take k (drop i (take (5 * t) v))
+      front-z i k h =
+          mid-less i k (5 * t + 13 * t) v z (omega arith) (omega (arith, q .room)) (omega (arith, q .room)) (wl .actives .front)
+          ∙ sym (mid-take i k (5 * t) v h (omega (arith, q .room)))
+
+      pub whole-made : WholeMade n t v y r
+      whole-made = record {
+        at = am .at;
+        events = am .events;
+        made = λ g sound j all ev.
+            let T : take (2 * t) (drop 0 z) ≡ active g (0, t) = front-z 0 (2 * t) (omega arith) ∙ ev .places ∙ map-self (active g (0, t)) in
+            let E : edgesIn (l .nodes) (l .edges) (drop (5 * t + 13 * t) z) ≡ network g (0, t) = ap (λ (k : ℕ). edgesIn (l .nodes) k (drop (5 * t + 13 * t) z)) (wl .edges) ∙ sym (network-start g t) in
+            let s : SmallGraph (network g (0, t)) (active g (0, t)) (r .nodes) (areaEdges t (r .edges) (take (13 * t) (drop (5 * t) y))) (am .ρ) (am .σ) =
+            rw (E, T) at (definition-small _ _ _ _ _ _ (am .small)) in
+            subst (λ (w : Window). SmallArea g w (take (13 * t) (drop (5 * t) y))) (same-window r 0 t (am .at) (am .events))
+            (small-area g sound (record { at = 0; events = t; nodes = r .nodes; edges = r .edges }) s (record {
+              places = am .places ∙ ap (map (am .σ)) T;
+              words = am .words ∙ front-z (2 * t) (3 * t) (omega arith) ∙ ev .words;
+            }));
       }
-
-  module _ {zs : List ℕ} {r : Counts} (K : Reduced nodes m k L zs (r .nodes) (r .edges)) (lz : length zs ≡ length L) where
-    abbrev w₄ : List ℕ
-    w₄ = putMid s (length w₃ - s) w₃ zs
-
-    pub behind : drop s w₄ ≡ zs
-    behind = drop-back s w₃ zs (omega (arith, st .room))
-
-    pub front-4 : take s w₄ ≡ take s w
-    front-4 = take-put s (length w₃ - s) w₃ zs (omega (arith, st .room)) ∙ front-3
-
-    pub length-4 : length w₄ ≡ length w
-    length-4 = same-len-mid s (length w₃ - s) w₃ zs lz ∙ l₃
-
-    pub length-T : length T ≡ 2 * c
-    length-T = rw (length-take, length-drop) (omega (arith, st .room, st .starts, st .ends))
-
-    pub few-out : r .edges ≤ 4 * c
-    few-out = omega (arith, reduced-few K T list-L, length-T)
-
-    pub low-out : r .edges ≤ nodes
-    low-out = reduced-low K
-
-    T-4 : take (2 * c) (drop (2 * (lo - at)) w₄) ≡ T
-    T-4 = mid-less (2 * (lo - at)) (2 * c) s w w₄ (omega (arith, st .starts, st .ends)) (omega (arith, length-4, st .room, st .ends)) (omega (arith, st .room, st .ends)) front-4
-
-    module _ {w₅ w₆ w₇ : List ℕ} (e₅ : w₅ ≡ sets w₄ (10 * n) (map (node 0 (drop s w₄)) (take (2 * c) (drop (2 * (lo - at)) w₄))))
-        (e₆ : w₆ ≡ sets w₅ (10 * n + 2 * c) (table (node 4 (drop s w₅)) 0 (r .edges))) (e₇ : w₇ ≡ sets w₆ (10 * n + 6 * c) (table (node 5 (drop s w₆)) 0 (r .edges))) where
-      abbrev e : ℕ
-      e = r .edges
-
-      abbrev M : List ℕ
-      M = map (node 0 (drop s w₄)) (take (2 * c) (drop (2 * (lo - at)) w₄))
-
-      length-M : length M ≡ 2 * c
-      length-M = length-map (take (2 * c) (drop (2 * (lo - at)) w₄)) (node 0 (drop s w₄)) ∙ ap length T-4 ∙ length-T
-
-      length-5 : length w₅ ≡ length w
-      length-5 = ap length e₅ ∙ length-sets w₄ (10 * n) M ∙ length-4
-
-      length-6 : length w₆ ≡ length w
-      length-6 = ap length e₆ ∙ length-sets w₅ (10 * n + 2 * c) (table (node 4 (drop s w₅)) 0 e) ∙ length-5
-
-      pub length-7 : length w₇ ≡ length w
-      length-7 = ap length e₇ ∙ length-sets w₆ (10 * n + 6 * c) (table (node 5 (drop s w₆)) 0 e) ∙ length-6
-
-      behind-5 : drop s w₅ ≡ zs
-      behind-5 = ap (drop s) e₅ ∙ drop-sets M w₄ (10 * n) s (omega (arith, length-M)) ∙ behind
-
-      behind-6 : drop s w₆ ≡ zs
-      behind-6 = ap (drop s) e₆ ∙ drop-sets (table (node 4 (drop s w₅)) 0 e) w₅ (10 * n + 2 * c) s (omega (arith, table-length (node 4 (drop s w₅)) 0 e, few-out)) ∙ behind-5
-
-      abbrev z : List ℕ
-      z = take (10 * c) (drop (10 * n) w₇)
-
-      enough : 10 * c ≤ length (drop (10 * n) w₇)
-      enough = rw length-drop (omega (arith, length-7, st .room))
-
-      -- what stands from 10 n + i on
-      at-z : (i j : ℕ) → i + j ≤ 10 * c → take j (drop i z) ≡ take j (drop (10 * n + i) w₇)
-      at-z i j h = mid-take i j (10 * c) (drop (10 * n) w₇) h enough ∙ ap (take j) (drop-drop i (10 * n) w₇)
-
-      places : take (2 * c) z ≡ map (node 0 zs) T
-      places =
-          take-take (2 * c) (10 * c) (drop (10 * n) w₇) (omega arith)
-          ∙ ap (λ l. take (2 * c) (drop (10 * n) l)) e₇ ∙ mid-before (table (node 5 (drop s w₆)) 0 e) w₆ (10 * n + 6 * c) (10 * n) (2 * c) (omega arith) (omega (arith, length-6, st .room))
-          ∙ ap (λ l. take (2 * c) (drop (10 * n) l)) e₆ ∙ mid-before (table (node 4 (drop s w₅)) 0 e) w₅ (10 * n + 2 * c) (10 * n) (2 * c) (omega arith) (omega (arith, length-5, st .room))
-          ∙ ap (λ l. take (2 * c) (drop (10 * n) l)) e₅ ∙ ap (λ j. take j (drop (10 * n) (sets w₄ (10 * n) M))) (sym length-M) ∙ mid-sets M w₄ (10 * n) (omega (arith, length-M, length-4, st .room))
-          ∙ ap₂ (λ f l. map (node 0 f) l) behind T-4
-
-      lows : take e (drop (2 * c) z) ≡ table (node 4 zs) 0 e
-      lows =
-          let q = table-length (node 4 (drop s w₅)) 0 e in
-          at-z (2 * c) e (omega (arith, few-out))
-          ∙ ap (λ l. take e (drop (10 * n + 2 * c) l)) e₇ ∙ mid-before (table (node 5 (drop s w₆)) 0 e) w₆ (10 * n + 6 * c) (10 * n + 2 * c) e (omega (arith, few-out)) (omega (arith, length-6, st .room))
-          ∙ ap (λ l. take e (drop (10 * n + 2 * c) l)) e₆ ∙ ap (λ j. take j (drop (10 * n + 2 * c) (sets w₅ (10 * n + 2 * c) (table (node 4 (drop s w₅)) 0 e)))) (sym q)
-          ∙ mid-sets (table (node 4 (drop s w₅)) 0 e) w₅ (10 * n + 2 * c) (omega (arith, few-out, length-5, st .room)) ∙ ap (λ l. table (node 4 l) 0 e) behind-5
-
-      highs : take e (drop (6 * c) z) ≡ table (node 5 zs) 0 e
-      highs =
-          let q = table-length (node 5 (drop s w₆)) 0 e in
-          at-z (6 * c) e (omega (arith, few-out))
-          ∙ ap (λ l. take e (drop (10 * n + 6 * c) l)) e₇ ∙ ap (λ j. take j (drop (10 * n + 6 * c) (sets w₆ (10 * n + 6 * c) (table (node 5 (drop s w₆)) 0 e)))) (sym q)
-          ∙ mid-sets (table (node 5 (drop s w₆)) 0 e) w₆ (10 * n + 6 * c) (omega (arith, few-out, length-6, st .room)) ∙ ap (λ l. table (node 5 l) 0 e) behind-6
-
-      edges-z : areaEdges c e z ≡ edgesOut e zs
-      edges-z = ap₂ pairs lows highs ∙ pairs-table (node 4 zs) (node 5 zs) 0 e
-
-      abbrev v : List ℕ
-      v = take (10 * n) w
-
-      T-v : take (2 * c) (drop (2 * (lo - at)) (take (2 * n) v)) ≡ T
-      T-v =
-          ap (λ l. take (2 * c) (drop (2 * (lo - at)) l)) (take-take (2 * n) (10 * n) w (omega arith))
-          ∙ mid-take (2 * (lo - at)) (2 * c) (2 * n) w (omega (arith, st .starts, st .ends)) (omega (arith, st .room))
-
-      numbers : (t : ℕ) → List·Memᴰ t T → node 0 zs t ≡ K .σ t
-      numbers t p =
-          let (j, l, q) = table-mem (node 1 L) 0 k t (subst (λ (S : List ℕ). List·Memᴰ t S) (sym list-L) (in-firsts T t p)) in
-          ap (node 0 zs) q ∙ K .numbers j (omega arith) ∙ ap (K .σ) (sym q)
-
-      same-cuts : (U : NodeSet) → cut U (areaEdges n edges₀ v ++ adds (named (take c (drop lo (pairs x y)))) (isOpen held) (take n (drop at (pairs x y))) (take (2 * n) v)) ≡ cut U (edgesIn nodes m L)
-      same-cuts U =
-          let a1 : take (10 * n) w₁ ≡ v = take-less (10 * n) s w w₁ (omega arith) (A .front) in
-          let a2 : take (2 * n) w₂ ≡ take (2 * n) v = take-less (2 * n) s w w₂ (omega arith) (B .edged .front ∙ A .front) ∙ sym (take-take (2 * n) (10 * n) w (omega arith)) in
-          cut-append U (areaEdges n edges₀ v) _
-          ∙ sym (ap (λ l. cut U (edgesIn nodes m l)) same-L ∙ C .more U ∙ ap₂ _+_ (B .same U ∙ ap (λ l. cut U (areaEdges n edges₀ l)) a1)
-          (ap (λ (l : List ℕ). cut U (adds (named (take c (drop lo (pairs x y)))) (isOpen held) (take n (drop at (pairs x y))) l)) a2))
-
-      graph-z : SmallGraph (edgesIn nodes m L) (firsts eqb (take (2 * c) (drop (2 * (lo - at)) (take (2 * n) v)))) (r .nodes) (areaEdges c e z) (K .ρ) (K .σ)
-      graph-z =
-          subst (λ (t : List ℕ). SmallGraph (edgesIn nodes m L) (firsts eqb t) (r .nodes) (areaEdges c e z) (K .ρ) (K .σ)) (sym T-v)
-          (subst (λ (H : List Edge). SmallGraph (edgesIn nodes m L) (firsts eqb T) (r .nodes) H (K .ρ) (K .σ)) (sym edges-z)
-          (subst (λ (S : List ℕ). SmallGraph (edgesIn nodes m L) S (r .nodes) (edgesOut e zs) (K .ρ) (K .σ)) list-L (definition-small _ _ _ _ _ _ (K .small))))
-
-      -- for a list of events, and the segments open before the part
-      made : (g : Timeline) → g .events ≡ pairs x y → isOpen held ≡ openBefore g lo
-          → (U : NodeSet) → cut U (areaEdges n edges₀ v ++ adds (named (during g (lo, c))) (openBefore g lo) (during g (at, n)) (take (2 * n) v)) ≡ cut U (edgesIn nodes m L)
-      unfolding during
-      made g q o U =
-          ap₂ (λ (l : List Event) (h : ℕ → Bool). cut U (areaEdges n edges₀ v ++ adds (named (take c (drop lo l))) h (take n (drop at l)) (take (2 * n) v))) q (sym o) ∙ same-cuts U
-
-      pub stepped : Stepped x y at n lo c nodes edges₀ w w₇ r
-      unfolding openBefore
-      stepped =
-          record {
-            front =
-                ap (take (10 * n)) e₇ ∙ take-sets (table (node 5 (drop s w₆)) 0 e) w₆ (10 * n + 6 * c) (10 * n) (omega arith) ∙ ap (take (10 * n)) e₆ ∙ take-sets (table (node 4 (drop s w₅)) 0 e) w₅ (10 * n + 2 * c) (10 * n) (omega arith)
-                ∙ ap (take (10 * n)) e₅ ∙ take-sets M w₄ (10 * n) (10 * n) (omega arith) ∙ take-less (10 * n) s w w₄ (omega arith) front-4;
-            made = λ g q sound a.
-                let o : isOpen held ≡ openBefore g lo = st .held-open ∙ ap (λ (l : List Event). afterAll (take lo l) atStart) (st .events ∙ sym q) in
-                let u : at + n ≤ size g = let p = pairs-length x y (at + n) (st .long-x) (st .long-y) in omega (arith, ap length q) in
-                step-made g at n lo c (st .starts) (st .ends) sound a u (edgesIn nodes m L) (made g q o) (r .nodes) e (K .ρ) (K .σ) z graph-z
-                (places ∙ map-ext (node 0 zs) (K .σ) T numbers ∙ ap (map (K .σ)) (sym T-v));
-          }

@@ -131,3 +131,22 @@ low-map b σ (a ∷ A) (suc i) f l = low-map b σ A i (λ x m. f x (List·Memᴰ
 
 pub front-get : (s j : ℕ) (w z : List ℕ) → take s z ≡ take s w → j < s → getD z j 0 ≡ getD w j 0
 front-get s j w z e l = sym (getD-take s z j 0 l) ∙ ap (λ k. getD k j 0) e ∙ getD-take s w j 0 l
+
+-- ---- words copied
+pub part-table : (w : List ℕ) (from count : ℕ) → from + count ≤ length w → take count (drop from w) ≡ table (λ j. getD w (from + j) 0) 0 count
+part-table w from count h = let z : from ≡ from + 0 = omega arith in ap (λ j. take count (drop j w)) z ∙ go count 0 (omega arith)
+  where
+    go : (count i : ℕ) → from + i + count ≤ length w → take count (drop (from + i) w) ≡ table (λ j. getD w (from + j) 0) i count
+    go zero i h = refl
+    go (suc k) i h =
+        let z : suc (from + i) ≡ from + suc i = omega arith in
+        ap (take (suc k)) (drop-cons w (from + i) 0 (omega arith)) ∙ ap (λ l. getD w (from + i) 0 ∷ l) (ap (λ j. take k (drop j w)) z ∙ go k (suc i) (omega arith))
+
+pub copy-step : (l w : List ℕ) (from q i : ℕ) → w ≡ sets l q (table (λ j. getD l (from + j) 0) 0 i) → from + i < q
+    → set w (q + i) (getD w (from + i) 0) ≡ sets l q (table (λ j. getD l (from + j) 0) 0 (i + 1))
+copy-step l w from q i e h =
+    let f : ℕ → ℕ = λ j. getD l (from + j) 0 in
+    ap (λ v. set v (q + i) (getD v (from + i) 0)) e ∙ fill-more f l q i _ (getD-sets-before (table f 0 i) l q (from + i) h)
+
+pub copy-length : (l : List ℕ) (from q i : ℕ) {w : List ℕ} → w ≡ sets l q (table (λ j. getD l (from + j) 0) 0 i) → length w ≡ length l
+copy-length l from q i e = fill-length l q (table (λ j. getD l (from + j) 0) 0 i) e

@@ -1,66 +1,82 @@
--- What stands in the work table for a window, and what a step and a window promise (docs/algorithm.md, "Windows").
--- The area of a window of n events is 10n words: for each event the nodes of its two junctions (2n words), the smaller ends of the edges (4n), the larger ends (4n).
--- The statements hold for every list of events without a fault whose events are those of the tables X and Y, so that the network's tables need not go through the recursion.
+-- What stands in the work table for a window, and what the step promises (docs/algorithm.md, "Windows").
+-- The area of a window of n events is 13 n words: for each event the nodes of its two junctions (2 n words) and its three words (3 n, theory_timeline's Tags),
+-- then the smaller ends of the edges (4 n) and the larger ends (4 n).
+-- The statements hold for every list of events without a fault whose windows stand in the words, so that no table goes through the recursion.
 -- Assumes nothing: these are definitions.
 use Prim.Native.Nat.{_*_, _+_, _<_, _≤_, ℕ}
-use mathlib.Core.Bool.{true}
 use mathlib.Core.List.{List, map}
 use mathlib.Core.Path.{_≡_}
-use lib.Dec.{ltb}
 use lib.ListN.{drop, length, take}
-use Rattle.core_reduce.specs.declared.Counts.{Counts}
 use Rattle.theory_graph.specs.Graph.{Edge}
 use Rattle.theory_graph.specs.Lists.{pairs}
-use Rattle.theory_graph.specs.SmallGraph.{Carries, IsSmallGraph, endsIn}
-use Rattle.call_open_set.specs.OpenSet.{isOpen}
-use Rattle.theory_timeline.specs.Events.{ends}
-use Rattle.theory_timeline.specs.Replay.{eventFault}
-use Rattle.theory_timeline.specs.Windows.{Timeline, Window, active, event, network, openBefore, size, small}
+use Rattle.theory_graph.specs.SmallGraph.{Carries, Renumbered, different, mostNodes}
+use Rattle.theory_timeline.specs.Steps.{Sound}
+use Rattle.theory_timeline.specs.Tags.{eventWords}
+use Rattle.theory_timeline.specs.Windows.{Timeline, active, network, size, small, stands}
+use Rattle.theory_timeline.specs.Windows as Windows
+use Rattle.replay_step.specs.declared.Window.{Window}
 
--- a list without a fault
-pub record Sound (g : Timeline) : Type 0 where
-  pub few : g .junctions ≤ 4096
-  pub segments-few : length (g .segments) ≤ 8192
-  pub ends : endsIn (λ v. ltb v (g .junctions)) (g .segments) ≡ true
-  pub events : (i : ℕ) → i < size g → eventFault (g .junctions) (length (g .segments)) (openBefore g i) (event g i) ≡ 0
+-- the window of a list that a struct speaks of
+abbrev pub span : Window → Windows.Window
+span w = (w .at, w .events)
 
 -- the edges of an area of n events
 abbrev pub areaEdges : ℕ → ℕ → List ℕ → List Edge
-areaEdges n m v = pairs (take m (drop (2 * n) v)) (take m (drop (6 * n) v))
+areaEdges n m v = pairs (take m (drop (5 * n) v)) (take m (drop (9 * n) v))
+
+-- the words v begin with the nodes at which the junctions of the window's events stand, and with the words of its events
+pub record EventsIn (g : Timeline) (w : Windows.Window) (σ : ℕ → ℕ) (v : List ℕ) : Type 0 where
+  pub places : take (2 * w .1) v ≡ map σ (active g w)
+  pub words : take (3 * w .1) (drop (2 * w .1) v) ≡ eventWords g (w .0) (w .1)
 
 -- the words v hold a graph that carries the window's network
-pub record Area (g : Timeline) (w : Window) (nodes edges : ℕ) (v : List ℕ) : Type 0 where
+pub record Area (g : Timeline) (w : Window) (v : List ℕ) : Type 0 where
   pub ρ : ℕ → ℕ
   pub σ : ℕ → ℕ
-  pub carries : Carries (network g w) (active g w) nodes (areaEdges (w .1) edges v) ρ σ
-  pub places : take (2 * w .1) v ≡ map σ (active g w)
-  pub few : edges ≤ 4 * w .1
+  pub carries : Carries (network g (span w)) (active g (span w)) (w .nodes) (areaEdges (w .events) (w .edges) v) ρ σ
+  pub events : EventsIn g (span w) σ v
+  pub few : w .edges ≤ 4 * w .events
 
--- the words v hold a small graph of the window: document 01's small graph, where only nodes without an active junction may be numbered otherwise
-pub record SmallArea (g : Timeline) (w : Window) (nodes edges : ℕ) (v : List ℕ) : Type 0 where
-  pub ρ : ℕ → ℕ
+-- The words v hold the window's small graph, where only nodes without an active junction may be numbered otherwise, their edges then being written and ordered by those numbers;
+-- and so it has at most 2k - 2 nodes for k active junctions (k where k is below 2).
+pub record SmallArea (g : Timeline) (w : Window) (v : List ℕ) : Type 0 where
   pub σ : ℕ → ℕ
-  pub small : IsSmallGraph (network g w) (active g w) nodes (areaEdges (w .1) edges v) ρ σ
-  pub places : take (2 * w .1) v ≡ map σ (active g w)
+  pub graph : Renumbered (active g (span w)) ((small g (span w)) .nodes) ((small g (span w)) .edges) (stands g (span w)) (w .nodes) (areaEdges (w .events) (w .edges) v) σ
+  pub bound : w .nodes ≤ mostNodes (different (active g (span w)))
+  pub events : EventsIn g (span w) σ v
 
--- ---- the step from a window of n events from `at` on, at the front of the words, to its part of c events from `lo` on
-pub record StepReady (x y : List ℕ) (at n lo c nodes edges : ℕ) (held work : List ℕ) : Type 0 where
+-- ---- the step from a window at the front of the words to its part of c events from `lo` on
+pub record StepReady (w : Window) (lo c : ℕ) (v : List ℕ) : Type 0 where
   pub g : Timeline
-  pub events : g .events ≡ pairs x y
   pub sound : Sound g
-  pub area : Area g (at, n) nodes edges (take (10 * n) work)
-  pub starts : at ≤ lo
-  pub ends : lo + c ≤ at + n
+  pub inside : w .at + w .events ≤ size g
+  pub area : Area g w (take (13 * w .events) v)
+  pub starts : w .at ≤ lo
+  pub ends : lo + c ≤ w .at + w .events
   pub some : 0 < c
-  pub long-x : at + n ≤ length x
-  pub long-y : at + n ≤ length y
-  pub held-open : isOpen held ≡ openBefore g lo
-  pub room : 10 * n + 10 * c + 16 * nodes + 4 * (edges + n) ≤ length work
-  pub many : nodes ≤ 65536
-  pub much : n ≤ 4096
+  pub room : 13 * w .events + 13 * c + 16 * w .nodes + 4 * (w .edges + w .events) ≤ length v
+  pub many : w .nodes ≤ 65536
+  pub much : w .at + w .events ≤ 4096
 
 -- the window's area stays, and the part's stands behind it
-pub record Stepped (x y : List ℕ) (at n lo c nodes edges : ℕ) (w z : List ℕ) (r : Counts) : Type 0 where
-  pub front : take (10 * n) z ≡ take (10 * n) w
-  pub made : (g : Timeline) → g .events ≡ pairs x y → Sound g → Area g (at, n) nodes edges (take (10 * n) w)
-      → SmallArea g (lo, c) (r .nodes) (r .edges) (take (10 * c) (drop (10 * n) z))
+pub record Stepped (w : Window) (lo c : ℕ) (v z : List ℕ) (r : Window) : Type 0 where
+  pub at : r .at ≡ lo
+  pub events : r .events ≡ c
+  pub front : take (13 * w .events) z ≡ take (13 * w .events) v
+  pub made : (g : Timeline) → Sound g → w .at + w .events ≤ size g → Area g w (take (13 * w .events) v) → SmallArea g r (take (13 * c) (drop (13 * w .events) z))
+
+-- ---- the whole list of t events over n junctions: the junctions themselves and the words of the events stand at the front
+pub record WholeReady (n t : ℕ) (v : List ℕ) : Type 0 where
+  pub g : Timeline
+  pub sound : Sound g
+  pub junctions : g .junctions ≡ n
+  pub all : size g ≡ t
+  pub events : EventsIn g (0, t) (λ a. a) (take (5 * t) v)
+  pub some : 0 < t
+  pub room : 18 * t + 16 * n ≤ length v
+  pub much : t ≤ 4096
+
+pub record WholeMade (n t : ℕ) (v z : List ℕ) (r : Window) : Type 0 where
+  pub at : r .at ≡ 0
+  pub events : r .events ≡ t
+  pub made : (g : Timeline) → Sound g → g .junctions ≡ n → size g ≡ t → EventsIn g (0, t) (λ a. a) (take (5 * t) v) → SmallArea g r (take (13 * t) (drop (5 * t) z))

@@ -1,19 +1,26 @@
--- What the pieces of a step do to the words: a front of s words that they only read, and the contraction's words behind it.
--- First the active nodes, then the edges of the window's graph, then the added segments. Assumes nothing: these are definitions.
-use Prim.Native.Nat.{_*_, _+_, _<_, _≤_, ℕ}
-use mathlib.Core.Bool.{Bool, _&&_, _||_, cond, false, not, true}
-use mathlib.Core.List.{List, [], _∷_}
+-- What the pieces of a step do to the words: a front that they only read, and the contraction's words behind it, from `scratch` on.
+-- First the active nodes, then the edges of the window's graph, then those of the events beside the part; then the part's area is written out of the contraction's result.
+-- Assumes nothing: these are definitions.
+use Prim.Native.Nat.{_*_, _+_, _-_, _<_, _≤_, ℕ}
+use mathlib.Core.Bool.{Bool}
+use mathlib.Core.List.{List, map}
 use mathlib.Core.Path.{_≡_}
 use lib.ListN.{drop, getD, length, take}
+use Rattle.core_loading.specs.Loading.{Entered}
 use Rattle.core_reduce.specs.Core.{edgesIn}
+use Rattle.core_words.specs.Fields.{half, node}
 use Rattle.theory_graph.specs.Cut.{cut}
 use Rattle.theory_graph.specs.Graph.{Edge, NodeSet}
-use Rattle.core_loading.specs.Loading.{Entered, PutEdge}
-use Rattle.replay_segments.specs.Sets.{NamesSegments, more}
-use Rattle.call_open_set.specs.OpenSet.{isOpen}
-use Rattle.replay_step.specs.Area.{areaEdges}
-use Rattle.theory_timeline.specs.Events.{Event, SegmentSet, closes, ends, opens}
-use Rattle.core_words.specs.Fields.{half, node}
+use Rattle.theory_graph.specs.SmallGraph.{IsSmallGraph}
+use Rattle.theory_timeline.specs.Tags.{adds, pickEvents}
+use Rattle.replay_step.specs.Area.{areaEdges, span}
+use Rattle.replay_step.specs.declared.Graph.{Graph}
+use Rattle.replay_step.specs.declared.Part.{Part}
+use Rattle.replay_step.specs.declared.Window.{Window}
+
+-- the contraction's words begin behind the part's area
+abbrev pub scratch : Part → ℕ
+scratch p = p .area + 13 * p .events
 
 -- ---- active nodes
 -- the nodes at the `count` words from `from` on, before s, are nodes of a graph that has n and whose words stand from s on
@@ -31,12 +38,12 @@ pub record Actives (from count s n : ℕ) (w z : List ℕ) (k : ℕ) : Type 0 wh
 -- ---- edges
 -- the m edges of an area of e events, before s, join nodes below n
 pub record EdgesReady (e m s n : ℕ) (w : List ℕ) : Type 0 where
-  pub front : 10 * e ≤ s
+  pub front : 13 * e ≤ s
   pub room : s + 16 * n + 4 * m ≤ length w
   pub few : m ≤ 4 * e
   pub much : e ≤ 4096
   pub many : n ≤ 65536
-  pub nodes : (j : ℕ) → j < m → (getD w (2 * e + j) 0 < n) × (getD w (6 * e + j) 0 < n)
+  pub nodes : (j : ℕ) → j < m → (getD w (5 * e + j) 0 < n) × (getD w (9 * e + j) 0 < n)
 
 -- m edges are loaded; the nodes' fields are as they were
 pub record Edged (s n m : ℕ) (w z : List ℕ) : Type 0 where
@@ -47,40 +54,76 @@ pub record Edged (s n m : ℕ) (w z : List ℕ) : Type 0 where
 -- those of an area of e events
 pub record Copied (e m s n : ℕ) (w z : List ℕ) : Type 0 where
   pub edged : Edged s n m w z
-  pub same : (U : NodeSet) → cut U (edgesIn n m (drop s z)) ≡ cut U (areaEdges e m (take (10 * e) w))
+  pub same : (U : NodeSet) → cut U (edgesIn n m (drop s z)) ≡ cut U (areaEdges e m (take (13 * e) w))
 
--- ---- added segments
--- m edges are loaded behind s, and the nodes of the e events from `at` on stand at the front
-pub record AddReady (x y : List ℕ) (at e s n m : ℕ) (w : List ℕ) : Type 0 where
-  pub front : 2 * e ≤ s
-  pub room : s + 16 * n + 4 * (m + e) ≤ length w
-  pub few : m ≤ 4 * e
-  pub much : e ≤ 4096
-  pub many : n ≤ 65536
-  pub long-x : at + e ≤ length x
-  pub long-y : at + e ≤ length y
-  pub nodes : (i : ℕ) → i < 2 * e → getD w i 0 < n
-  pub ends : (h : ℕ) → h < 2 * m → half n 0 (drop s w) h < n
-  pub segments : NamesSegments x y at e
+-- ---- the events beside the part
+-- event i of the window adds its key, and its two nodes, by the words of the area
+abbrev pub addsIn : Window → Part → List ℕ → ℕ → Bool
+addsIn w p v i = adds (span w) (p .at, p .events) (w .at + i) (getD v (2 * w .events + 3 * i) 0) (getD v (2 * w .events + 3 * i + 1) 0) (getD v (2 * w .events + 3 * i + 2) 0)
 
--- the event is added: it names a segment that is open and not seen
-abbrev pub isAdded : SegmentSet → SegmentSet → Event → Bool
-isAdded seen o e = (opens e || closes e) && (o (e .1) && not (seen (e .1)))
+abbrev pub placesIn : List ℕ → ℕ → Edge
+placesIn v i = (getD v (2 * i) 0, getD v (2 * i + 1) 0)
 
--- the edges that are added, going through the events with their two nodes each
-abbrev pub adds : SegmentSet → SegmentSet → List Event → List ℕ → List Edge
-adds seen o [] ps = []
-adds seen o (e ∷ evs) [] = []
-adds seen o (e ∷ evs) (u ∷ []) = []
-adds seen o (e ∷ evs) (u ∷ v ∷ ps) = cond (isAdded seen o e) ((u, v) ∷ adds (more seen (e .1)) o evs ps) (adds seen o evs ps)
+-- m edges are loaded, and the window's places and words stand before the contraction's words; the events from i up to j are to be added
+pub record AddReady (w : Window) (p : Part) (i j m : ℕ) (v : List ℕ) : Type 0 where
+  pub order : i ≤ j
+  pub inside : j ≤ w .events
+  pub much : w .at + w .events ≤ 4096
+  pub front : 5 * w .events ≤ scratch p
+  pub room : scratch p + 16 * w .nodes + 4 * (m + (j - i)) ≤ length v
+  pub few : m + (j - i) ≤ 32768
+  pub many : w .nodes ≤ 65536
+  pub nodes : (k : ℕ) → k < 2 * w .events → getD v k 0 < w .nodes
+  pub ends : (h : ℕ) → h < 2 * m → half (w .nodes) 0 (drop (scratch p) v) h < w .nodes
 
--- one event, whose junctions stand at a and b, on the contraction's words alone
-pub record AddedOne (x y a b : ℕ) (held seen seen′ : List ℕ) (n m : ℕ) (w z : List ℕ) (r : ℕ) : Type 0 where
-  pub long : length seen′ ≡ 128
-  pub put : isAdded (isOpen seen) (isOpen held) (x, y) ≡ true → (r ≡ m + 1) × (isOpen seen′ ≡ more (isOpen seen) y) × PutEdge n m a b w z
-  pub stays : isAdded (isOpen seen) (isOpen held) (x, y) ≡ false → (r ≡ m) × (isOpen seen′ ≡ isOpen seen) × (z ≡ w)
+pub record Added (w : Window) (p : Part) (i j m : ℕ) (v z : List ℕ) (r : ℕ) : Type 0 where
+  pub long : length z ≡ length v
+  pub edged : Edged (scratch p) (w .nodes) r v z
+  pub more : (U : NodeSet) → cut U (edgesIn (w .nodes) r (drop (scratch p) z)) ≡ cut U (edgesIn (w .nodes) m (drop (scratch p) v)) + cut U (pickEvents (addsIn w p v) (placesIn v) i (j - i))
+  pub most : r ≤ m + (j - i)
 
-pub record Added (seen o : SegmentSet) (evs : List Event) (e s n m : ℕ) (w z : List ℕ) (r : ℕ) : Type 0 where
-  pub edged : Edged s n r w z
-  pub more : (U : NodeSet) → cut U (edgesIn n r (drop s z)) ≡ cut U (edgesIn n m (drop s w)) + cut U (adds seen o evs (take (2 * e) w))
-  pub most : r ≤ m + e
+-- ---- the part's area
+-- A graph is loaded: its active nodes are those at the part's places, each once.
+pub record MakeReady (p : Part) (l : Graph) (w : List ℕ) : Type 0 where
+  pub places : p .places + 2 * p .events ≤ p .area
+  pub words : p .words + 3 * p .events ≤ p .area
+  pub room : scratch p + 16 * l .nodes + 4 * l .edges ≤ length w
+  pub much : p .events ≤ 4096
+  pub many : l .nodes ≤ 65536
+  pub few : l .edges ≤ 32768
+  pub nodes : (i : ℕ) → i < 2 * p .events → getD w (p .places + i) 0 < l .nodes
+  pub entered : Entered (l .nodes) (take (2 * p .events) (drop (p .places) w)) (l .active) (node 0 (drop (scratch p) w)) (node 1 (drop (scratch p) w))
+  pub ends : (h : ℕ) → h < 2 * l .edges → half (l .nodes) 0 (drop (scratch p) w) h < l .nodes
+
+-- It is contracted, and stands in the part's area with the part's events; before the area nothing changes.
+pub record AreaMade (p : Part) (l : Graph) (w z : List ℕ) (r : Window) : Type 0 where
+  pub at : r .at ≡ p .at
+  pub events : r .events ≡ p .events
+  pub front : take (p .area) z ≡ take (p .area) w
+  pub ρ : ℕ → ℕ
+  pub σ : ℕ → ℕ
+  pub small : IsSmallGraph (edgesIn (l .nodes) (l .edges) (drop (scratch p) w)) (take (2 * p .events) (drop (p .places) w)) (r .nodes)
+      (areaEdges (p .events) (r .edges) (take (13 * p .events) (drop (p .area) z))) ρ σ
+  pub places : take (2 * p .events) (take (13 * p .events) (drop (p .area) z)) ≡ map σ (take (2 * p .events) (drop (p .places) w))
+  pub words : take (3 * p .events) (drop (2 * p .events) (take (13 * p .events) (drop (p .area) z))) ≡ take (3 * p .events) (drop (p .words) w)
+
+-- ---- what is loaded
+-- where a step takes the part's places and words from, and where it puts the part's area
+pub record IsPart (w : Window) (p : Part) : Type 0 where
+  pub places : p .places ≡ 2 * (p .at - w .at)
+  pub words : p .words ≡ 2 * w .events + 3 * (p .at - w .at)
+  pub area : p .area ≡ 13 * w .events
+
+pub record PartLoaded (w : Window) (p : Part) (v z : List ℕ) (l : Graph) : Type 0 where
+  pub nodes : l .nodes ≡ w .nodes
+  pub front : take (scratch p) z ≡ take (scratch p) v
+  pub ready : MakeReady p l z
+  pub edges : (U : NodeSet) → cut U (edgesIn (l .nodes) (l .edges) (drop (scratch p) z))
+      ≡ cut U (areaEdges (w .events) (w .edges) (take (13 * w .events) v))
+      + (cut U (pickEvents (addsIn w p v) (placesIn v) 0 (p .at - w .at)) + cut U (pickEvents (addsIn w p v) (placesIn v) (p .at - w .at + p .events) (w .events - (p .at - w .at + p .events))))
+
+-- for the whole list: n junctions and no edge
+pub record WholeLoaded (n : ℕ) (p : Part) (v z : List ℕ) (l : Graph) : Type 0 where
+  pub nodes : l .nodes ≡ n
+  pub edges : l .edges ≡ 0
+  pub actives : Actives (p .places) (2 * p .events) (scratch p) n v z (l .active)

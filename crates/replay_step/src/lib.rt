@@ -1,73 +1,99 @@
-// The step: the small graph of a part of a window, out of the window's own.
-mod added;
+// The step: the small graph of a part of a window, out of the window's own; and the small graph of the whole list, out of the junctions.
+mod area;
+mod beside;
 mod load;
 
-ghost use mathlib.Core.Path.{_≡_};
-ghost use mathlib.Core.List.{map};
-ghost use Prim.Native.Nat.{ℕ, _+_, _*_, _<_, _≤_};
-ghost use lib.ListN.{length, getD, take, drop};
-ghost use lib.Seq.{sets};
-ghost use Rattle.theory_graph.specs.Lists.{table};
-ghost use Rattle.core_words.specs.Fields.{node};
-ghost use Rattle.replay_step.specs.Area.{StepReady, Stepped};
+ghost use Prim.Native.Nat.{_*_};
+ghost use Rattle.replay_step.specs.Area.{StepReady, Stepped, WholeMade, WholeReady};
+ghost use Rattle.replay_step.specs.Load.{ActiveReady, IsPart, PartLoaded, WholeLoaded, scratch};
 
-// Writes the new numbers of the nodes at the `count` words from `from` on, at q.
-fn put_map(work: &mut [u32], from: usize, count: usize, s: usize, q: usize, n: usize)
-    requires { ⌜ (from + count ≤ q) × (q + count ≤ s) × (s + 16 * n ≤ length (now work)) × ((i : ℕ) → i < count → getD (now work) (from + i) 0 < n) ⌝ }
-    ensures { λ _. ⌜ now (work .exit) ≡ sets (now (work .entry)) q (map (node 0 (drop s (now (work .entry)))) (take count (drop from (now (work .entry))))) ⌝ }
+// Internal: a window of a list by its first event and its number of events, with the nodes and the edges of the graph in its area.
+pub struct Window {
+    pub at: usize,
+    pub events: usize,
+    pub nodes: usize,
+    pub edges: usize,
+}
+
+// A part whose area is to be made: its first event and its number of events; where its places and the words of its events stand, and where its area begins.
+pub struct Part {
+    pub at: usize,
+    pub events: usize,
+    pub places: usize,
+    pub words: usize,
+    pub area: usize,
+}
+
+// A graph that is loaded behind a part's area: its nodes, its edges, and how many different active nodes it has.
+pub struct Graph {
+    pub nodes: usize,
+    pub edges: usize,
+    pub active: usize,
+}
+
+// Loads the window's graph with the edges that its part adds.
+fn load_part(w: Window, part: Part, work: &mut [u32]) -> Graph
+    requires { ⌜ StepReady w (part .at) (part .events) (now work) × IsPart w part ⌝ }
+    ensures { λ r. ⌜ PartLoaded w part (now (work .entry)) (now (work .exit)) r ⌝ }
 {
-    let mut i: usize = 0;
-    // The first i numbers are written; before and behind them nothing has changed.
-    while i < count {
-        let v = work[from + i] as usize;
-        let x = work[s + 16 * v];
-        work[q + i] = x;
-        i += 1;
+    let n = w.nodes;
+    let e = w.events;
+    let s = part.area + 13 * part.events;
+    let k = load::enter_places(work, part.places, 2 * part.events, s, n);
+    load::copy_edges(work, e, w.edges, s, n);
+    let a = part.at - w.at;
+    let m = beside::add_events(w, part, 0, a, work, w.edges);
+    let all = beside::add_events(w, part, a + part.events, e, work, m);
+    Graph {
+        nodes: n,
+        edges: all,
+        active: k,
     }
 }
 
-// Writes field k of the first m nodes, at q.
-fn put_field(work: &mut [u32], m: usize, k: usize, s: usize, q: usize)
-    requires { ⌜ (q + m ≤ s) × (k < 16) × (s + 16 * m ≤ length (now work)) ⌝ }
-    ensures { λ _. ⌜ now (work .exit) ≡ sets (now (work .entry)) q (table (node k (drop s (now (work .entry)))) 0 m) ⌝ }
+// Internal: the window has its area at the front of work; its part of c events from `lo` on gets its area behind that.
+pub fn step(w: Window, lo: usize, c: usize, work: &mut [u32]) -> Window
+    requires { ⌜ StepReady w lo c (now work) ⌝ }
+    ensures { λ r. ⌜ Stepped w lo c (now (work .entry)) (now (work .exit)) r ⌝ }
 {
-    let mut i: usize = 0;
-    // The field of the first i nodes is written.
-    while i < m {
-        let x = work[s + 16 * i + k];
-        work[q + i] = x;
-        i += 1;
+    let a = lo - w.at;
+    let part = Part {
+        at: lo,
+        events: c,
+        places: 2 * a,
+        words: 2 * w.events + 3 * a,
+        area: 13 * w.events,
+    };
+    let l = load_part(w, part, work);
+    area::make_area(part, l, work)
+}
+
+// Loads the n junctions, which no segment joins, with the junctions of all events as the active ones.
+fn load_whole(n: usize, part: Part, work: &mut [u32]) -> Graph
+    requires { ⌜ ActiveReady (part .places) (2 * part .events) (scratch part) n (now work) ⌝ }
+    ensures { λ r. ⌜ WholeLoaded n part (now (work .entry)) (now (work .exit)) r ⌝ }
+{
+    let s = part.area + 13 * part.events;
+    let k = load::enter_places(work, part.places, 2 * part.events, s, n);
+    Graph {
+        nodes: n,
+        edges: 0,
+        active: k,
     }
 }
 
-// Internal: the window of n events from `at` on has its area at the front of work; its part of c events from `lo` on gets its area behind that.
-pub fn step(
-    x: &[u16],
-    y: &[u16],
-    at: usize,
-    n: usize,
-    lo: usize,
-    c: usize,
-    nodes: usize,
-    edges: usize,
-    held: &[u64; 128],
-    work: &mut [u32],
-) -> core_reduce::Counts
-    requires { ⌜ StepReady (now x) (now y) at n lo c nodes edges (now held) (now work) × (length (now held) ≡ 128) ⌝ }
-    ensures { λ r. ⌜ Stepped (now (x .entry)) (now (y .entry)) at n lo c nodes edges (now (work .entry)) (now (work .exit)) r ⌝ }
+// Internal: the junctions and the words of t events stand at the front of work; the whole list gets its area behind them.
+pub fn whole(n: usize, t: usize, work: &mut [u32]) -> Window
+    requires { ⌜ WholeReady n t (now work) ⌝ }
+    ensures { λ r. ⌜ WholeMade n t (now (work .entry)) (now (work .exit)) r ⌝ }
 {
-    let q = 10 * n;
-    let s = q + 10 * c;
-    let from = 2 * (lo - at);
-    let count = 2 * c;
-    let k = load::load_active(work, from, count, s, nodes);
-    load::load_edges(work, n, edges, s, nodes);
-    let m = added::load_added(x, y, at, n, lo, c, held, work, s, nodes, edges);
-    let r = core_reduce::reduce(&mut work[s..], nodes, m, k);
-    let low = q + 2 * c;
-    let high = q + 6 * c;
-    put_map(work, from, count, s, q, nodes);
-    put_field(work, r.edges, 4, s, low);
-    put_field(work, r.edges, 5, s, high);
-    r
+    let part = Part {
+        at: 0,
+        events: t,
+        places: 0,
+        words: 2 * t,
+        area: 5 * t,
+    };
+    let l = load_whole(n, part, work);
+    area::make_area(part, l, work)
 }

@@ -21,7 +21,7 @@ pub(crate) fn enter_all(work: &mut [u32], from: usize, count: usize, s: usize, n
 }
 
 // Enters the nodes that stand at the `count` words from `from` on as the active ones.
-pub(crate) fn load_active(work: &mut [u32], from: usize, count: usize, s: usize, n: usize) -> usize
+pub(crate) fn enter_places(work: &mut [u32], from: usize, count: usize, s: usize, n: usize) -> usize
     requires { ⌜ ActiveReady from count s n (now work) ⌝ }
     ensures { λ r. ⌜ Actives from count s n (now (work .entry)) (now (work .exit)) r ⌝ }
 {
@@ -29,16 +29,16 @@ pub(crate) fn load_active(work: &mut [u32], from: usize, count: usize, s: usize,
     enter_all(work, from, count, s, n)
 }
 
-// Copies the m edges of an area of e events.
-pub(crate) fn load_edges(work: &mut [u32], e: usize, m: usize, s: usize, n: usize)
+// Copies the m edges of an area of e events into the words from s on.
+pub(crate) fn copy_edges(work: &mut [u32], e: usize, m: usize, s: usize, n: usize)
     requires { ⌜ EdgesReady e m s n (now work) ⌝ }
     ensures { λ _. ⌜ Copied e m s n (now (work .entry)) (now (work .exit)) ⌝ }
 {
     let mut j: usize = 0;
     // The first j edges are loaded; the front and the nodes' fields are as they were.
     while j < m {
-        let a = work[2 * e + j] as usize;
-        let b = work[6 * e + j] as usize;
+        let a = work[5 * e + j] as usize;
+        let b = work[9 * e + j] as usize;
         core_loading::put_edge(&mut work[s..], n, j, a, b);
         j += 1;
     }

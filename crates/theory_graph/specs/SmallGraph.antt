@@ -83,15 +83,19 @@ noEdge (e ∷ E) = false
 abbrev pub readOff : ℕ → List Edge → ℕ
 readOff h H = cond (eqb h 1) 2 (cond (noEdge H) 0 1)
 
--- The graph (h′, H′, σ′) is (h, H, σ) with each number i written as π i, where no active node's number changes; edges stay written smaller number first.
+-- The graph (h′, H′, σ′) is (h, H, σ) with each number i written as π i, where no active node's number changes; π⁻ takes the new numbers back.
+-- Its edges are written and ordered by the new numbers: smaller number first, ascending.
 pub record Renumbered (S : List ℕ) (h : ℕ) (H : List Edge) (σ : ℕ → ℕ) (h′ : ℕ) (H′ : List Edge) (σ′ : ℕ → ℕ) : Type 0 where
   pub nodes : h ≡ h′
   pub places : map σ S ≡ map σ′ S
   pub π : ℕ → ℕ
-  pub below : (i : ℕ) → i < h → π i < h′
-  pub once : (i j : ℕ) → i < h → j < h → π i ≡ π j → i ≡ j
+  pub π⁻ : ℕ → ℕ
+  pub below : (i : ℕ) → i < h → (π i < h′) × (π⁻ (π i) ≡ i)
+  pub back : (j : ℕ) → j < h′ → (π⁻ j < h) × (π (π⁻ j) ≡ j)
   pub active : (a : ℕ) → List·Memᴰ a S → π (σ a) ≡ σ a
   pub edge : (i j : ℕ) → i < j → j < h → List·Memᴰ (i, j) H ↔ List·Memᴰ (min (π i) (π j), max (π i) (π j)) H′
+  pub written : (i j : ℕ) → List·Memᴰ (i, j) H′ → (i < j) × (j < h′)
+  pub ascends : Ascends H′
 
 -- ---- graphs with the same small cuts
 infixl 60 _∘_

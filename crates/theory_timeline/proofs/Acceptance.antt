@@ -21,6 +21,7 @@ use Rattle.call_sizes.specs.Sizes.{sizeFaults}
 use Rattle.theory_timeline.specs.DemandThree.{Allowed}
 use Rattle.theory_timeline.specs.Events.{Event, SegmentSet, activeOf, asks, closes, ends, opens, pick}
 use Rattle.theory_timeline.specs.Replay.{Lent, eventFault, fault, faultAt, faults, given, listFaults, required, shareFaults, shortTables}
+use Rattle.theory_timeline.specs.Steps.{Sound}
 use Rattle.theory_timeline.specs.Windows.{Timeline, Window, active, during, event, openBefore, size}
 use Rattle.theory_timeline.specs.declared.Kind.{Kind}
 use Rattle.theory_timeline.specs.declared.Kind.the-variants.{Closes, Nothing, Opens, Query}
@@ -162,6 +163,17 @@ fine-good g s f =
     either : {a : ℕ} {o : SegmentSet} (e : Event) → Fine (g .junctions) (length (g .segments)) o e → (a ≡ ends (g .segments) e .0) ⊎ (a ≡ ends (g .segments) e .1) → a < g .junctions
     either {o} e f (inl q) = let (x, y) = fine-ends (g .junctions) (g .segments) o e s f in omega arith
     either {o} e f (inr q) = let (x, y) = fine-ends (g .junctions) (g .segments) o e s f in omega arith
+
+-- ---- a list without a fault
+pub sound-fine : (g : Timeline) → Sound g → (i : ℕ) → i < size g → Fine (g .junctions) (length (g .segments)) (openBefore g i) (event g i)
+sound-fine g s i l = fault-fine (g .junctions) (length (g .segments)) (openBefore g i) (event g i) (s .few) (s .events i l)
+
+pub sound-good : (g : Timeline) → Sound g → Good g
+sound-good g s = fine-good g (s .ends) (sound-fine g s)
+
+-- an event that opens or closes names a segment
+pub sound-segment : (g : Timeline) → Sound g → (i : ℕ) → i < size g → asks (event g i) ≡ false → event g i .1 < length (g .segments)
+sound-segment g s i l h = sound-fine g s i l .segment (not-false (opens (event g i) || closes (event g i)) h)
 
 -- ---- what an accepted replay was lent
 pub record Accepted (l : Lent) (p : ℕ) : Type 0 where

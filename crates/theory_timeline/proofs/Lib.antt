@@ -2,6 +2,7 @@ pub mod EventLaws
 pub mod WindowLaws
 pub mod Networks
 pub mod Acceptance
+pub mod TagLaws
 pub mod DemandThree
 pub mod Steps
 pub mod Leaves

@@ -36,8 +36,8 @@ module _ (g : Timeline) (good : Good g) (w : Window) (n : ℕ) (H : List Edge) (
   made-map = let (ρ, s) = made-small m in places-same (network g w) (active g w) n H ρ σ s _ _ _ _ (small-is g good w)
 
   -- and its edges, but for the numbers of nodes without an active junction
-  pub made-renumbered : Renumbered (active g w) n H σ ((small g w) .nodes) ((small g w) .edges) (stands g w)
-  made-renumbered = let (ρ, s) = made-small m in renumbered (network g w) (active g w) n H ρ σ s _ _ _ _ (small-is g good w)
+  pub made-renumbered : Renumbered (active g w) ((small g w) .nodes) ((small g w) .edges) (stands g w) n H σ
+  made-renumbered = let (ρ, s) = made-small m in renumbered (network g w) (active g w) _ _ _ _ (small-is g good w) n H ρ σ s
 
   pub made-bound : n ≤ mostNodes (different (active g w))
   made-bound = subst (λ (k : ℕ). k ≤ mostNodes (different (active g w))) (sym made-nodes) ((faithful g good w) .nodes)

@@ -1,12 +1,23 @@
 -- Steps down the windows: the graph of a part is made out of the graph that was made for the window above it.
 -- Assumes nothing: these are definitions.
-use Prim.Native.Nat.{_+_, _≤_, ℕ}
-use mathlib.Core.Bool.{_&&_, not}
+use Prim.Native.Nat.{_+_, _<_, _≤_, ℕ}
+use mathlib.Core.Bool.{_&&_, not, true}
 use mathlib.Core.List.{List, [], _++_, map}
+use mathlib.Core.Path.{_≡_}
+use lib.Dec.{ltb}
+use lib.ListN.{length}
 use Rattle.theory_graph.specs.Graph.{Edge}
-use Rattle.theory_graph.specs.SmallGraph.{IsSmallGraph, image}
+use Rattle.theory_graph.specs.SmallGraph.{IsSmallGraph, endsIn, image}
 use Rattle.theory_timeline.specs.Events.{after, named}
-use Rattle.theory_timeline.specs.Windows.{Timeline, Window, active, during, edgesOf, openBefore, size}
+use Rattle.theory_timeline.specs.Replay.{eventFault}
+use Rattle.theory_timeline.specs.Windows.{Timeline, Window, active, during, edgesOf, event, openBefore, size}
+
+-- a list without a fault
+pub record Sound (g : Timeline) : Type 0 where
+  pub few : g .junctions ≤ 4096
+  pub segments-few : length (g .segments) ≤ 8192
+  pub ends : endsIn (λ v. ltb v (g .junctions)) (g .segments) ≡ true
+  pub events : (i : ℕ) → i < size g → eventFault (g .junctions) (length (g .segments)) (openBefore g i) (event g i) ≡ 0
 
 -- c lies in w
 pub record Part (w c : Window) : Type 0 where

@@ -2,8 +2,8 @@
 use Prim.Native.Nat.{_-_}
 use native.Mathlib.Omega.{arith}
 use Rattle.replay_step.proofs.EdgeLaws.{Copying, copied, copying-ends, copying-more, copying-need, copying-none}
-use Rattle.replay_step.proofs.load.load_edges.Statement.{statement}
-use Rattle.replay_step.proofs.load.load_edges.Tie as tie
+use Rattle.replay_step.proofs.load.copy_edges.Statement.{statement}
+use Rattle.replay_step.proofs.load.copy_edges.Tie as tie
 
 abbrev Inv-loop : tie.InvT-loop
 Inv-loop work₀ e m s n j₀ work j = Copying e m s n work₀ work j
@@ -74,8 +74,8 @@ same-length c = c .before .loop .inv .long
 returns : tie.Need-returns Inv-loop μ-loop
 returns c = copied (c .before .loop .inv) (omega (arith, c .before .loop .inv .low))
 
-pub load-edges-spec : {M : Type 1} → statement M
-load-edges-spec =
+pub copy-edges-spec : {M : Type 1} → statement M
+copy-edges-spec =
     tie.close
     (tie.spec
     Inv-loop

@@ -4,8 +4,8 @@ use lib.ListN.{length-drop, length-take}
 use native.Mathlib.Omega.{arith}
 use borrow.Author.Needs.{needs}
 use Rattle.replay_step.proofs.EnterLaws.{after-clear, clear-need}
-use Rattle.replay_step.proofs.load.load_active.Statement.{statement}
-use Rattle.replay_step.proofs.load.load_active.Tie as tie
+use Rattle.replay_step.proofs.load.enter_places.Statement.{statement}
+use Rattle.replay_step.proofs.load.enter_places.Tie as tie
 
 mul-clear-marks : tie.Need-mul-clear-marks
 mul-clear-marks c = search needs
@@ -31,8 +31,8 @@ same-length c = search needs
 returns : tie.Need-returns
 returns c = after-clear (c .before .before .before .before .before .before .before .before .before .args .work .now) (c .before .before .before .before .before .before .clear-marks .last .0) (omega arith) (omega arith) (c .before .before .before .before .before .before .before .before .before .pre .front) (c .before .before .enter-all .ensures)
 
-pub load-active-spec : {M : Type 1} → statement M
-load-active-spec =
+pub enter-places-spec : {M : Type 1} → statement M
+enter-places-spec =
     tie.close
     (tie.spec
     mul-clear-marks

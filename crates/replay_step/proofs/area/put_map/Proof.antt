@@ -6,9 +6,9 @@ use lib.Seq.{sets}
 use native.Mathlib.Omega.{arith}
 use Rattle.theory_graph.specs.Lists.{table}
 use Rattle.replay_step.proofs.WordLaws.{fill-length, map-step, map-table}
-use Rattle.replay_step.proofs.put_map.Statement.{statement}
+use Rattle.replay_step.proofs.area.put_map.Statement.{statement}
 use Rattle.core_words.specs.Fields.{node}
-use Rattle.replay_step.proofs.put_map.Tie as tie
+use Rattle.replay_step.proofs.area.put_map.Tie as tie
 
 abbrev Inv-loop : tie.InvT-loop
 Inv-loop work₀ from count s q n i₀ work i = (i ≤ count) × (work ≡ sets work₀ q (table (λ k. node 0 (drop s work₀) (getD work₀ (from + k) 0)) 0 i))

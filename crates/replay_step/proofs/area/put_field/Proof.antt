@@ -7,9 +7,9 @@ use native.Mathlib.Omega.{arith}
 use borrow.Author.Needs.{needs}
 use Rattle.theory_graph.specs.Lists.{table}
 use Rattle.replay_step.proofs.WordLaws.{fill-length, fill-step}
-use Rattle.replay_step.proofs.put_field.Statement.{statement}
+use Rattle.replay_step.proofs.area.put_field.Statement.{statement}
 use Rattle.core_words.specs.Fields.{node}
-use Rattle.replay_step.proofs.put_field.Tie as tie
+use Rattle.replay_step.proofs.area.put_field.Tie as tie
 
 abbrev Inv-loop : tie.InvT-loop
 Inv-loop work₀ m k s q i₀ work i = (i ≤ m) × (work ≡ sets work₀ q (table (node k (drop s work₀)) 0 i))
