@@ -139,7 +139,7 @@ module _ {w : Window} {p : Part} {i j m : ℕ} {v : List ℕ} (q : AddReady w p 
               let c1 = ap (λ (n : ℕ). cut U (pickEvents (addsIn w p z) (placesIn z) e n)) n1 in
               let c2 = ap (cut U) (beside-same w p v z front-is e 1 (omega (arith, q .inside))) in
               let c3 = ap (λ (n : ℕ). cut U (pickEvents (addsIn w p v) (placesIn v) i n)) n2 ∙ pick-snoc U (addsIn w p v) (placesIn v) i (e - i)
-                  ∙ ap (λ (n : ℕ). cut U (pickEvents (addsIn w p v) (placesIn v) i (e - i)) + cut U (pickEvents (addsIn w p v) (placesIn v) n 1)) n3 in
+              ∙ ap (λ (n : ℕ). cut U (pickEvents (addsIn w p v) (placesIn v) i (e - i)) + cut U (pickEvents (addsIn w p v) (placesIn v) n 1)) n3 in
               omega (arith, b .more U, a .more U, c1, c2, c3);
           most = omega (arith, a .most, b .most);
         }

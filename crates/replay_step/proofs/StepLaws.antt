@@ -332,7 +332,7 @@ module _ {w : Window} {p : Part} {v : List ℕ} (st : StepReady w (p .at) (p .ev
         let f = addsEvent g (span w) (p .at, c) in
         let b1 = beside U 0 B (omega arith) ∙ ap (λ (k : ℕ). cut U (image (a .σ) (pickEvents f (endsAt g) k B))) z0 ∙ cut-image U (a .σ) (pickEvents f (endsAt g) (w .at) B) in
         let b2 = beside U (B + c) (w .events - (B + c)) (omega arith) ∙ ap₂ (λ (k n : ℕ). cut U (image (a .σ) (pickEvents f (endsAt g) k n))) z1 z2
-            ∙ cut-image U (a .σ) (pickEvents f (endsAt g) (p .at + c) (w .at + w .events - (p .at + c))) in
+        ∙ cut-image U (a .σ) (pickEvents f (endsAt g) (p .at + c) (w .at + w .events - (p .at + c))) in
         let e = events-added g (span w) (p .at, c) part inside (sound-segment g sound) (λ k. U (a .σ k)) in
         omega (
           arith,

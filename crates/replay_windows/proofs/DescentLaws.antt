@@ -1,59 +1,42 @@
 -- The recursion over windows: what a window's area says of its counts, how a step and the two parts join to a window, and a window of one event.
--- In order: lists of events; the counts of an area; the windows of a share; what a step and a part need; a window of two parts; a window of one event.
+-- In order: the counts of an area; the windows of a share; what a step and a part need; a window of two parts; a window of one event.
 -- Assumes nothing.
 use Prim.Native.Nat.{_*_, _+_, _-_, _<_, _≤_, suc, zero, ℕ}
-use mathlib.Core.Bool.{_&&_, _||_, cond, false, not, true}
+use mathlib.Core.Bool.{_||_, cond, false, not, true}
 use mathlib.Core.List.{List, [], _++_, _∷_, map}
-use mathlib.Core.Path.{_∙_, _≡_, ap, ap₂, fun-ext, sym}
+use mathlib.Core.Path.{_∙_, _≡_, ap, ap₂, refl, subst, sym}
 use lib.Dec.{eqb, ltb}
 use lib.ListN.{drop, getD, length, length-drop, length-take, set, take}
-use lib.Seq.{sets, take-suc, take-take}
+use lib.Seq.{getD-drop, getD-take, sets, take-take}
 use native.Mathlib.Nat.{mul-le-mul-left}
-use native.Mathlib.Numerals.{add-one}
 use native.Mathlib.Omega.{arith}
-use borrow.Author.Tests.{eq-eqb, ltb-false, ltb-true, ne-eqb}
-use Rattle.core_reduce.specs.declared.Counts.{Counts}
-use Rattle.theory_graph.proofs.Booleans.{onBool}
+use borrow.Author.Tests.{eq-eqb, ltb-false, ltb-true, ne-eqb, not-false, not-true}
+use borrow.Rule.Slice.PartMut.{putMid, take-put}
+use Rattle.theory_graph.proofs.Booleans.{contradict, onBool}
 use Rattle.theory_graph.proofs.EdgeCount.{firsts-most, small-edges, small-edges-most}
-use Rattle.theory_graph.proofs.SmallGraphDefinition.{definition-small}
+use Rattle.theory_graph.proofs.Renumbering.{renumbered-small}
 use Rattle.theory_graph.proofs.SmallGraphs.{SmallGraph}
+use Rattle.theory_graph.proofs.TableLaws.{pairs-length}
 use Rattle.theory_graph.proofs.Transfer.{small-carries}
-use Rattle.theory_graph.proofs.Uniqueness.{nodes-same, small-bound}
 use Rattle.theory_graph.specs.Graph.{Edge, answer}
-use Rattle.theory_graph.specs.Lists.{pairs, sum, table}
+use Rattle.theory_graph.specs.Lists.{sum, table}
 use Rattle.theory_graph.specs.SmallGraph.{different, mostNodes, noEdge}
-use Rattle.call_open_set.specs.OpenSet.{isOpen}
-use Rattle.theory_timeline.proofs.Acceptance.{Good, fine-good, length-pairs}
+use Rattle.theory_timeline.proofs.Acceptance.{length-pairs, sound-good}
 use Rattle.theory_timeline.proofs.DemandThree.{small-is}
 use Rattle.theory_timeline.proofs.Leaves.{alone, during-one}
-use Rattle.theory_timeline.proofs.Networks.{after-append}
-use Rattle.replay_step.proofs.StepLaws.{active-length, sound-fine}
+use Rattle.theory_timeline.proofs.TagLaws.{tag-says, word-change, word-query, words-at}
 use Rattle.theory_timeline.proofs.WindowLaws.{large-one, small-one}
-use Rattle.theory_graph.proofs.TableLaws.{pairs-at, pairs-length}
-use Rattle.replay_step.proofs.WordLaws.{sets-two}
-use Rattle.replay_step.specs.Area.{Area, SmallArea, Sound, StepReady, Stepped, areaEdges}
-use Rattle.replay_windows.specs.Descent.{OneDone, WindowDone, WindowReady}
 use Rattle.theory_timeline.specs.DemandThree.{Allowed}
-use Rattle.theory_timeline.specs.Events.{Event, after, afterAll, closes, opens}
+use Rattle.theory_timeline.specs.Events.{asks, closes, opens}
 use Rattle.theory_timeline.specs.Replay.{byte}
-use Rattle.theory_timeline.specs.Windows.{Timeline, Window, active, atStart, during, edgesOf, event, firstPart, network, openBefore, size, small, windowsFrom}
-use Rattle.replay_windows.specs.declared.Sum.{Sum}
-
--- ---- lists of events
-pub sound-good : (g : Timeline) → Sound g → Good g
-sound-good g s = fine-good g (s .ends) (sound-fine g s)
-
--- the open segments depend on the events alone
-pub open-same : (g h : Timeline) → g .events ≡ h .events → (i : ℕ) → openBefore g i ≡ openBefore h i
-unfolding openBefore
-open-same g h e i = ap (λ (l : List Event). afterAll (take i l) atStart) e
-
--- after one event more
-pub open-one : (g : Timeline) (i : ℕ) → i < size g → openBefore g (i + 1) ≡ after (event g i) (openBefore g i)
-unfolding openBefore
-open-one g i l =
-    ap (λ (l : List Event). afterAll l atStart) (ap (λ k. take k (g .events)) (add-one i) ∙ take-suc (g .events) i (0, 0) l)
-    ∙ sym (after-append (take i (g .events)) (event g i ∷ []) atStart)
+use Rattle.theory_timeline.specs.Steps.{Sound}
+use Rattle.theory_timeline.specs.Tags.{eventWords, tag, word}
+use Rattle.theory_timeline.specs.Windows.{Timeline, Window, active, during, edgesOf, event, firstPart, network, openBefore, size, small, windowsFrom}
+use Rattle.replay_step.proofs.StepLaws.{active-length}
+use Rattle.replay_step.proofs.WordLaws.{sets-two}
+use Rattle.replay_step.specs.Area.{Area, SmallArea, StepReady, Stepped, areaEdges, span}
+use Rattle.replay_step.specs.declared.Window as W
+use Rattle.replay_windows.specs.Descent.{OneDone, WindowDone, WindowReady}
 
 -- ---- the counts of an area
 most-less : (k n : ℕ) → k ≤ 2 * n → 0 < n → mostNodes k + 2 ≤ 4 * n
@@ -63,44 +46,42 @@ active-short : (g : Timeline) (at n : ℕ) → length (active g (at, n)) ≤ 2 *
 unfolding active during
 active-short g at n = omega (arith, active-length (g .segments) (take n (drop at (g .events))), length-take n (drop at (g .events)))
 
-module _ {g : Timeline} {at n nodes edges : ℕ} {v : List ℕ} (a : SmallArea g (at, n) nodes edges v) (some : 0 < n) where
-  graph : SmallGraph (network g (at, n)) (active g (at, n)) nodes (areaEdges n edges v) (a .ρ) (a .σ)
-  graph = definition-small _ _ _ _ _ _ (a .small)
-
-  nodes-less : nodes + 2 ≤ 4 * n
+module _ {g : Timeline} {w : W.Window} {v : List ℕ} (a : SmallArea g w v) (some : 0 < w .events) where
+  nodes-less : w .nodes + 2 ≤ 4 * w .events
   nodes-less =
-      let b = small-bound _ _ _ _ _ _ graph in
-      let f = firsts-most eqb (active g (at, n)) in
-      omega (arith, most-less (different (active g (at, n))) n (omega (arith, active-short g at n)) some)
+      let f = firsts-most eqb (active g (span w)) in
+      omega (arith, a .bound, most-less (different (active g (span w))) (w .events) (omega (arith, active-short g (w .at) (w .events))) some)
 
-  pub area-nodes : nodes ≤ 4 * n
+  pub area-nodes : w .nodes ≤ 4 * w .events
   area-nodes = omega (arith, nodes-less)
 
-  edges-less : length (areaEdges n edges v) < 4 * n
-  edges-less =
-      onBool (ltb 0 nodes) (λ t. omega (arith, small-edges _ _ _ _ _ _ graph (ltb-true 0 nodes t), nodes-less)) (λ t. omega (arith, small-edges-most _ _ _ _ _ _ graph, ltb-false 0 nodes t))
+  pub area-small : w .nodes ≡ (small g (span w)) .nodes
+  area-small = sym (a .graph .nodes)
 
-  pub area-edges : 10 * n ≤ length v → edges ≤ 4 * n
-  area-edges l =
-      onBool (ltb (4 * n) edges)
-      (λ t. absurd (omega (
-        arith,
-        ltb-true (4 * n) edges t,
-        edges-less,
-        pairs-length (take edges (drop (2 * n) v)) (take edges (drop (6 * n) v)) (4 * n) (rw (length-take, length-drop) (omega (arith, ltb-true (4 * n) edges t))) (rw (length-take, length-drop) (omega (arith, ltb-true (4 * n) edges t))),
-      )))
-      (λ t. ltb-false (4 * n) edges t)
+  module _ (sound : Sound g) (l : 13 * w .events ≤ length v) where
+    graph : (ρ : ℕ → ℕ) × SmallGraph (network g (span w)) (active g (span w)) (w .nodes) (areaEdges (w .events) (w .edges) v) ρ (a .σ)
+    graph = (_, renumbered-small (small-is g (sound-good g sound) (span w)) (a .graph))
 
-  pub area-count : 10 * n ≤ length v → length (areaEdges n edges v) ≡ edges
-  area-count l =
-      let f = area-edges l in
-      length-pairs edges (drop (2 * n) v) (drop (6 * n) v) (rw length-drop (omega arith)) (rw length-drop (omega arith))
+    edges-less : length (areaEdges (w .events) (w .edges) v) < 4 * w .events
+    edges-less = onBool (ltb 0 (w .nodes))
+        (λ t. omega (arith, small-edges _ _ _ _ _ _ (graph .1) (ltb-true 0 (w .nodes) t), nodes-less))
+        (λ t. omega (arith, small-edges-most _ _ _ _ _ _ (graph .1), ltb-false 0 (w .nodes) t))
 
-  pub area-of : 10 * n ≤ length v → Area g (at, n) nodes edges v
-  area-of l = record { ρ = a .ρ; σ = a .σ; carries = small-carries _ _ _ _ _ _ graph; places = a .places; few = area-edges l }
+    area-edges : w .edges ≤ 4 * w .events
+    area-edges = onBool (ltb (4 * w .events) (w .edges))
+        (λ t. let u = ltb-true (4 * w .events) (w .edges) t in
+        let x : 4 * w .events ≤ length (take (w .edges) (drop (5 * w .events) v)) = rw (length-take, length-drop) (omega arith) in
+        let y : 4 * w .events ≤ length (take (w .edges) (drop (9 * w .events) v)) = rw (length-take, length-drop) (omega arith) in
+        absurd (omega (arith, edges-less, pairs-length (take (w .edges) (drop (5 * w .events) v)) (take (w .edges) (drop (9 * w .events) v)) (4 * w .events) x y)))
+        (λ t. ltb-false (4 * w .events) (w .edges) t)
 
-  pub area-small : Sound g → nodes ≡ (small g (at, n)) .nodes
-  area-small s = nodes-same (network g (at, n)) (active g (at, n)) _ _ _ _ graph _ _ _ _ (small-is g (sound-good g s) (at, n))
+    pub area-count : length (areaEdges (w .events) (w .edges) v) ≡ w .edges
+    area-count =
+        let f = area-edges in
+        length-pairs (w .edges) (drop (5 * w .events) v) (drop (9 * w .events) v) (rw length-drop (omega arith)) (rw length-drop (omega arith))
+
+    pub area-of : Area g w v
+    area-of = record { ρ = graph .0; σ = a .σ; carries = small-carries _ _ _ _ _ _ (graph .1); events = a .events; few = area-edges }
 
 -- ---- the windows of a share
 pub record Shares (n c : ℕ) : Type 0 where
@@ -153,159 +134,158 @@ module _ (p : ℕ) (a : Allowed p) where
 pub lent-take : (k j : ℕ) (z : List ℕ) → k + j ≤ length z → take j (take (length z - k) (drop k z)) ≡ take j (drop k z)
 lent-take k j z l = take-take j (length z - k) (drop k z) (omega arith)
 
-module _ {x y : List ℕ} {at n p nodes edges : ℕ} {held answers w : List ℕ} (r : WindowReady x y at n p nodes edges held answers w) where
-  long : 10 * n ≤ length (take (10 * n) w)
+module _ {w : W.Window} {p : ℕ} {answers v : List ℕ} (r : WindowReady w p answers v) where
+  abbrev n : ℕ
+  n = w .events
+
+  long : 13 * n ≤ length (take (13 * n) v)
   long = rw length-take (omega (arith, r .room))
 
-  own : Area (r .g) (at, n) nodes edges (take (10 * n) w)
-  own = area-of (r .area) (r .some) long
+  own : (g : Timeline) → Sound g → SmallArea g w (take (13 * n) v) → Area g w (take (13 * n) v)
+  own g sound a = area-of a (r .some) sound long
 
-  pub step-ready : (lo c : ℕ) (held′ z : List ℕ) → at ≤ lo → lo + c ≤ at + n → 0 < c → isOpen held′ ≡ openBefore (r .g) lo → length z ≡ length w → take (10 * n) z ≡ take (10 * n) w
-      → StepReady x y at n lo c nodes edges held′ z
-  step-ready lo c held′ z a b s o e f =
+  pub step-ready : (lo c : ℕ) (z : List ℕ) → w .at ≤ lo → lo + c ≤ w .at + n → 0 < c → length z ≡ length v → take (13 * n) z ≡ take (13 * n) v → StepReady w lo c z
+  step-ready lo c z a b s e f =
+      let o = own (r .g) (r .sound) (r .area) in
       record {
         g = r .g;
-        events = r .events;
         sound = r .sound;
-        area = rw f own;
+        inside = r .inside;
+        area = rw f o;
         starts = a;
         ends = b;
         some = s;
-        long-x = r .long-x;
-        long-y = r .long-y;
-        held-open = o;
-        room = omega (arith, r .room, area-nodes (r .area) (r .some), own .few);
+        room = omega (arith, r .room, area-nodes (r .area) (r .some), o .few);
         many = omega (arith, r .much, area-nodes (r .area) (r .some));
         much = r .much;
       }
 
-  pub part-ready : (lo c : ℕ) (held′ answers′ w′ z : List ℕ) (k : Counts) → at ≤ lo → lo + c ≤ at + n → 0 < c → 11 * c ≤ 10 * n → isOpen held′ ≡ openBefore (r .g) lo
-      → length answers′ ≡ length answers → length z ≡ length w → take (10 * n) w′ ≡ take (10 * n) w → Stepped x y at n lo c nodes edges w′ z k
-      → WindowReady x y lo c p (k .nodes) (k .edges) held′ answers′ (take (length z - 10 * n) (drop (10 * n) z))
-  part-ready lo c held′ answers′ w′ z k a b s i o e f g t =
-      record {
-        g = r .g;
-        events = r .events;
-        sound = r .sound;
-        area = rw (lent-take (10 * n) (10 * c) z (omega (arith, r .room))) (t .made (r .g) (r .events) (r .sound) (rw g own));
-        some = s;
-        much = omega (arith, r .much);
-        share = r .share;
-        long-x = omega (arith, r .long-x);
-        long-y = omega (arith, r .long-y);
-        long-answers = omega (arith, r .long-answers);
-        held-open = o;
-        room = rw (length-take, length-drop) (omega (arith, r .room));
-      }
+  -- what a step leaves for the part, in the words that are lent on
+  module _ {lo c : ℕ} {y z : List ℕ} {k : W.Window} (t : Stepped w lo c y z k) (f : take (13 * n) y ≡ take (13 * n) v) (e : length z ≡ length v) (b : lo + c ≤ w .at + n) (lo-ok : w .at ≤ lo) where
+    part-area : (g : Timeline) → Sound g → w .at + n ≤ size g → SmallArea g w (take (13 * n) v) → SmallArea g k (take (13 * k .events) (take (length z - 13 * n) (drop (13 * n) z)))
+    part-area g sound i a =
+        let x : 13 * n + 13 * k .events ≤ length z = omega (arith, r .room, t .events) in
+        let h : take (13 * c) (drop (13 * n) z) ≡ take (13 * k .events) (take (length z - 13 * n) (drop (13 * n) z)) =
+        ap (λ (m : ℕ). take (13 * m) (drop (13 * n) z)) (sym (t .events)) ∙ sym (lent-take (13 * n) (13 * k .events) z x) in
+        subst (λ (v : List ℕ). SmallArea g k v) h (t .made g sound i (rw f (own g sound a)))
 
-  -- the first part: what it hands on is open before the second
-  pub first-open : (c : ℕ) (w₁ mid : List ℕ) {k : Counts} {b : Sum} → c ≤ n → length w₁ ≡ length w → Stepped x y at n at c nodes edges w w₁ k
-      → WindowDone x y at c p (k .nodes) (k .edges) (take (10 * c) (take (length w₁ - 10 * n) (drop (10 * n) w₁))) answers mid b → isOpen (b .held) ≡ openBefore (r .g) (at + c)
-  first-open c w₁ mid l e t d =
-      d .replied (r .g) (r .events) (r .sound) (rw (lent-take (10 * n) (10 * c) w₁ (omega (arith, r .room))) (t .made (r .g) (r .events) (r .sound) own)) .held-open
+    pub part-ready : (answers′ : List ℕ) → length answers′ ≡ length answers → 0 < c → 11 * c ≤ 10 * n → WindowReady k p answers′ (take (length z - 13 * n) (drop (13 * n) z))
+    part-ready answers′ l s h = record {
+      g = r .g;
+      sound = r .sound;
+      inside = omega (arith, r .inside, t .at, t .events);
+      area = part-area (r .g) (r .sound) (r .inside) (r .area);
+      some = omega (arith, t .events);
+      much = omega (arith, r .much, t .at, t .events);
+      share = r .share;
+      long = omega (arith, r .long, t .at, t .events);
+      room = rw (length-take, length-drop) (omega (arith, r .room, t .events));
+    }
 
   -- ---- a window of two parts
-  pub done-two : 2 ≤ n → {w₁ w₂ w₃ mid last : List ℕ} {a d : Counts} {b e : Sum} (c : ℕ) → c ≡ firstPart p n
-      → take (10 * n) w₂ ≡ take (10 * n) w → 10 * n + 10 * c ≤ length w₁ → 10 * n + 10 * (n - c) ≤ length w₃
-      → Stepped x y at n at c nodes edges w w₁ a
-      → WindowDone x y at c p (a .nodes) (a .edges) (take (10 * c) (take (length w₁ - 10 * n) (drop (10 * n) w₁))) answers mid b
-      → Stepped x y at n (at + c) (n - c) nodes edges w₂ w₃ d
-      → WindowDone x y (at + c) (n - c) p (d .nodes) (d .edges) (take (10 * (n - c)) (take (length w₃ - 10 * n) (drop (10 * n) w₃))) mid last e
-      → WindowDone x y at n p nodes edges (take (10 * n) w) answers last (record { held = e .held; kept = nodes + b .kept + e .kept })
-  done-two l {w₁} {w₂} {w₃} {mid} {last} {a} {d} {b} {e} c q f l₁ l₃ s i t j =
-      let sh = shares p n l (r .share) in
-      let cn : c ≤ n = rw q (omega arith) in
-      let k : at + c + (n - c) ≡ at + n = omega arith in
-      record {
-        few = omega (arith, area-nodes (r .area) (r .some), i .few, j .few);
-        replied = λ g h o z.
-            let A = area-of z (r .some) long in
-            let u = i .replied g h o (rw (lent-take (10 * n) (10 * c) w₁ l₁) (s .made g h o A)) in
-            let v = j .replied g h o (rw (lent-take (10 * n) (10 * (n - c)) w₃ l₃) (t .made g h o (rw f A))) in
-            record {
-              answers = v .answers ∙ ap (λ m. sets m (at + c) (table (byte g) (at + c) (n - c))) (u .answers) ∙ sym (sets-two (byte g) answers at n c cn);
-              kept = ap₂ (λ (a b : ℕ). a + b) (ap₂ (λ (a b : ℕ). a + b) (area-small z (r .some) o) (u .kept)) (v .kept) ∙ sym (sum-two p (r .share) (λ w. (small g w) .nodes) at n c l q);
-              held-open = v .held-open ∙ ap (openBefore g) k;
-            };
-      }
+  module _ (two : 2 ≤ n) {c : ℕ} (q : c ≡ firstPart p n) {w₁ : List ℕ} {a : W.Window} (s : Stepped w (w .at) c v w₁ a) (l₁ : length w₁ ≡ length v) where
+    pub first-ready : (a .events < n) × WindowReady a p answers (take (length w₁ - 13 * n) (drop (13 * n) w₁))
+    first-ready =
+        let sh = shares p n two (r .share) in
+        let cn : (c < n) × (0 < c) × (11 * c ≤ 10 * n) = rw q (omega arith, omega arith, sh .first) in
+        (omega (arith, s .events), part-ready s refl l₁ (omega arith) (omega arith) answers refl (cn .1) (cn .2))
 
-  pub second-ready : 2 ≤ n → (t c : ℕ) → n ≡ t → c ≡ firstPart p n → (held′ answers′ w′ z : List ℕ) (k : Counts) → isOpen held′ ≡ openBefore (r .g) (at + c)
-      → length answers′ ≡ length answers → length z ≡ length w → take (10 * n) w′ ≡ take (10 * n) w → Stepped x y at n (at + c) (n - c) nodes edges w′ z k
-      → (n - c < t) × WindowReady x y (at + c) (n - c) p (k .nodes) (k .edges) held′ answers′ (take (length z - 10 * n) (drop (10 * n) z))
-  second-ready l t c m q held′ answers′ w′ z k o e f g s =
-      let sh = shares p n l (r .share) in
-      (omega arith, part-ready (at + c) (n - c) held′ answers′ w′ z k (omega arith) (omega arith) (omega arith) (omega arith) o e f g s)
+    -- the words after the first part: the window's area is as it was
+    pub area-kept : (zs : List ℕ) → take (13 * n) (putMid (13 * n) (length w₁ - 13 * n) w₁ zs) ≡ take (13 * n) v
+    area-kept zs = take-put (13 * n) (length w₁ - 13 * n) w₁ zs (omega (arith, r .room)) ∙ s .front
+
+    module _ {w₂ w₃ : List ℕ} {d : W.Window} (f : take (13 * n) w₂ ≡ take (13 * n) v) (t : Stepped w (w .at + c) (n - c) w₂ w₃ d) (l₃ : length w₃ ≡ length v) where
+      pub second-ready : (mid : List ℕ) → length mid ≡ length answers → (d .events < n) × WindowReady d p mid (take (length w₃ - 13 * n) (drop (13 * n) w₃))
+      second-ready mid l =
+          let sh = shares p n two (r .share) in
+          let cn : (c < n) × (0 < c) × (11 * (n - c) ≤ 10 * n) = rw q (omega arith, omega arith, sh .second) in
+          (omega (arith, t .events), part-ready t f l₃ (omega arith) (omega arith) mid l (omega arith) (cn .2))
+
+      pub done-two : {mid after : List ℕ} {b e : ℕ} → WindowDone a p (take (13 * a .events) (take (length w₁ - 13 * n) (drop (13 * n) w₁))) answers mid b
+          → WindowDone d p (take (13 * d .events) (take (length w₃ - 13 * n) (drop (13 * n) w₃))) mid after e → WindowDone w p (take (13 * n) v) answers after (w .nodes + b + e)
+      done-two {mid} {after} {b} {e} i j =
+          let sh = shares p n two (r .share) in
+          let cn : c ≤ n = rw q (omega arith) in
+          record {
+            few = omega (arith, area-nodes (r .area) (r .some), i .few, j .few, s .events, t .events);
+            replied = λ g o h z.
+                let u = rw (s .at, s .events) at (i .replied g o (omega (arith, s .at, s .events)) (part-area s refl l₁ (omega arith) (omega arith) g o h z)) in
+                let x = rw (t .at, t .events) at (j .replied g o (omega (arith, t .at, t .events)) (part-area t f l₃ (omega arith) (omega arith) g o h z)) in
+                record {
+                  answers = x .answers ∙ ap (λ m. sets m (w .at + c) (table (byte g) (w .at + c) (n - c))) (u .answers) ∙ sym (sets-two (byte g) answers (w .at) n c cn);
+                  kept = ap₂ (λ (a b : ℕ). a + b) (ap₂ (λ (a b : ℕ). a + b) (area-small z (r .some)) (u .kept)) (x .kept) ∙ sym (sum-two p (r .share) (λ w. (small g w) .nodes) (w .at) n c two q);
+                };
+          }
 
   -- ---- a window of one event
-  pub done-one : n ≡ 1 → (after next : List ℕ) → OneDone x y at nodes edges (take 10 w) answers after next
-      → WindowDone x y at n p nodes edges (take (10 * n) w) answers after (record { held = next; kept = nodes })
-  done-one e after next o =
-      record {
-        few = omega (arith, area-nodes (r .area) (r .some));
-        replied = λ g h s a. record {
-          answers = rw e (o .answers g h s (rw e at a));
-          kept = area-small a (r .some) s ∙ rw e (sym (sum-one p (r .share) (λ w. (small g w) .nodes) at));
-          held-open = rw e (o .held-open g h s);
+  pub done-one : n ≡ 1 → (after : List ℕ) → OneDone w (take 13 v) answers after → WindowDone w p (take (13 * n) v) answers after (w .nodes)
+  done-one e after o = record {
+    few = omega (arith, area-nodes (r .area) (r .some));
+    replied = λ g s i a.
+        let z : 13 * n ≡ 13 = omega arith in
+        record {
+          answers = o g s (omega arith) (rw z at a) ∙ rw e refl;
+          kept = area-small a (r .some) ∙ rw e (sym (sum-one p (r .share) (λ w. (small g w) .nodes) (w .at)));
         };
-      }
+  }
 
 -- the byte of an event that opens or closes, and of a query, by the counts of its area
-byte-set : (g : Timeline) (i : ℕ) → (opens (event g i) || closes (event g i)) ≡ true → byte g i ≡ 3
+byte-change : (g : Timeline) (i : ℕ) → asks (event g i) ≡ false → byte g i ≡ 3
 unfolding byte
-byte-set g i t = ap (λ b. cond (not b) (answer (edgesOf g (openBefore g i)) (event g i .0) (event g i .1)) 3) t
+byte-change g i t = ap (λ b. cond b (answer (edgesOf g (openBefore g i)) (event g i .0) (event g i .1)) 3) t
 
-byte-query : (g : Timeline) (i : ℕ) → (opens (event g i) || closes (event g i)) ≡ false → byte g i ≡ answer (edgesOf g (openBefore g i)) (event g i .0) (event g i .1)
+byte-query : (g : Timeline) (i : ℕ) → asks (event g i) ≡ true → byte g i ≡ answer (edgesOf g (openBefore g i)) (event g i .0) (event g i .1)
 unfolding byte
-byte-query g i t = ap (λ b. cond (not b) (answer (edgesOf g (openBefore g i)) (event g i .0) (event g i .1)) 3) t
+byte-query g i t = ap (λ b. cond b (answer (edgesOf g (openBefore g i)) (event g i .0) (event g i .1)) 3) t
 
 none-is : (H : List Edge) (edges : ℕ) → length H ≡ edges → noEdge H ≡ eqb edges 0
 none-is [] edges e = sym (eq-eqb edges 0 (sym e))
 none-is (h ∷ H) edges e = sym (ne-eqb edges 0 (λ z. omega arith))
 
-area-read : (g : Timeline) (i nodes edges : ℕ) (v : List ℕ) → i < size g → (opens (event g i) || closes (event g i)) ≡ false → 10 ≤ length v → SmallArea g (i, 1) nodes edges v
-    → byte g i ≡ cond (eqb nodes 1) 2 (cond (eqb edges 0) 0 1)
-unfolding network active
-area-read g i nodes edges v l t k a =
-    let o : 0 < 1 = omega arith in
-    let H : List Edge = areaEdges 1 edges v in
-    byte-query g i t
-    ∙ alone (g .segments) (event g i) (openBefore g i) (ap not t) (during g (i, 1)) (during-one g i l) nodes H (a .ρ) (a .σ) (definition-small _ _ _ _ _ _ (a .small))
-    ∙ ap (λ b. cond (eqb nodes 1) 2 (cond b 0 1)) (none-is H edges (area-count a o (omega arith)))
+-- what a query's byte is, by the counts
+module _ (nodes edges : ℕ) where
+  pub byte-2 : nodes ≡ 1 → _≡_ {A = ℕ} 2 (cond (eqb nodes 1) 2 (cond (eqb edges 0) 0 1))
+  byte-2 e = sym (ap (λ b. cond b 2 (cond (eqb edges 0) 0 1)) (eq-eqb nodes 1 e))
 
-module _ {x y : List ℕ} {at p nodes edges : ℕ} {held answers w : List ℕ} (r : WindowReady x y at 1 p nodes edges held answers w) where
-  module _ (g : Timeline) (h : g .events ≡ pairs x y) where
-    event-is : event g at ≡ (getD x at 0, getD y at 0)
-    event-is = ap (λ (l : List Event). getD l at (0, 0)) h ∙ pairs-at x y at (omega (arith, r .long-x)) (omega (arith, r .long-y))
+  pub byte-0 : ¬ (nodes ≡ 1) → edges ≡ 0 → _≡_ {A = ℕ} 0 (cond (eqb nodes 1) 2 (cond (eqb edges 0) 0 1))
+  byte-0 h e = sym (ap₂ (λ a b. cond a 2 (cond b 0 1)) (ne-eqb nodes 1 h) (eq-eqb edges 0 e))
 
-    here : at < size g
-    here = let q = pairs-length x y (at + 1) (r .long-x) (r .long-y) in omega (arith, ap length h)
+  pub byte-1 : ¬ (nodes ≡ 1) → ¬ (edges ≡ 0) → _≡_ {A = ℕ} 1 (cond (eqb nodes 1) 2 (cond (eqb edges 0) 0 1))
+  byte-1 h e = sym (ap₂ (λ a b. cond a 2 (cond b 0 1)) (ne-eqb nodes 1 h) (ne-eqb edges 0 e))
 
-    kind : (opens (event g at) || closes (event g at)) ≡ (eqb (getD x at 0) 65535 || eqb (getD x at 0) 65534)
-    kind = ap (λ (e : Event). opens e || closes e) event-is
+module _ {w : W.Window} (v : List ℕ) (one : w .events ≡ 1) (l : 13 ≤ length v) (g : Timeline) (sound : Sound g) (i : w .at < size g) (a : SmallArea g w (take 13 v)) where
+  -- the tag of its event
+  first-word : getD v 2 0 ≡ word g 0 (w .at)
+  first-word =
+      let z : w .at + 0 ≡ w .at = omega arith in
+      let W = a .events .words in
+      let x : take 3 (drop 2 (take 13 v)) ≡ eventWords g (w .at) 1 = rw one at W in
+      sym (getD-take 13 v 2 0 (omega arith)) ∙ sym (getD-take 3 (drop 2 (take 13 v)) 0 0 (omega arith) ∙ getD-drop 2 (take 13 v) 0 0)
+      ∙ ap (λ l. getD l 0 0) x ∙ words-at g (w .at) 1 0 0 (omega arith) (omega arith) ∙ ap (word g 0) z
 
-    next-open : (next : List ℕ) → isOpen next ≡ after (getD x at 0, getD y at 0) (isOpen held) → isOpen next ≡ openBefore g (at + 1)
-    next-open next q =
-        q ∙ ap₂ after (sym event-is) (r .held-open ∙ open-same (r .g) g (r .events ∙ sym h) at) ∙ sym (open-one g at here)
+  pub tag-change : ¬ (getD v 2 0 ≡ 0) → byte g (w .at) ≡ 3
+  tag-change h = onBool (asks (event g (w .at))) (λ q. absurd (h (first-word ∙ word-query g (w .at) 0 q))) (λ q. byte-change g (w .at) q)
 
-  -- an event that opens or closes names a segment
-  pub one-segment : (eqb (getD x at 0) 65535 || eqb (getD x at 0) 65534) ≡ true → getD y at 0 < 8192
-  one-segment t =
-      let e = event-is (r .g) (r .events) in
-      let f = sound-fine (r .g) (r .sound) at (here (r .g) (r .events)) .segment (kind (r .g) (r .events) ∙ t) in
-      omega (arith, f, ap (λ (e : Event). e .1) e, r .sound .segments-few)
+  asked : getD v 2 0 ≡ 0 → asks (event g (w .at)) ≡ true
+  asked z = onBool (asks (event g (w .at))) (λ q. q) (λ q. let t = ltb-true 0 (tag g (w .at)) (tag-says g (w .at) .change) in absurd (omega (arith, first-word, word-change g (w .at) q .0)))
 
-  pub one-names : (next : List ℕ) → (eqb (getD x at 0) 65535 || eqb (getD x at 0) 65534) ≡ true → isOpen next ≡ after (getD x at 0, getD y at 0) (isOpen held)
-      → OneDone x y at nodes edges (take 10 w) answers (set answers at 3) next
-  one-names next t q =
-      record {
-        held-open = λ g h s. next-open g h next q;
-        answers = λ g h s a. ap (set answers at) (sym (byte-set g at (kind g h ∙ t)));
-      }
+  pub tag-query : getD v 2 0 ≡ 0 → byte g (w .at) ≡ cond (eqb (w .nodes) 1) 2 (cond (eqb (w .edges) 0) 0 1)
+  unfolding network active
+  tag-query z =
+      let s : 0 < w .events = omega arith in
+      let k : 13 * w .events ≤ length (take 13 v) = rw length-take (omega arith) in
+      let H : List Edge = areaEdges (w .events) (w .edges) (take 13 v) in
+      let e : during g (span w) ≡ event g (w .at) ∷ [] = ap (λ (n : ℕ). during g (w .at, n)) one ∙ during-one g (w .at) i in
+      byte-query g (w .at) (asked z)
+      ∙ alone (g .segments) (event g (w .at)) (openBefore g (w .at)) (asked z) (during g (span w)) e (w .nodes) H _ (a .σ) (graph a s sound k .1)
+      ∙ ap (λ b. cond (eqb (w .nodes) 1) 2 (cond b 0 1)) (none-is H (w .edges) (area-count a s sound k))
 
-  pub one-asks : (b : ℕ) → (eqb (getD x at 0) 65535 || eqb (getD x at 0) 65534) ≡ false → b ≡ cond (eqb nodes 1) 2 (cond (eqb edges 0) 0 1)
-      → OneDone x y at nodes edges (take 10 w) answers (set answers at b) held
-  one-asks b t q =
-      record {
-        held-open = λ g h s. next-open g h held (fun-ext (λ k. sym (ap (λ c. cond (c && eqb k (getD y at 0)) (eqb (getD x at 0) 65535) (isOpen held k)) t)));
-        answers = λ g h s a. ap (set answers at) (q ∙ sym (area-read g at nodes edges (take 10 w) (here g h) (kind g h ∙ t) (rw length-take (omega (arith, r .room))) a));
-      }
+module _ {w : W.Window} {p : ℕ} {answers v : List ℕ} (r : WindowReady w p answers v) (one : w .events ≡ 1) where
+  enough : 13 ≤ length v
+  enough = omega (arith, r .room)
+
+  pub one-change : ¬ (getD v 2 0 ≡ 0) → OneDone w (take 13 v) answers (set answers (w .at) 3)
+  one-change h g s i a = ap (set answers (w .at)) (sym (tag-change v one enough g s i a h))
+
+  pub one-query : (b : ℕ) → getD v 2 0 ≡ 0 → b ≡ cond (eqb (w .nodes) 1) 2 (cond (eqb (w .edges) 0) 0 1) → OneDone w (take 13 v) answers (set answers (w .at) b)
+  one-query b z e g s i a = ap (set answers (w .at)) (e ∙ sym (tag-query v one enough g s i a z))
