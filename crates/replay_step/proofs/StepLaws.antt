@@ -366,7 +366,7 @@ module _ {w : Window} {p : Part} {v : List ℕ} (st : StepReady w (p .at) (p .ev
   }
 
 -- ---- the whole list
-map-self : (S : List ℕ) → map (λ a. a) S ≡ S
+pub map-self : (S : List ℕ) → map (λ a. a) S ≡ S
 map-self [] = refl
 map-self (a ∷ S) = ap (λ l. a ∷ l) (map-self S)
 

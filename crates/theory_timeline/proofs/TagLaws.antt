@@ -8,7 +8,8 @@ use mathlib.Core.Logic.{_⊎_, inl, inr}
 use mathlib.Core.Path.{_∙_, _≡_, ap, ap₂, refl, subst, sym}
 use lib.Dec.{eqb, leb, ltb}
 use lib.ListN.{drop, getD, length, take}
-use lib.Seq.{drop-cons, take-add}
+use lib.Seq.{drop-cons, take-add, take-suc}
+use native.Mathlib.Numerals.{add-one}
 use native.Mathlib.Omega.{arith}
 use borrow.Author.Tests.{eq-eqb, eqb-false, eqb-true, le-leb, le-ltb, leb-false, leb-true, lt-ltb, ltb-false, ltb-true, ne-eqb, not-false, not-true}
 use Rattle.call_sizes.proofs.RefusalLaws.{seek-before, seek-found}
@@ -23,7 +24,7 @@ use Rattle.theory_graph.specs.SmallGraph.{_∘_, image}
 use Rattle.theory_timeline.proofs.Acceptance.{Fine}
 use Rattle.theory_timeline.proofs.EventLaws.{after-stays, pick-ext, pick-sum}
 use Rattle.theory_timeline.proofs.Networks.{after-append}
-use Rattle.theory_timeline.specs.Events.{Event, SegmentSet, afterAll, asks, closes, ends, named, names, opens, pick}
+use Rattle.theory_timeline.specs.Events.{Event, SegmentSet, after, afterAll, asks, closes, ends, named, names, opens, pick}
 use Rattle.theory_timeline.specs.Steps.{Part, added}
 use Rattle.theory_timeline.specs.Tags.{adds, addsEvent, bit, endsAt, eventWords, isOpenAfter, key, last, namesKey, next, pickEvents, seekLast, tag, wasOpen, word}
 use Rattle.theory_timeline.specs.Windows.{Timeline, Window, atStart, during, event, openBefore, size}
@@ -168,14 +169,21 @@ module _ (g : Timeline) where
       let z : a + (b - a) ≡ b = omega arith in
       ap (λ (j : ℕ). openBefore g j r) (sym z) ∙ quiet a (b - a) r (omega arith) (any-none (namesKey g r) a (b - a) (λ j p q. h j p (omega arith)))
 
+  -- after one event more
+  pub open-next : (i : ℕ) → i < size g → openBefore g (i + 1) ≡ after (event g i) (openBefore g i)
+  unfolding openBefore
+  open-next i l =
+      ap (λ (l : List Event). afterAll l atStart) (ap (λ k. take k (g .events)) (add-one i) ∙ take-suc (g .events) i (0, 0) l)
+      ∙ sym (after-append (take i (g .events)) (event g i ∷ []) atStart)
+
   -- an event that opens or closes names its own key, and no other
-  names-own : (i : ℕ) → asks (event g i) ≡ false → namesKey g (key g i) i ≡ true
+  pub names-own : (i : ℕ) → asks (event g i) ≡ false → namesKey g (key g i) i ≡ true
   names-own i h = ap₂ _&&_ (not-false (opens (event g i) || closes (event g i)) h) (eq-eqb (key g i) (key g i) refl)
 
-  names-other : (i r : ℕ) → (r ≡ key g i → ⊥) → namesKey g r i ≡ false
+  pub names-other : (i r : ℕ) → (r ≡ key g i → ⊥) → namesKey g r i ≡ false
   names-other i r n = ap (λ b. (opens (event g i) || closes (event g i)) && b) (ne-eqb r (key g i) n) ∙ and-false (opens (event g i) || closes (event g i))
 
-  names-none : (i r : ℕ) → asks (event g i) ≡ true → namesKey g r i ≡ false
+  pub names-none : (i r : ℕ) → asks (event g i) ≡ true → namesKey g r i ≡ false
   names-none i r h = ap (λ b. b && eqb r (key g i)) (not-true (opens (event g i) || closes (event g i)) h)
 
 -- ---- one key alone
