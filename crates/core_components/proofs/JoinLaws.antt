@@ -1,4 +1,4 @@
--- The words from one call of `find_components` to the next.
+-- The words from one call of `merge_components` to the next.
 -- Assumes nothing.
 use Prim.Native.Nat.{_<_, _≤_, ℕ}
 use mathlib.Core.List.{List, [], _∷_}
@@ -8,21 +8,22 @@ use lib.Dec.{eqb, ltb}
 use native.Mathlib.Omega.{arith}
 use borrow.Author.Tests.{eqb-false, eqb-true, lt-ltb, ltb-true}
 use Rattle.core_components.proofs.ComponentLaws.{class-same-top, same-top-class}
-use Rattle.core_words.proofs.ChangeLaws.{only-more, only-then}
+use Rattle.core_words.proofs.ChangeLaws.{only-then}
 use Rattle.core_components.proofs.MergeLaws.{forest-still, order-of}
 use Rattle.core_components.proofs.PathLaws.{seen-follows}
-use Rattle.core_components.specs.Components.{Components}
+use Rattle.core_components.specs.Components.{CanMergeComponents, Components}
 use Rattle.core_components.specs.Merging.{CanMerge, EdgesMerged, FinalTops}
 use Rattle.core_components.specs.Tops.{CanCompress, Compressed, FollowsParents, OnlyTops, OwnTops, Stable, Tops}
-use Rattle.core_forest.proofs.SearchLaws.{lists-still, seen-less}
+use Rattle.core_forest.proofs.SearchLaws.{lists-still}
 use Rattle.core_forest.specs.Forest.{ForestAt}
-use Rattle.core_forest.specs.Search.{BetweenTrees, Searched}
+use Rattle.core_forest.specs.Search.{BetweenTrees}
 use Rattle.theory_graph.proofs.Booleans.{onBool}
 use Rattle.theory_graph.specs.Lists.{member}
 use Rattle.theory_graph.specs.Graph.{NodeSet}
 use Rattle.core_words.specs.Fields.{half, node}
 
-between-still : {n m k seen j : ℕ} {a b : List ℕ} → OnlyTops n a b → BetweenTrees n m k a seen j → BetweenTrees n m k b seen j
+-- the search, where only the tops change
+pub between-still : {n m k seen j : ℕ} {a b : List ℕ} → OnlyTops n a b → BetweenTrees n m k a seen j → BetweenTrees n m k b seen j
 between-still {n} {m} {k} {seen} {j} {a} {b} o g = record {
   lists = lists-still refl o (g .lists);
   active = rw (at 0 (omega arith) refl, at 1 (omega arith) refl) (g .active);
@@ -34,50 +35,32 @@ between-still {n} {m} {k} {seen} {j} {a} {b} o g = record {
     at : (j : ℕ) → j < 16 → member (6 ∷ []) j ≡ false → node j b ≡ node j a
     at = o .nodes
 
-module _ {n m k s : ℕ} {w₁ w₂ : List ℕ} (g : BetweenTrees n m k w₁ s k) (f : ForestAt n m w₁) (o : OwnTops n n w₁ w₂) where
+module _ {n m s : ℕ} {w₁ w₂ : List ℕ} (g : CanMergeComponents n m s w₁) (o : OwnTops n n w₁ w₂) where
   pub can-merge : CanMerge n m w₂
-  can-merge = record {
-    few = g .lists .few;
-    much = omega (arith, g .lists .much);
-    room = rw (o .rest .same) (g .lists .room);
-    forest = forest-still (o .rest) f;
-    self = o .self;
-  }
+  can-merge = record { few = g .few; much = g .much; room = rw (o .rest .same) (g .room); forest = forest-still (o .rest) (g .forest); self = o .self }
 
   module _ {w₃ : List ℕ} (t : EdgesMerged n m w₂ m w₃) where
     all : OnlyTops n w₁ w₃
     all = only-then (o .rest) (t .rest)
 
     pub can-compress : CanCompress n s w₃
-    can-compress =
-        let b = between-still all g in
-        record {
-          few = g .lists .few;
-          room = omega (arith, b .lists .room);
-          less = seen-less (b .search);
-          tops = rw (t .rest .nodes 4 (omega arith) refl) (t .tops);
-          place = b .search .place;
-          place-of = b .search .place-of;
-        }
-
-    pub components : {w₀ w₄ : List ℕ} → Searched n w₀ w₁ → Compressed n s w₃ w₄ → Components n m k w₀ w₄ s
-    components {w₀} {w₄} h q = record {
-      rest = only-then (only-more (3 ∷ 4 ∷ 5 ∷ 12 ∷ 13 ∷ []) refl h) (only-more (6 ∷ []) refl every);
-      search = b;
-      forest = forest;
-      final = final;
-      same = same-top-class forest final;
-      back = class-same-top forest final;
+    can-compress = record {
+      few = g .few;
+      room = omega (arith, all .same, g .room);
+      less = g .less;
+      tops = rw (t .rest .nodes 4 (omega arith) refl) (t .tops);
+      place = rw (all .nodes 3 (omega arith) refl, all .nodes 4 (omega arith) refl) (g .place);
+      place-of = rw (all .nodes 3 (omega arith) refl, all .nodes 4 (omega arith) refl) (g .place-of);
     }
+
+    pub components : {w₄ : List ℕ} → Compressed n s w₃ w₄ → Components n m w₁ w₄
+    components {w₄} q = record { rest = every; forest = forest; final = final; same = same-top-class forest final; back = class-same-top forest final }
       where
         every : OnlyTops n w₁ w₄
         every = only-then all (q .rest)
 
-        b : BetweenTrees n m k w₄ s k
-        b = between-still every g
-
         forest : ForestAt n m w₄
-        forest = forest-still every f
+        forest = forest-still every (g .forest)
 
         late : OnlyTops n w₂ w₄
         late = only-then (t .rest) (q .rest)

@@ -2,10 +2,9 @@ ghost use mathlib.Core.Path.{_≡_};
 ghost use Prim.Native.Nat.{ℕ, _+_, _*_, _<_, _≤_};
 ghost use lib.ListN.{length};
 ghost use Rattle.core_words.specs.Fields.{node, Put};
-ghost use Rattle.core_forest.specs.Search.{BetweenTrees};
 ghost use Rattle.core_components.specs.Tops.{CanFind, Found, CanMergeUp, MergedUpAt, CanMergePath, SeenTop, SameTree, MergedPath, OwnTops, CanCompress, Compressed};
 ghost use Rattle.core_components.specs.Merging.{CanMergeEdge, EdgeMerged, CanMerge, EdgesMerged};
-ghost use Rattle.core_components.specs.Components.{Components};
+ghost use Rattle.core_components.specs.Components.{CanMergeComponents, Components};
 
 // The top of v; the path to it is halved on the way.
 fn find(work: &mut [u32], n: usize, v: usize) -> usize
@@ -125,14 +124,12 @@ fn compress_all(work: &mut [u32], n: usize, seen: usize)
     }
 }
 
-// Internal: the 2-edge-connected components of all that the active nodes reach, each by its top; how many nodes these are.
-pub fn find_components(work: &mut [u32], n: usize, m: usize, k: usize) -> usize
-    requires { ⌜ BetweenTrees n m k (now work) 0 0 ⌝ }
-    ensures { λ s. ⌜ Components n m k (now (work .entry)) (now (work .exit)) s ⌝ }
+// Internal: merges the 2-edge-connected components of the forest's seen nodes: the top of a node is then the same for all of its component, and no other has it.
+pub fn merge_components(work: &mut [u32], n: usize, m: usize, seen: usize)
+    requires { ⌜ CanMergeComponents n m seen (now work) ⌝ }
+    ensures { λ _. ⌜ Components n m (now (work .entry)) (now (work .exit)) ⌝ }
 {
-    let seen = core_forest::spanning_forest(work, n, m, k);
     start_tops(work, n);
     merge_edges(work, n, m);
     compress_all(work, n, seen);
-    seen
 }

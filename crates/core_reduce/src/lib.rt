@@ -88,7 +88,8 @@ pub fn reduce(work: &mut [u32], n: usize, m: usize, k: usize) -> Counts
 {
     clear_nodes(work, n);
     core_forest::link_edges(work, n, m);
-    let seen = core_components::find_components(work, n, m, k);
+    let seen = core_forest::spanning_forest(work, n, m, k);
+    core_components::merge_components(work, n, m, seen);
     let nodes = core_branches::number_classes(work, n, m, k, seen);
     let edges = edge_list::list_edges(work, n, nodes);
     write_numbers(work, n, k);
