@@ -1,5 +1,5 @@
 // The contraction as a public call: the checks in document 01's order, the graph loaded into words, its contraction, and the reply's tables filled.
-
+use core_words::*;
 ghost use mathlib.Core.Path.{_≡_};
 ghost use Rattle.theory_contraction.specs.Contraction.{fault, done, contraction, lent};
 ghost use Rattle.call_contract.specs.Reply.{outcome};
@@ -31,8 +31,8 @@ fn contracted(
     let nodes = small.nodes;
     let edges = small.edges;
     contraction_tables::fill_map(work, n, k, active, map);
-    contraction_tables::fill_ends(work, edges, 4, out_from);
-    contraction_tables::fill_ends(work, edges, 5, out_to);
+    contraction_tables::fill_ends(work, edges, LOWER, out_from);
+    contraction_tables::fill_ends(work, edges, UPPER, out_to);
     core_words::clear(work, contraction_checks::required(n, m));
     ContractReply::Done(nodes, edges)
 }

@@ -13,7 +13,7 @@ use Rattle.core_branches.specs.SmallForest.{ParentPairs}
 use Rattle.core_components.proofs.JoinLaws.{between-still}
 use Rattle.core_components.specs.Components.{CanMergeComponents, Components}
 use Rattle.core_reduce.proofs.EdgeOrder.{canonical-cuts-equal, edges-cut}
-use Rattle.core_reduce.specs.Clearing.{Cleared}
+use Rattle.core_reduce.specs.Clearing.{Cleared, startFields}
 use Rattle.core_reduce.specs.Core.{Loaded, Reduced, activeIn, edgesIn, edgesOut}
 use Rattle.core_reduce.specs.EdgeList.{CanList, EdgesListed}
 use Rattle.core_reduce.specs.Numbers.{CanWrite, WritingNumbers}
@@ -21,7 +21,7 @@ use Rattle.core_forest.proofs.AdjacencyLaws.{linking-past}
 use Rattle.core_forest.proofs.SearchLaws.{between-none, seen-less}
 use Rattle.core_forest.specs.AdjacencyLists.{AdjacencyLists, CanLink, Linking}
 use Rattle.core_forest.specs.Forest.{ForestAt, edgesBelow}
-use Rattle.core_forest.specs.Search.{BetweenTrees, SearchKeeps}
+use Rattle.core_forest.specs.Search.{BetweenTrees, SearchKeeps, searchFields}
 use Rattle.theory_graph.proofs.CutEquivalence.{small-cuts-equal}
 use Rattle.theory_graph.proofs.SmallGraphDefinition.{small-definition}
 use Rattle.theory_graph.proofs.SmallGraphs.{SmallGraph}
@@ -32,10 +32,10 @@ use Rattle.theory_graph.specs.Lists.{member, table}
 use Rattle.theory_graph.specs.SmallGraph.{Canonical, IsSmallGraph}
 use Rattle.core_words.proofs.ChangeLaws.{only-more, only-past, only-then}
 use Rattle.core_words.specs.Changes.{OnlyFields}
-use Rattle.core_words.specs.Fields.{half, node}
+use Rattle.core_words.specs.Fields.{ABOVE, ACTIVE, BRANCH, HEAD, LIVE, LOWER, MAPPED, MARK, MEMBER, NUMBER, OTHER, POSITION, TO, TOP, UPPER, half, node}
 
 -- the listed edges are the pairs of a number and its parent
-listed-pairs : {n h e : ℕ} {a w : List ℕ} → EdgesListed n h a w e → ParentPairs h (node 9 a) (edgesOut e w)
+listed-pairs : {n h e : ℕ} {a w : List ℕ} → EdgesListed n h a w e → ParentPairs h (node ABOVE a) (edgesOut e w)
 listed-pairs l = record {
   ascends = l .ascends;
   edge = λ i j m. ⊎-elim (λ c. (c .0, c .1, inr (c .2))) (λ c. (c .0, c .1, inl (c .2))) (l .is i j m);
@@ -46,22 +46,22 @@ module _ {n m k : ℕ} {w₀ : List ℕ} (s : Loaded n m k w₀) where
   pub can-clear : (16 * n ≤ length w₀) × (n ≤ 65536)
   can-clear = (omega (arith, s .room), s .few)
 
-  module _ {w₁ : List ℕ} (c : Cleared (10 ∷ 9 ∷ 8 ∷ 7 ∷ 4 ∷ 2 ∷ []) n n w₀ w₁) where
+  module _ {w₁ : List ℕ} (c : Cleared startFields n n w₀ w₁) where
     pub can-link : CanLink n m w₁
-    can-link = record { few = s .few; much = s .much; room = rw (c .rest .same) (s .room); ends = rw (c .rest .halves 0) (s .ends); empty = c .zero 2 (omega arith) refl }
+    can-link = record { few = s .few; much = s .much; room = rw (c .rest .same) (s .room); ends = rw (c .rest .halves TO) (s .ends); empty = c .zero HEAD (omega arith) refl }
 
     module _ {w₂ : List ℕ} (q : Linking n m w₁ w₂ (2 * m) × AdjacencyLists n m w₂) where
-      act₂ : (i : ℕ) → i < k → node 1 w₂ i ≡ node 1 w₀ i
-      act₂ i l = q .0 .nodes 1 (omega arith) (λ e. omega arith) i (omega (arith, s .less)) ∙ ap (λ f. f i) (c .rest .nodes 1 (omega arith) refl)
+      act₂ : (i : ℕ) → i < k → node ACTIVE w₂ i ≡ node ACTIVE w₀ i
+      act₂ i l = q .0 .nodes ACTIVE (omega arith) (λ e. omega arith) i (omega (arith, s .less)) ∙ ap (λ f. f i) (c .rest .nodes ACTIVE (omega arith) refl)
 
-      mark₂ : (v : ℕ) → v < n → node 0 w₂ v ≡ node 0 w₀ v
-      mark₂ v l = q .0 .nodes 0 (omega arith) (λ e. omega arith) v l ∙ ap (λ f. f v) (c .rest .nodes 0 (omega arith) refl)
+      mark₂ : (v : ℕ) → v < n → node MARK w₂ v ≡ node MARK w₀ v
+      mark₂ v l = q .0 .nodes MARK (omega arith) (λ e. omega arith) v l ∙ ap (λ f. f v) (c .rest .nodes MARK (omega arith) refl)
 
-      actives : (i : ℕ) → i < k → (node 1 w₂ i < n) × (0 < node 0 w₂ (node 1 w₂ i))
-      actives i l = rw (act₂ i l) (s .active i l, rw (mark₂ (node 1 w₀ i) (s .active i l), s .marked i l) (omega arith))
+      actives : (i : ℕ) → i < k → (node ACTIVE w₂ i < n) × (0 < node MARK w₂ (node ACTIVE w₂ i))
+      actives i l = rw (act₂ i l) (s .active i l, rw (mark₂ (node ACTIVE w₀ i) (s .active i l), s .marked i l) (omega arith))
 
       pub can-search : BetweenTrees n m k w₂ 0 0
-      can-search = between-none (q .1) actives (s .less) (λ u l. q .0 .nodes 4 (omega arith) (λ e. omega arith) u l ∙ c .zero 4 (omega arith) refl u l)
+      can-search = between-none (q .1) actives (s .less) (λ u l. q .0 .nodes POSITION (omega arith) (λ e. omega arith) u l ∙ c .zero POSITION (omega arith) refl u l)
 
       module _ {seen : ℕ} {w₃ : List ℕ} (f : SearchKeeps n w₂ w₃ × BetweenTrees n m k w₃ seen k × ForestAt n m w₃) where
         pub can-merge-components : CanMergeComponents n m seen w₃
@@ -76,17 +76,17 @@ module _ {n m k : ℕ} {w₀ : List ℕ} (s : Loaded n m k w₀) where
         }
 
         module _ {w₄ : List ℕ} (p : Components n m w₃ w₄) where
-          found : OnlyFields (3 ∷ 4 ∷ 5 ∷ 6 ∷ 12 ∷ 13 ∷ []) n w₂ w₄
-          found = only-then (only-more (3 ∷ 4 ∷ 5 ∷ 12 ∷ 13 ∷ []) refl (f .0 .rest)) (only-more (6 ∷ []) refl (p .rest))
+          found : OnlyFields (TOP ∷ searchFields) n w₂ w₄
+          found = only-then (only-more searchFields refl (f .0 .rest)) (only-more (TOP ∷ []) refl (p .rest))
 
-          f0 : node 0 w₄ ≡ node 0 w₂
-          f0 = found .nodes 0 (omega arith) refl
+          f0 : node MARK w₄ ≡ node MARK w₂
+          f0 = found .nodes MARK (omega arith) refl
 
-          f1 : node 1 w₄ ≡ node 1 w₂
-          f1 = found .nodes 1 (omega arith) refl
+          f1 : node ACTIVE w₄ ≡ node ACTIVE w₂
+          f1 = found .nodes ACTIVE (omega arith) refl
 
           -- a field that was cleared and is none of the search's is 0 still
-          still-zero : (j : ℕ) → j < 16 → ¬ (j ≡ 2) → member (3 ∷ 4 ∷ 5 ∷ 6 ∷ 12 ∷ 13 ∷ []) j ≡ false → member (10 ∷ 9 ∷ 8 ∷ 7 ∷ 4 ∷ 2 ∷ []) j ≡ true → (v : ℕ) → v < n → node j w₄ v ≡ 0
+          still-zero : (j : ℕ) → j < 16 → ¬ (j ≡ HEAD) → member (TOP ∷ searchFields) j ≡ false → member startFields j ≡ true → (v : ℕ) → v < n → node j w₄ v ≡ 0
           still-zero j i ne o z v l = ap (λ f. f v) (found .nodes j i o) ∙ q .0 .nodes j i ne v l ∙ c .zero j i z v l
 
           pub can-number-classes : CanNumberClasses n m k seen w₄
@@ -95,59 +95,59 @@ module _ {n m k : ℕ} {w₀ : List ℕ} (s : Loaded n m k w₀) where
             forest = p .forest;
             final = p .final;
             marks = rw (f0, f1) (λ v l b. let (j, i, e) = s .marks v l (subst (λ (x : ℕ). 0 < x) (mark₂ v l) b) in (j, i, act₂ j i ∙ e));
-            none = λ v l. (still-zero 7 (omega arith) (λ e. omega arith) refl refl v l, still-zero 8 (omega arith) (λ e. omega arith) refl refl v l, still-zero 9 (omega arith) (λ e. omega arith) refl refl v l, still-zero 10 (omega arith) (λ e. omega arith) refl refl v l);
+            none = λ v l. (still-zero LIVE (omega arith) (λ e. omega arith) refl refl v l, still-zero BRANCH (omega arith) (λ e. omega arith) refl refl v l, still-zero OTHER (omega arith) (λ e. omega arith) refl refl v l, still-zero NUMBER (omega arith) (λ e. omega arith) refl refl v l);
           }
 
           module _ {h : ℕ} {w₅ : List ℕ} (d : ClassNumbers n m k w₄ h w₅) where
             pub can-list : CanList n h w₅
             can-list = record { few = s .few; room = omega (arith, s .room, d .rest .same, found .same, q .0 .same, c .rest .same); less = d .less; fits = d .forest .up-fit }
 
-            ends-same : half n 0 w₄ ≡ half n 0 w₀
-            ends-same = found .halves 0 ∙ q .0 .tos ∙ c .rest .halves 0
+            ends-same : half n TO w₄ ≡ half n TO w₀
+            ends-same = found .halves TO ∙ q .0 .tos ∙ c .rest .halves TO
 
-            act₄ : (i : ℕ) → i < k → node 1 w₄ i ≡ node 1 w₀ i
+            act₄ : (i : ℕ) → i < k → node ACTIVE w₄ i ≡ node ACTIVE w₀ i
             act₄ i l = ap (λ f. f i) f1 ∙ act₂ i l
 
-            actives-same : table (node 1 w₄) 0 k ≡ activeIn k w₀
-            actives-same = table-equal (node 1 w₄) (node 1 w₀) 0 k (λ i _ l. act₄ i (omega arith))
+            actives-same : table (node ACTIVE w₄) 0 k ≡ activeIn k w₀
+            actives-same = table-equal (node ACTIVE w₄) (node ACTIVE w₀) 0 k (λ i _ l. act₄ i (omega arith))
 
             module _ {e : ℕ} {w₆ : List ℕ} (l : EdgesListed n h w₅ w₆ e) where
-              act₆ : (i : ℕ) → i < k → node 1 w₆ i ≡ node 1 w₀ i
-              act₆ i b = ap (λ f. f i) (l .rest .nodes 1 (omega arith) refl ∙ d .rest .nodes 1 (omega arith) refl) ∙ act₄ i b
+              act₆ : (i : ℕ) → i < k → node ACTIVE w₆ i ≡ node ACTIVE w₀ i
+              act₆ i b = ap (λ f. f i) (l .rest .nodes ACTIVE (omega arith) refl ∙ d .rest .nodes ACTIVE (omega arith) refl) ∙ act₄ i b
 
               pub can-write : CanWrite n k w₆
               can-write = record {
                 room = rw (l .rest .same) (can-list .room);
                 less = s .less;
                 placed = λ i b.
-                    let a : node 1 w₆ i ≡ node 1 w₄ i = ap (λ f. f i) (l .rest .nodes 1 (omega arith) refl ∙ d .rest .nodes 1 (omega arith) refl) in
+                    let a : node ACTIVE w₆ i ≡ node ACTIVE w₄ i = ap (λ f. f i) (l .rest .nodes ACTIVE (omega arith) refl ∙ d .rest .nodes ACTIVE (omega arith) refl) in
                     let o = d .placed i b in
                     record {
                       room = rw (l .rest .same) (can-list .room);
                       fit = rw a (o .fit);
-                      top-fit = rw (l .rest .nodes 6 (omega arith) refl, a) (o .top-fit);
-                      some = rw (l .rest .nodes 10 (omega arith) refl, l .rest .nodes 6 (omega arith) refl, a) (o .some);
+                      top-fit = rw (l .rest .nodes TOP (omega arith) refl, a) (o .top-fit);
+                      some = rw (l .rest .nodes NUMBER (omega arith) refl, l .rest .nodes TOP (omega arith) refl, a) (o .some);
                     };
               }
 
-              cuts : (U : NodeSet) → cut U (edgesBelow (half n 0 w₀) m) ≡ cut U (edgesIn n m w₀)
-              cuts U = edges-cut U (half n 0 w₀) m
+              cuts : (U : NodeSet) → cut U (edgesBelow (half n TO w₀) m) ≡ cut U (edgesIn n m w₀)
+              cuts U = edges-cut U (half n TO w₀) m
 
-              small : IsSmallGraph (edgesIn n m w₀) (activeIn k w₀) h (edgesOut e w₆) (node 11 w₅) (λ v. node 10 w₅ (node 6 w₅ v) - 1)
+              small : IsSmallGraph (edgesIn n m w₀) (activeIn k w₀) h (edgesOut e w₆) (node MEMBER w₅) (λ v. node NUMBER w₅ (node TOP w₅ v) - 1)
               small =
-                  let g : SmallGraph (edgesBelow (half n 0 w₀) m) (activeIn k w₀) h (edgesOut e w₆) (node 11 w₅) (λ v. node 10 w₅ (node 6 w₅ v) - 1) =
+                  let g : SmallGraph (edgesBelow (half n TO w₀) m) (activeIn k w₀) h (edgesOut e w₆) (node MEMBER w₅) (λ v. node NUMBER w₅ (node TOP w₅ v) - 1) =
                   rw (ends-same, actives-same) at (forest-small (d .forest) (listed-pairs l)) in
-                  small-definition _ _ _ _ _ _ (small-cuts-equal (edgesBelow (half n 0 w₀) m) (edgesIn n m w₀) cuts (activeIn k w₀) h (edgesOut e w₆) (node 11 w₅) (λ v. node 10 w₅ (node 6 w₅ v) - 1) g)
+                  small-definition _ _ _ _ _ _ (small-cuts-equal (edgesBelow (half n TO w₀) m) (edgesIn n m w₀) cuts (activeIn k w₀) h (edgesOut e w₆) (node MEMBER w₅) (λ v. node NUMBER w₅ (node TOP w₅ v) - 1) g)
 
-              canonical : Canonical (edgesIn n m w₀) (activeIn k w₀) h (node 11 w₅) (λ v. node 10 w₅ (node 6 w₅ v) - 1)
+              canonical : Canonical (edgesIn n m w₀) (activeIn k w₀) h (node MEMBER w₅) (λ v. node NUMBER w₅ (node TOP w₅ v) - 1)
               canonical =
-                  let g : Canonical (edgesBelow (half n 0 w₀) m) (activeIn k w₀) h (node 11 w₅) (λ v. node 10 w₅ (node 6 w₅ v) - 1) = rw (ends-same, actives-same) at (d .canonical) in
-                  canonical-cuts-equal (edgesBelow (half n 0 w₀) m) (edgesIn n m w₀) cuts g
+                  let g : Canonical (edgesBelow (half n TO w₀) m) (activeIn k w₀) h (node MEMBER w₅) (λ v. node NUMBER w₅ (node TOP w₅ v) - 1) = rw (ends-same, actives-same) at (d .canonical) in
+                  canonical-cuts-equal (edgesBelow (half n TO w₀) m) (edgesIn n m w₀) cuts g
 
               module _ {w₇ : List ℕ} (t : WritingNumbers n w₆ k w₇) where
-                numbers : (i : ℕ) → i < k → node 0 w₇ (node 1 w₀ i) ≡ node 10 w₅ (node 6 w₅ (node 1 w₀ i)) - 1
+                numbers : (i : ℕ) → i < k → node MAPPED w₇ (node ACTIVE w₀ i) ≡ node NUMBER w₅ (node TOP w₅ (node ACTIVE w₀ i)) - 1
                 numbers i b =
-                    let e : node 0 w₇ (node 1 w₆ i) ≡ node 10 w₅ (node 6 w₅ (node 1 w₆ i)) - 1 = rw (l .rest .nodes 10 (omega arith) refl, l .rest .nodes 6 (omega arith) refl) at (t .numbers i b) in
+                    let e : node MAPPED w₇ (node ACTIVE w₆ i) ≡ node NUMBER w₅ (node TOP w₅ (node ACTIVE w₆ i)) - 1 = rw (l .rest .nodes NUMBER (omega arith) refl, l .rest .nodes TOP (omega arith) refl) at (t .numbers i b) in
                     rw (act₆ i b) at e
 
                 past : (i : ℕ) → 16 * n + 4 * m ≤ i → getD w₇ i 0 ≡ getD w₀ i 0
@@ -160,9 +160,9 @@ module _ {n m k : ℕ} {w₀ : List ℕ} (s : Loaded n m k w₀) where
                   same = t .rest .same ∙ l .rest .same ∙ d .rest .same ∙ found .same ∙ q .0 .same ∙ c .rest .same;
                   past = past;
                   less = d .less;
-                  ρ = node 11 w₅;
-                  σ = λ v. node 10 w₅ (node 6 w₅ v) - 1;
-                  small = rw (t .rest .nodes 4 (omega arith) refl, t .rest .nodes 5 (omega arith) refl) small;
+                  ρ = node MEMBER w₅;
+                  σ = λ v. node NUMBER w₅ (node TOP w₅ v) - 1;
+                  small = rw (t .rest .nodes LOWER (omega arith) refl, t .rest .nodes UPPER (omega arith) refl) small;
                   canonical = canonical;
                   numbers = numbers;
                 }

@@ -6,11 +6,11 @@ use borrow.Author.Needs.{needs}
 use Rattle.theory_graph.proofs.TableLaws.{written-all, written-length, written-more}
 use Rattle.contraction_tables.proofs.fill_map.Statement.{statement}
 use Rattle.theory_graph.specs.Lists.{over, table}
-use Rattle.core_words.specs.Fields.{node}
+use Rattle.core_words.specs.Fields.{MAPPED, node}
 use Rattle.contraction_tables.proofs.fill_map.Tie as tie
 
 abbrev Inv-loop : tie.InvT-loop
-Inv-loop work n k active map₀ i₀ map i = (i ≤ k) × (map ≡ over (table (λ i. node 0 work (getD active i 0)) 0 i) map₀)
+Inv-loop work n k active map₀ i₀ map i = (i ≤ k) × (map ≡ over (table (λ i. node MAPPED work (getD active i 0)) 0 i) map₀)
 
 abbrev μ-loop : tie.MeasureT-loop
 μ-loop work n k active map₀ i₀ map i = k - i
@@ -34,10 +34,10 @@ cast-map : tie.Need-cast-map Inv-loop μ-loop
 cast-map c = omega (arith, c .get .ensures .0, c .before .before .before .before .before .before .before .pre .3 (c .before .before .before .loop .i) (omega arith) .1)
 
 mul-map : tie.Need-mul-map Inv-loop μ-loop
-mul-map c = let a = c .before .before .before .before .before .before .before .args in let s = written-length (λ i. node 0 (a .work .now) (getD (a .active .now) i 0)) (c .before .before .before .loop .i) (a .map .now) (c .before .before .before .loop .inv .1) (omega arith) in search needs
+mul-map c = let a = c .before .before .before .before .before .before .before .args in let s = written-length (λ i. node MAPPED (a .work .now) (getD (a .active .now) i 0)) (c .before .before .before .loop .i) (a .map .now) (c .before .before .before .loop .inv .1) (omega arith) in search needs
 
 slice-write-map : tie.Need-slice-write-map Inv-loop μ-loop
-slice-write-map c = let a = c .before .before .before .before .before .before .before .args in omega (arith, written-length (λ i. node 0 (a .work .now) (getD (a .active .now) i 0)) (c .before .before .before .loop .i) (a .map .now) (c .before .before .before .loop .inv .1) (omega arith))
+slice-write-map c = let a = c .before .before .before .before .before .before .before .args in omega (arith, written-length (λ i. node MAPPED (a .work .now) (getD (a .active .now) i 0)) (c .before .before .before .loop .i) (a .map .now) (c .before .before .before .loop .inv .1) (omega arith))
 
 add-i : tie.Need-add-i Inv-loop μ-loop
 add-i c = search needs
@@ -47,13 +47,13 @@ loop-less c = search needs
 
 loop-again : tie.Need-loop-again Inv-loop μ-loop
 loop-again c = let a = c .before .before .before .before .before .before .before .args in
-    (omega arith, written-more (λ i. node 0 (a .work .now) (getD (a .active .now) i 0)) (c .before .before .before .loop .i) (a .map .now) (c .before .before .before .loop .inv .1) (omega arith) (c .get .ensures .0))
+    (omega arith, written-more (λ i. node MAPPED (a .work .now) (getD (a .active .now) i 0)) (c .before .before .before .loop .i) (a .map .now) (c .before .before .before .loop .inv .1) (omega arith) (c .get .ensures .0))
 
 same-length : tie.Need-same-length Inv-loop μ-loop
-same-length c = let a = c .before .before .before .before .before .args in written-length (λ i. node 0 (a .work .now) (getD (a .active .now) i 0)) (c .before .loop .i) (a .map .now) (c .before .loop .inv .1) (omega arith)
+same-length c = let a = c .before .before .before .before .before .args in written-length (λ i. node MAPPED (a .work .now) (getD (a .active .now) i 0)) (c .before .loop .i) (a .map .now) (c .before .loop .inv .1) (omega arith)
 
 returns : tie.Need-returns Inv-loop μ-loop
-returns c = let a = c .before .before .before .before .before .args in written-all (λ i. node 0 (a .work .now) (getD (a .active .now) i 0)) (c .before .loop .i) (a .map .now) (c .before .loop .inv .1) (a .k) (omega arith)
+returns c = let a = c .before .before .before .before .before .args in written-all (λ i. node MAPPED (a .work .now) (getD (a .active .now) i 0)) (c .before .loop .i) (a .map .now) (c .before .loop .inv .1) (a .k) (omega arith)
 
 pub fill-map-spec : {M : Type 1} → statement M
 fill-map-spec =

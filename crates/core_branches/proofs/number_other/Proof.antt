@@ -5,7 +5,7 @@ use mathlib.Core.Path.{_∙_, ap, refl, sym}
 use native.Mathlib.Omega.{arith}
 use borrow.Author.Needs.{needs}
 use Rattle.core_branches.proofs.NumberLaws.{can-assign, has-number, other-assigned, room-more}
-use Rattle.core_words.specs.Fields.{node}
+use Rattle.core_words.specs.Fields.{OTHER, node}
 use Rattle.core_branches.proofs.number_other.Statement.{statement}
 use Rattle.core_branches.proofs.number_other.Tie as tie
 
@@ -37,7 +37,7 @@ same-length-3 : tie.Need-same-length-3
 same-length-3 c = search needs
 
 returns-3 : tie.Need-returns-3
-returns-3 c = let z = c .before .get4 .ensures .0 in inl (refl, refl, λ s o. absurd (o (ap (node 9 _) (sym (c .before .before .before .before .before .before .get2 .ensures .0)) ∙ sym z ∙ omega arith)))
+returns-3 c = let z = c .before .get4 .ensures .0 in inl (refl, refl, λ s o. absurd (o (ap (node OTHER _) (sym (c .before .before .before .before .before .before .get2 .ensures .0)) ∙ sym z ∙ omega arith)))
 
 assign-number-requires : tie.Need-assign-number-requires
 assign-number-requires c κs = can-assign (c .before .before .before .before .before .before .before .before .before .before .before .before .before .pre) (c .before .before .before .before .before .before .before .get2 .ensures .0) (c .before .before .before .before .before .get3 .ensures .0) (omega arith)

@@ -4,7 +4,7 @@ use mathlib.Core.Path.{refl}
 use native.Mathlib.Omega.{arith}
 use borrow.Author.Needs.{needs}
 use Rattle.core_components.proofs.FindLaws.{Finding, finding-more, finding-none}
-use Rattle.core_words.specs.Fields.{node}
+use Rattle.core_words.specs.Fields.{POSITION, node}
 use Rattle.core_components.proofs.find.Statement.{statement}
 use Rattle.core_components.proofs.find.Tie as tie
 
@@ -12,7 +12,7 @@ abbrev Inv-loop : tie.InvT-loop
 Inv-loop work₀ n v v₀ u₀ work v' u = Finding n v work₀ v' u work
 
 abbrev μ-loop : tie.MeasureT-loop
-μ-loop work₀ n v v₀ u₀ work v' u = node 4 work₀ v'
+μ-loop work₀ n v v₀ u₀ work v' u = node POSITION work₀ v'
 
 get-requires : tie.Need-get-requires Inv-loop μ-loop
 get-requires c κs = search needs

@@ -4,7 +4,7 @@ use Prim.Native.Nat.{_+_}
 use native.Mathlib.Omega.{arith}
 use borrow.Author.Needs.{needs}
 use Rattle.core_components.proofs.PathLaws.{PathLoop, loop-can, loop-can′, loop-done, loop-more, loop-more′, loop-none}
-use Rattle.core_words.specs.Fields.{node}
+use Rattle.core_words.specs.Fields.{POSITION, node}
 use Rattle.core_components.proofs.merge_tops.Statement.{statement}
 use Rattle.core_components.proofs.merge_tops.Tie as tie
 
@@ -12,7 +12,7 @@ abbrev Inv-loop : tie.InvT-loop
 Inv-loop work₀ n a b a₀ b₀ work a' b' = PathLoop n a b work₀ a' b' work
 
 abbrev μ-loop : tie.MeasureT-loop
-μ-loop work₀ n a b a₀ b₀ work a' b' = node 4 work₀ a' + node 4 work₀ b'
+μ-loop work₀ n a b a₀ b₀ work a' b' = node POSITION work₀ a' + node POSITION work₀ b'
 
 loop-holds : tie.Need-loop-holds Inv-loop μ-loop
 loop-holds c = loop-none (c .before .pre .0) (c .before .pre .1) (c .before .pre .2) (c .before .pre .3)

@@ -3,7 +3,7 @@ use native.Mathlib.Omega.{arith}
 use borrow.Author.Needs.{needs}
 use Rattle.core_loading.proofs.LoadingLaws.{entering-again, entering-new, entering-room}
 use Rattle.core_loading.proofs.enter.Statement.{statement}
-use Rattle.core_words.specs.Fields.{node}
+use Rattle.core_words.specs.Fields.{MARK, node}
 use Rattle.core_loading.proofs.enter.Tie as tie
 
 get-requires : tie.Need-get-requires
@@ -31,7 +31,7 @@ same-length-2 : tie.Need-same-length-2
 same-length-2 c = search needs
 
 returns-2 : tie.Need-returns-2
-returns-2 c = let z : node 0 (c .before .before .before .before .before .before .before .before .before .before .before .before .args .work .now) (c .before .before .before .before .before .before .before .before .before .before .before .before .args .v) ≡ 0 = sym (c .before .before .before .before .before .before .before .before .before .get .ensures .0) ∙ omega arith in
+returns-2 c = let z : node MARK (c .before .before .before .before .before .before .before .before .before .before .before .before .args .work .now) (c .before .before .before .before .before .before .before .before .before .before .before .before .args .v) ≡ 0 = sym (c .before .before .before .before .before .before .before .before .before .get .ensures .0) ∙ omega arith in
     entering-new (c .before .before .before .before .before .before .before .before .before .before .before .before .pre .2) z (entering-room (c .before .before .before .before .before .before .before .before .before .before .before .before .args .work .now) (c .before .before .before .before .before .before .before .before .before .before .before .before .pre .2) z (c .before .before .before .before .before .before .before .before .before .before .before .before .pre .3)) (c .before .before .before .before .before .before .put .ensures) (c .before .before .put2 .ensures)
 
 pub enter-spec : {M : Type 1} → statement M

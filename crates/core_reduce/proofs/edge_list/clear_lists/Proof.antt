@@ -8,9 +8,10 @@ use Prim.Native.Nat.{_-_, _<_, _≤_}
 use native.Mathlib.Omega.{arith}
 use Rattle.core_reduce.proofs.edge_list.clear_lists.Statement.{statement}
 use Rattle.core_reduce.proofs.edge_list.clear_lists.Tie as tie
+use Rattle.core_words.specs.Fields.{CHILD}
 
 abbrev Inv-loop : tie.InvT-loop
-Inv-loop work₀ n h s₀ work s = (s ≤ h) × Cleared (2 ∷ []) n s work₀ work
+Inv-loop work₀ n h s₀ work s = (s ≤ h) × Cleared (CHILD ∷ []) n s work₀ work
 
 abbrev μ-loop : tie.MeasureT-loop
 μ-loop work₀ n h s₀ work s = h - s
