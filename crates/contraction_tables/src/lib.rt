@@ -20,8 +20,8 @@ fn enter_active(work: &mut [u32], n: usize, k: usize, active: &[u16]) -> usize
     d
 }
 
-// Loads the ends of the first m edges.
-fn load_edges(work: &mut [u32], n: usize, m: usize, from: &[u16], to: &[u16])
+// Puts the first m edges into the half-edges.
+fn put_edges(work: &mut [u32], n: usize, m: usize, from: &[u16], to: &[u16])
     requires { ⌜ (n ≤ 65536) × (m ≤ 32768) × (16 * n + 4 * m ≤ length (now work)) × (m ≤ length (now from)) × (m ≤ length (now to)) ⌝ }
     ensures { λ _. ⌜ Edges n m (now (from .entry)) (now (to .entry)) (now (work .entry)) (now (work .exit)) m ⌝ }
 {
@@ -32,7 +32,7 @@ fn load_edges(work: &mut [u32], n: usize, m: usize, from: &[u16], to: &[u16])
     }
 }
 
-// Internal: loads the graph; the count of different active nodes.
+// Internal: loads the graph into the words that the contraction takes; the count of different active nodes.
 pub fn load(
     work: &mut [u32],
     n: usize,
@@ -47,7 +47,7 @@ pub fn load(
 {
     core_loading::clear_marks(work, n);
     let d = enter_active(work, n, k, active);
-    load_edges(work, n, m, from, to);
+    put_edges(work, n, m, from, to);
     d
 }
 

@@ -1,4 +1,4 @@
--- Laws of loading: the different entries of a list that grows by one entry, marks cleared, a node entered as active, and an edge stored.
+-- Laws of the parts of loading: the different entries of a list that grows by one entry, marks cleared, a node entered as active, and an edge stored.
 -- Assumes nothing.
 use Prim.Native.Nat.{_%_, _*_, _+_, _-_, _/_, _<_, _≤_, suc, zero, ℕ}
 use mathlib.Core.Bool.{Bool, _||_, cond, false, not, or-true, true}

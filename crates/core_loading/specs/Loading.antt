@@ -1,4 +1,4 @@
--- What loading does to the words: marks cleared, a node entered as active, where it is not yet, and an edge stored.
+-- The parts of loading a graph into the words: marks cleared, a node entered as active, where it is not yet, and an edge stored.
 -- Assumes nothing: these are definitions.
 use Prim.Native.Nat.{_*_, _+_, _<_, _≤_, ℕ}
 use mathlib.Core.List.{List, [], _++_, _∷_}

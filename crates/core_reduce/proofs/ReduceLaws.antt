@@ -13,7 +13,7 @@ use Rattle.core_branches.specs.SmallForest.{ParentPairs}
 use Rattle.core_components.proofs.JoinLaws.{between-still}
 use Rattle.core_components.specs.Components.{CanMergeComponents, Components}
 use Rattle.core_reduce.proofs.EdgeOrder.{canonical-cuts-equal, edges-cut}
-use Rattle.core_reduce.specs.Clearing.{Cleared, startFields}
+use Rattle.core_reduce.specs.Clearing.{ClearedNodes, startFields}
 use Rattle.core_reduce.specs.Core.{Loaded, Reduced, activeIn, edgesIn, edgesOut}
 use Rattle.core_reduce.specs.EdgeList.{CanList, EdgesListed}
 use Rattle.core_reduce.specs.Numbers.{CanWrite, WritingNumbers}
@@ -23,8 +23,7 @@ use Rattle.core_forest.specs.AdjacencyLists.{AdjacencyLists, CanLink, Linking}
 use Rattle.core_forest.specs.Forest.{ForestAt, edgesBelow}
 use Rattle.core_forest.specs.Search.{BetweenTrees, SearchKeeps, searchFields}
 use Rattle.theory_graph.proofs.CutEquivalence.{small-cuts-equal}
-use Rattle.theory_graph.proofs.SmallGraphDefinition.{small-definition}
-use Rattle.theory_graph.proofs.SmallGraphs.{SmallGraph}
+use Rattle.theory_graph.proofs.SmallGraphDefinition.{definition-small, small-definition}
 use Rattle.theory_graph.proofs.TableLaws.{table-equal}
 use Rattle.theory_graph.specs.Cut.{cut}
 use Rattle.theory_graph.specs.Graph.{NodeSet}
@@ -46,7 +45,7 @@ module _ {n m k : ℕ} {w₀ : List ℕ} (s : Loaded n m k w₀) where
   pub can-clear : (16 * n ≤ length w₀) × (n ≤ 65536)
   can-clear = (omega (arith, s .room), s .few)
 
-  module _ {w₁ : List ℕ} (c : Cleared startFields n n w₀ w₁) where
+  module _ {w₁ : List ℕ} (c : ClearedNodes startFields n n w₀ w₁) where
     pub can-link : CanLink n m w₁
     can-link = record { few = s .few; much = s .much; room = rw (c .rest .same) (s .room); ends = rw (c .rest .halves TO) (s .ends); empty = c .zero HEAD (omega arith) refl }
 
@@ -135,9 +134,9 @@ module _ {n m k : ℕ} {w₀ : List ℕ} (s : Loaded n m k w₀) where
 
               small : IsSmallGraph (edgesIn n m w₀) (activeIn k w₀) h (edgesOut e w₆) (node MEMBER w₅) (λ v. node NUMBER w₅ (node TOP w₅ v) - 1)
               small =
-                  let g : SmallGraph (edgesBelow (half n TO w₀) m) (activeIn k w₀) h (edgesOut e w₆) (node MEMBER w₅) (λ v. node NUMBER w₅ (node TOP w₅ v) - 1) =
+                  let g : IsSmallGraph (edgesBelow (half n TO w₀) m) (activeIn k w₀) h (edgesOut e w₆) (node MEMBER w₅) (λ v. node NUMBER w₅ (node TOP w₅ v) - 1) =
                   rw (ends-same, actives-same) at (forest-small (d .forest) (listed-pairs l)) in
-                  small-definition _ _ _ _ _ _ (small-cuts-equal (edgesBelow (half n TO w₀) m) (edgesIn n m w₀) cuts (activeIn k w₀) h (edgesOut e w₆) (node MEMBER w₅) (λ v. node NUMBER w₅ (node TOP w₅ v) - 1) g)
+                  small-definition _ _ _ _ _ _ (small-cuts-equal _ _ cuts _ _ _ _ _ (definition-small _ _ _ _ _ _ g))
 
               canonical : Canonical (edgesIn n m w₀) (activeIn k w₀) h (node MEMBER w₅) (λ v. node NUMBER w₅ (node TOP w₅ v) - 1)
               canonical =

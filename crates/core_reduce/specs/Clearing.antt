@@ -18,6 +18,6 @@ pub record ClearedNode (fs : List ℕ) (n v : ℕ) (a b : List ℕ) : Type 0 whe
   pub zero : (j : ℕ) → j < 16 → member fs j ≡ true → node j b ≡ update (node j a) v 0
 
 -- the fields fs of the first i nodes are 0, and only these fields have changed
-pub record Cleared (fs : List ℕ) (n i : ℕ) (a b : List ℕ) : Type 0 where
+pub record ClearedNodes (fs : List ℕ) (n i : ℕ) (a b : List ℕ) : Type 0 where
   pub rest : OnlyFields fs n a b
   pub zero : (j : ℕ) → j < 16 → member fs j ≡ true → (v : ℕ) → v < i → node j b v ≡ 0

@@ -5,7 +5,7 @@ ghost use mathlib.Core.List.{[], _∷_};
 ghost use Prim.Native.Nat.{_+_, _-_, _*_, _<_, _≤_};
 ghost use lib.ListN.{length};
 ghost use Rattle.core_words.specs.Fields.{ABOVE, CHILD, node};
-ghost use Rattle.core_reduce.specs.Clearing.{Cleared};
+ghost use Rattle.core_reduce.specs.Clearing.{ClearedNodes};
 ghost use Rattle.core_reduce.specs.EdgeList.{EdgePair, FirstFrom, LeastNonzero, IfAbove, NextChild, CanList, Pushing, Writing, EdgesListed};
 
 // The smaller of those that are not 0, or 0.
@@ -48,7 +48,7 @@ fn next_child(work: &[u32], c: usize, t: usize) -> usize
 // The h numbers have empty lists.
 fn clear_lists(work: &mut [u32], n: usize, h: usize)
     requires { ⌜ CanList n h (now work) ⌝ }
-    ensures { λ _. ⌜ Cleared (CHILD ∷ []) n h (now (work .entry)) (now (work .exit)) ⌝ }
+    ensures { λ _. ⌜ ClearedNodes (CHILD ∷ []) n h (now (work .entry)) (now (work .exit)) ⌝ }
 {
     for s in 0..h {
         core_words::put(work, s, CHILD, 0);

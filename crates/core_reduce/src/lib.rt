@@ -26,7 +26,7 @@ ghost use Prim.Native.Nat.{_-_, _*_, _<_, _≤_};
 ghost use lib.ListN.{length};
 ghost use Rattle.core_words.specs.Fields.{NUMBER, TOP, node};
 ghost use Rattle.core_branches.specs.Classes.{HasNumber};
-ghost use Rattle.core_reduce.specs.Clearing.{ClearedNode, Cleared, startFields};
+ghost use Rattle.core_reduce.specs.Clearing.{ClearedNode, ClearedNodes, startFields};
 ghost use Rattle.core_reduce.specs.Numbers.{CanWrite, WritingNumbers};
 ghost use Rattle.core_reduce.specs.Core.{Loaded, Reduced};
 
@@ -52,7 +52,7 @@ fn clear_node(work: &mut [u32], n: usize, v: usize)
 // Clears the fields that start at 0.
 fn clear_nodes(work: &mut [u32], n: usize)
     requires { ⌜ (16 * n ≤ length (now work)) × (n ≤ 65536) ⌝ }
-    ensures { λ _. ⌜ Cleared startFields n n (now (work .entry)) (now (work .exit)) ⌝ }
+    ensures { λ _. ⌜ ClearedNodes startFields n n (now (work .entry)) (now (work .exit)) ⌝ }
 {
     for v in 0..n {
         clear_node(work, n, v);
@@ -81,7 +81,7 @@ fn write_numbers(work: &mut [u32], n: usize, k: usize)
     }
 }
 
-// Internal: contracts the m edges between n nodes to the k different active nodes that are loaded in the words.
+// Internal: contracts the m edges between n nodes to the k different active nodes that stand in the words.
 pub fn reduce(work: &mut [u32], n: usize, m: usize, k: usize) -> Counts
     requires { ⌜ Loaded n m k (now work) ⌝ }
     ensures { λ r. ⌜ Reduced n m k (now (work .entry)) (now (work .exit)) (r .nodes) (r .edges) ⌝ }

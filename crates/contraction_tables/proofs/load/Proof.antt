@@ -11,14 +11,14 @@ enter-active-requires : tie.Need-enter-active-requires
 enter-active-requires c κs = let p = c .before .before .before .before .before .before .before .before .before .pre in let z = c .before .before .before .clear-marks .ensures in
     (p .few, omega (arith, p .room, z .same), p .active-length, p .entries, z .unmarked)
 
-load-edges-requires : tie.Need-load-edges-requires
-load-edges-requires c κs = search needs
+put-edges-requires : tie.Need-put-edges-requires
+put-edges-requires c κs = search needs
 
 same-length : tie.Need-same-length
 same-length c = search needs
 
 returns : tie.Need-returns
-returns c = prepared (c .before .before .before .before .before .before .before .before .before .before .before .before .before .before .before .before .pre) (c .before .before .before .before .before .before .before .before .before .before .clear-marks .ensures) (c .before .before .before .before .before .before .enter-active .ensures) (c .before .before .load-edges .ensures)
+returns c = prepared (c .before .before .before .before .before .before .before .before .before .before .before .before .before .before .before .before .pre) (c .before .before .before .before .before .before .before .before .before .before .clear-marks .ensures) (c .before .before .before .before .before .before .enter-active .ensures) (c .before .before .put-edges .ensures)
 
 pub load-spec : {M : Type 1} → statement M
 load-spec =
@@ -26,6 +26,6 @@ load-spec =
     (tie.spec
     clear-marks-requires
     enter-active-requires
-    load-edges-requires
+    put-edges-requires
     same-length
     returns)

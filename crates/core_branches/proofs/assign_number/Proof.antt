@@ -1,4 +1,4 @@
--- `branches::assign_number` meets its contract.
+-- `assign_number` meets its contract.
 -- Assumes nothing.
 use borrow.Author.Needs.{needs}
 use Rattle.core_branches.proofs.NumberLaws.{assigned}

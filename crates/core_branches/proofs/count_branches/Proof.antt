@@ -1,4 +1,4 @@
--- `branches::count_branches` meets its contract. The loop's invariant: those after place i have reported.
+-- `count_branches` meets its contract. The loop's invariant: those after place i have reported.
 -- Assumes nothing.
 use Prim.Native.Nat.{_-_, _≤_}
 use mathlib.Core.Path.{_≡_}

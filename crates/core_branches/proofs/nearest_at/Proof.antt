@@ -1,4 +1,4 @@
--- `branches::nearest_at` meets its contract.
+-- `nearest_at` meets its contract.
 -- Assumes nothing.
 use mathlib.Core.Logic.{inl}
 use mathlib.Core.Path.{_∙_, refl}

@@ -1,4 +1,4 @@
--- `branches::nearest_kept` meets its contract. The loop's invariant: the first i nodes of the order have theirs.
+-- `nearest_kept` meets its contract. The loop's invariant: the first i nodes of the order have theirs.
 -- Assumes nothing.
 use Prim.Native.Nat.{_-_, _≤_}
 use mathlib.Core.Path.{_≡_}

@@ -1,4 +1,4 @@
--- `branches::number_active` meets its contract.
+-- `number_active` meets its contract.
 -- Assumes nothing.
 use mathlib.Core.Logic.{inl}
 use mathlib.Core.Path.{refl}

@@ -1,4 +1,4 @@
--- `branches::number_actives` meets its contract. The loop's invariant: the classes of the first i active nodes have their numbers.
+-- `number_actives` meets its contract. The loop's invariant: the classes of the first i active nodes have their numbers.
 -- Assumes nothing.
 use Prim.Native.Nat.{_-_, _≤_}
 use mathlib.Core.Path.{_≡_}

@@ -1,4 +1,4 @@
--- `branches::number_classes` meets its contract.
+-- `number_classes` meets its contract.
 -- Assumes nothing.
 use borrow.Author.Needs.{needs}
 use Rattle.core_branches.proofs.ClassLaws.{can-count, can-nearest, can-number-actives, can-number-others, can-parents, class-numbers}

@@ -1,4 +1,4 @@
--- `branches::number_other` meets its contract.
+-- `number_other` meets its contract.
 -- Assumes nothing.
 use mathlib.Core.Logic.{inl}
 use mathlib.Core.Path.{_∙_, ap, refl, sym}

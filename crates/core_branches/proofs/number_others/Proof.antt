@@ -1,4 +1,4 @@
--- `branches::number_others` meets its contract. The loop's invariant: the kept classes with a node below v have their numbers.
+-- `number_others` meets its contract. The loop's invariant: the kept classes with a node below v have their numbers.
 -- Assumes nothing.
 use Prim.Native.Nat.{_-_, _≤_}
 use mathlib.Core.Path.{_≡_}

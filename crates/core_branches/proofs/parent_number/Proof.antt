@@ -1,4 +1,4 @@
--- `branches::parent_number` meets its contract.
+-- `parent_number` meets its contract.
 -- Assumes nothing.
 use mathlib.Core.Path.{refl}
 use native.Mathlib.Omega.{arith}

@@ -1,4 +1,4 @@
--- `branches::parent_numbers` meets its contract. The loop's invariant: the first x numbers have theirs.
+-- `parent_numbers` meets its contract. The loop's invariant: the first x numbers have theirs.
 -- Assumes nothing.
 use Prim.Native.Nat.{_-_, _≤_}
 use mathlib.Core.Path.{_≡_}

@@ -1,4 +1,4 @@
--- `branches::report_branch` meets its contract.
+-- `report_branch` meets its contract.
 -- Assumes nothing.
 use mathlib.Core.Logic.{inl}
 use mathlib.Core.Path.{_∙_, refl, sym}

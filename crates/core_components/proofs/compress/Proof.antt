@@ -1,4 +1,4 @@
--- `components::compress` meets its contract.
+-- `compress` meets its contract.
 -- Assumes nothing.
 use native.Mathlib.Omega.{arith}
 use borrow.Author.Needs.{needs}

@@ -1,4 +1,4 @@
--- `components::compress_all` meets its contract. The loop's invariant: the first i nodes of the order go straight to their tops.
+-- `compress_all` meets its contract. The loop's invariant: the first i nodes of the order go straight to their tops.
 -- Assumes nothing.
 use Prim.Native.Nat.{_-_, _≤_}
 use mathlib.Core.Path.{_≡_}

@@ -1,4 +1,4 @@
--- `components::find` meets its contract. The loop's invariant: `v` is reached from the first v, and the tops are the same.
+-- `find` meets its contract. The loop's invariant: `v` is reached from the first v, and the tops are the same.
 -- Assumes nothing.
 use mathlib.Core.Path.{refl}
 use native.Mathlib.Omega.{arith}

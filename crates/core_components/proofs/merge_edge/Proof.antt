@@ -1,4 +1,4 @@
--- `components::merge_edge` meets its contract.
+-- `merge_edge` meets its contract.
 -- Assumes nothing.
 use native.Mathlib.Omega.{arith}
 use borrow.Author.Needs.{needs}

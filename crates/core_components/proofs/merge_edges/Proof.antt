@@ -1,4 +1,4 @@
--- `components::merge_edges` meets its contract. The loop's invariant: the first e edges are merged.
+-- `merge_edges` meets its contract. The loop's invariant: the first e edges are merged.
 -- Assumes nothing.
 use Prim.Native.Nat.{_-_, _≤_}
 use mathlib.Core.Path.{_≡_}

@@ -1,4 +1,4 @@
--- `components::merge_parent` meets its contract.
+-- `merge_parent` meets its contract.
 -- Assumes nothing.
 use borrow.Author.Needs.{needs}
 use Rattle.core_components.proofs.PathLaws.{merged-up-at}

@@ -1,4 +1,4 @@
--- `components::merge_path` meets its contract.
+-- `merge_path` meets its contract.
 -- Assumes nothing.
 use borrow.Author.Needs.{needs}
 use Rattle.core_components.proofs.PathLaws.{merged-path, second, to-tops}

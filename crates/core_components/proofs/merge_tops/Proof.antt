@@ -1,4 +1,4 @@
--- `components::merge_tops` meets its contract. The loop's invariant: merging from the first a and b to the present ones leaves a and b to be merged; the later of the two comes earlier at each turn.
+-- `merge_tops` meets its contract. The loop's invariant: merging from the first a and b to the present ones leaves a and b to be merged; the later of the two comes earlier at each turn.
 -- Assumes nothing.
 use Prim.Native.Nat.{_+_}
 use native.Mathlib.Omega.{arith}

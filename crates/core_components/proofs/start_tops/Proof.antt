@@ -1,4 +1,4 @@
--- `components::start_tops` meets its contract. The loop's invariant: the first v nodes are their own tops.
+-- `start_tops` meets its contract. The loop's invariant: the first v nodes are their own tops.
 -- Assumes nothing.
 use Prim.Native.Nat.{_-_, _≤_}
 use mathlib.Core.Path.{_≡_}

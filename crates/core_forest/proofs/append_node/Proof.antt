@@ -1,4 +1,4 @@
--- `forest::append_node` meets its contract.
+-- `append_node` meets its contract.
 -- Assumes nothing.
 use borrow.Author.Needs.{needs}
 use Rattle.core_forest.proofs.SearchLaws.{appended}

@@ -1,4 +1,4 @@
--- `forest::grow_tree` meets its contract. The loop's invariant: the search of the tree of r goes on, with `done` nodes finished.
+-- `grow_tree` meets its contract. The loop's invariant: the search of the tree of r goes on, with `done` nodes finished.
 -- Assumes nothing.
 use Prim.Native.Nat.{_-_}
 use mathlib.Core.Path.{_≡_}

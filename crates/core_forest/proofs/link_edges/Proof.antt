@@ -1,4 +1,4 @@
--- `forest::link_edges` meets its contract. The loop's invariant: the first e edges are linked.
+-- `link_edges` meets its contract. The loop's invariant: the first e edges are linked.
 -- Assumes nothing.
 use Prim.Native.Nat.{_*_, _-_, _≤_}
 use mathlib.Core.Path.{_≡_}

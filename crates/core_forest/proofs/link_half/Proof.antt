@@ -1,4 +1,4 @@
--- `forest::link_half` meets its contract.
+-- `link_half` meets its contract.
 -- Assumes nothing.
 use native.Mathlib.Omega.{arith}
 use borrow.Author.Needs.{needs}

@@ -1,4 +1,4 @@
--- `forest::scan_node` meets its contract. The loop's invariant: the half-edges of v from `cur` on have been followed, and `cur` is the next in v's list.
+-- `scan_node` meets its contract. The loop's invariant: the half-edges of v from `cur` on have been followed, and `cur` is the next in v's list.
 -- Assumes nothing.
 use mathlib.Core.Path.{refl}
 use native.Mathlib.Omega.{arith}

@@ -1,4 +1,4 @@
--- `forest::spanning_forest` meets its contract. The loop's invariant: the first j active nodes are seen.
+-- `spanning_forest` meets its contract. The loop's invariant: the first j active nodes are seen.
 -- Assumes nothing.
 use Prim.Native.Nat.{_-_, _≤_}
 use mathlib.Core.Path.{_≡_}

@@ -1,4 +1,4 @@
--- `forest::start_tree` meets its contract.
+-- `start_tree` meets its contract.
 -- Assumes nothing.
 use mathlib.Core.Path.{refl}
 use native.Mathlib.Omega.{arith}

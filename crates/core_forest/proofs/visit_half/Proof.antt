@@ -1,4 +1,4 @@
--- `forest::visit_half` meets its contract.
+-- `visit_half` meets its contract.
 -- Assumes nothing.
 use mathlib.Core.Path.{refl}
 use native.Mathlib.Omega.{arith}

@@ -1,4 +1,4 @@
--- `core::class_number` meets its contract.
+-- `class_number` meets its contract.
 -- Assumes nothing.
 use mathlib.Core.Path.{ap}
 use Prim.Native.Nat.{_-_}

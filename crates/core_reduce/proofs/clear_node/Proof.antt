@@ -1,4 +1,4 @@
--- `core::clear_node` meets its contract.
+-- `clear_node` meets its contract.
 -- Assumes nothing.
 use Rattle.core_reduce.proofs.ClearLaws.{clear-none, clear-put}
 use mathlib.Core.Path.{refl}

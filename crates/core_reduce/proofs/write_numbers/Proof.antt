@@ -1,4 +1,4 @@
--- `core::write_numbers` meets its contract. The loop's invariant: the first i active nodes have their numbers.
+-- `write_numbers` meets its contract. The loop's invariant: the first i active nodes have their numbers.
 -- Assumes nothing.
 use Rattle.core_reduce.proofs.NumberLaws.{writing-can, writing-more, writing-none}
 use Rattle.core_reduce.specs.Numbers.{WritingNumbers}

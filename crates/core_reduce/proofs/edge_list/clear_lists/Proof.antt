@@ -1,7 +1,7 @@
--- `core::edge_list::clear_lists` meets its contract. The loop's invariant: the first s numbers have empty lists.
+-- `edge_list::clear_lists` meets its contract. The loop's invariant: the first s numbers have empty lists.
 -- Assumes nothing.
 use Rattle.core_reduce.proofs.ClearLaws.{clear-none, clear-put, cleared-none, cleared-more}
-use Rattle.core_reduce.specs.Clearing.{Cleared}
+use Rattle.core_reduce.specs.Clearing.{ClearedNodes}
 use mathlib.Core.List.{[], _∷_}
 use mathlib.Core.Path.{_≡_, refl}
 use Prim.Native.Nat.{_-_, _<_, _≤_}
@@ -11,7 +11,7 @@ use Rattle.core_reduce.proofs.edge_list.clear_lists.Tie as tie
 use Rattle.core_words.specs.Fields.{CHILD}
 
 abbrev Inv-loop : tie.InvT-loop
-Inv-loop work₀ n h s₀ work s = (s ≤ h) × Cleared (CHILD ∷ []) n s work₀ work
+Inv-loop work₀ n h s₀ work s = (s ≤ h) × ClearedNodes (CHILD ∷ []) n s work₀ work
 
 abbrev μ-loop : tie.MeasureT-loop
 μ-loop work₀ n h s₀ work s = h - s

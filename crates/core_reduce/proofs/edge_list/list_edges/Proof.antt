@@ -1,4 +1,4 @@
--- `core::edge_list::list_edges` meets its contract.
+-- `edge_list::list_edges` meets its contract.
 -- Assumes nothing.
 use Rattle.core_reduce.proofs.ListingLaws.{all-listed, pushing-cleared, pushing-self, pushing-then}
 use borrow.Author.Needs.{needs}

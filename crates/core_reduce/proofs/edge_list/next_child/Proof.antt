@@ -1,4 +1,4 @@
--- `core::edge_list::next_child` meets its contract.
+-- `edge_list::next_child` meets its contract.
 -- Assumes nothing.
 use mathlib.Core.Logic.{inl, inr}
 use mathlib.Core.Path.{refl}

@@ -1,4 +1,4 @@
--- `core::edge_list::push_children` meets its contract. The loop's invariant: the numbers from x on are in their lists.
+-- `edge_list::push_children` meets its contract. The loop's invariant: the numbers from x on are in their lists.
 -- Assumes nothing.
 use Prim.Native.Nat.{_≤_}
 use mathlib.Core.Path.{_≡_}

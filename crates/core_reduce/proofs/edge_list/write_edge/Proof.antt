@@ -1,4 +1,4 @@
--- `core::edge_list::write_edge` meets its contract.
+-- `edge_list::write_edge` meets its contract.
 -- Assumes nothing.
 use native.Mathlib.Omega.{arith}
 use borrow.Author.Needs.{needs}

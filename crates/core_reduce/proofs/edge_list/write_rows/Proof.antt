@@ -1,4 +1,4 @@
--- `core::edge_list::write_rows` meets its contract. The loop's invariant: the edges with a smaller end below s are written.
+-- `edge_list::write_rows` meets its contract. The loop's invariant: the edges with a smaller end below s are written.
 -- Assumes nothing.
 use Prim.Native.Nat.{_+_, _-_, _≤_}
 use mathlib.Core.Path.{_≡_}

@@ -3,9 +3,9 @@ use mathlib.Core.Path.{_≡_}
 use native.Mathlib.Omega.{arith}
 use borrow.Author.Needs.{needs}
 use Rattle.contraction_tables.proofs.TransferLaws.{edges-more, edges-none}
-use Rattle.contraction_tables.proofs.load_edges.Statement.{statement}
+use Rattle.contraction_tables.proofs.put_edges.Statement.{statement}
 use Rattle.contraction_tables.specs.Transfer.{Edges}
-use Rattle.contraction_tables.proofs.load_edges.Tie as tie
+use Rattle.contraction_tables.proofs.put_edges.Tie as tie
 
 abbrev Inv-loop : tie.InvT-loop
 Inv-loop work₀ n m from to s₀ work s = (s ≤ m) × Edges n m from to work₀ work s
@@ -52,8 +52,8 @@ same-length c = c .before .loop .inv .1 .same
 returns : tie.Need-returns Inv-loop μ-loop
 returns c = let e : c .before .loop .s ≡ c .before .before .before .before .before .args .m = omega arith in rw e at (c .before .loop .inv .1)
 
-pub load-edges-spec : {M : Type 1} → statement M
-load-edges-spec =
+pub put-edges-spec : {M : Type 1} → statement M
+put-edges-spec =
     tie.close
     (tie.spec
     Inv-loop
