@@ -16,41 +16,33 @@ abbrev μ-loop : tie.MeasureT-loop
 loop-holds : tie.Need-loop-holds Inv-loop μ-loop
 loop-holds c = (omega arith, edges-none _ _ _ _ _)
 
-mul-a : tie.Need-mul-a Inv-loop μ-loop
-mul-a c = search needs
-
-shared-slice-read-a : tie.Need-shared-slice-read-a Inv-loop μ-loop
-shared-slice-read-a c = search needs
-
 cast-a : tie.Need-cast-a Inv-loop μ-loop
 cast-a c = omega (arith, c .shared-slice-known3 .given (c .before .before .loop .s))
-
-mul-b : tie.Need-mul-b Inv-loop μ-loop
-mul-b c = search needs
-
-shared-slice-read-b : tie.Need-shared-slice-read-b Inv-loop μ-loop
-shared-slice-read-b c = search needs
 
 cast-b : tie.Need-cast-b Inv-loop μ-loop
 cast-b c = omega (arith, c .shared-slice-known4 .given (c .before .before .before .loop .s))
 
 put-edge-requires : tie.Need-put-edge-requires Inv-loop μ-loop
-put-edge-requires c κs = (omega (arith, c .before .before .before .before .before .before .before .before .pre .2, c .before .before .before .before .loop .inv .1 .same), omega (arith, c .before .before .shared-slice-known3 .given (c .before .before .before .before .loop .s)), omega (arith, c .before .shared-slice-known4 .given (c .before .before .before .before .loop .s)), c .before .before .before .before .before .before .before .before .pre .0, omega arith)
-
-add-s : tie.Need-add-s Inv-loop μ-loop
-add-s c = search needs
-
-loop-less : tie.Need-loop-less Inv-loop μ-loop
-loop-less c = search needs
+put-edge-requires c κs =
+    let at-shared-slice-known3 = c .before .before in
+    let at-loop = at-shared-slice-known3 .before .before in
+    let start = at-loop .before .before .before .before in
+    (omega (arith, start .pre .2, at-loop .loop .inv .1 .same), omega (arith, at-shared-slice-known3 .shared-slice-known3 .given (at-loop .loop .s)), omega (arith, c .before .shared-slice-known4 .given (at-loop .loop .s)), start .pre .0, omega arith)
 
 loop-again : tie.Need-loop-again Inv-loop μ-loop
-loop-again c = (omega arith, edges-more (omega arith) (c .before .before .before .before .before .before .before .loop .inv .1) (c .before .before .put-edge .ensures))
+loop-again c =
+    let at-put-edge = c .before .before in
+    let at-loop = at-put-edge .before .before .before .before .before in
+    (omega arith, edges-more (omega arith) (at-loop .loop .inv .1) (at-put-edge .put-edge .ensures))
 
 same-length : tie.Need-same-length Inv-loop μ-loop
 same-length c = c .before .loop .inv .1 .same
 
 returns : tie.Need-returns Inv-loop μ-loop
-returns c = let e : c .before .loop .s ≡ c .before .before .before .before .before .args .m = omega arith in rw e at (c .before .loop .inv .1)
+returns c =
+    let start = c .before .before .before .before .before in
+    let e : c .before .loop .s ≡ start .args .m = omega arith in
+    rw e at (c .before .loop .inv .1)
 
 pub put-edges-spec : {M : Type 1} → statement M
 put-edges-spec =
@@ -59,15 +51,15 @@ put-edges-spec =
     Inv-loop
     μ-loop
     loop-holds
-    mul-a
-    shared-slice-read-a
+    (λ c. search needs)
+    (λ c. search needs)
     cast-a
-    mul-b
-    shared-slice-read-b
+    (λ c. search needs)
+    (λ c. search needs)
     cast-b
     put-edge-requires
-    add-s
-    loop-less
+    (λ c. search needs)
+    (λ c. search needs)
     loop-again
     same-length
     returns)

@@ -5,9 +5,6 @@ use Rattle.core_components.proofs.JoinLaws.{can-compress, can-merge, co
 use Rattle.core_components.proofs.merge_components.Statement.{statement}
 use Rattle.core_components.proofs.merge_components.Tie as tie
 
-start-tops-requires : tie.Need-start-tops-requires
-start-tops-requires c κs = search needs
-
 merge-edges-requires : tie.Need-merge-edges-requires
 merge-edges-requires c κs =
     let started = c .before .before .before in
@@ -19,9 +16,6 @@ compress-all-requires c κs =
     let started = merged .before .before .before .before in
     can-compress (started .before .before .before .pre) (started .start-tops .ensures) (merged .merge-edges .ensures)
 
-same-length : tie.Need-same-length
-same-length c = search needs
-
 returns : tie.Need-returns
 returns c =
     let compressed = c .before .before in
@@ -32,4 +26,4 @@ returns c =
 pub merge-components-spec : {M : Type 1} → statement M
 merge-components-spec =
     tie.close
-    (tie.spec start-tops-requires merge-edges-requires compress-all-requires same-length returns)
+    (tie.spec (λ c κs. search needs) merge-edges-requires compress-all-requires (λ c. search needs) returns)

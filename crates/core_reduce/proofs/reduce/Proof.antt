@@ -21,18 +21,22 @@ spanning-forest-requires c κs =
 
 merge-components-requires : tie.Need-merge-components-requires
 merge-components-requires c κs =
-    let searched = c .before .before .before in
+    let at-3 = c .before .before .before in
+    let searched = at-3 in
     let linked = searched .before .before .before .before in
     let cleared = linked .before .before .before .before in
-    can-merge-components (cleared .before .before .before .pre) (cleared .clear-nodes .ensures) (linked .link-edges .ensures) (searched .spanning-forest .ensures)
+    can-merge-components (cleared .before .before .before .pre) (cleared .clear-nodes .ensures) (linked .link-edges .ensures)
+    (searched .spanning-forest .ensures)
 
 number-classes-requires : tie.Need-number-classes-requires
 number-classes-requires c κs =
-    let merged = c .before .before .before in
+    let at-3 = c .before .before .before in
+    let merged = at-3 in
     let searched = merged .before .before .before .before in
     let linked = searched .before .before .before .before in
     let cleared = linked .before .before .before .before in
-    can-number-classes (cleared .before .before .before .pre) (cleared .clear-nodes .ensures) (linked .link-edges .ensures) (searched .spanning-forest .ensures) (merged .merge-components .ensures)
+    can-number-classes (cleared .before .before .before .pre) (cleared .clear-nodes .ensures) (linked .link-edges .ensures) (searched .spanning-forest .ensures)
+    (merged .merge-components .ensures)
 
 list-edges-requires : tie.Need-list-edges-requires
 list-edges-requires c κs =
@@ -54,9 +58,6 @@ write-numbers-requires c κs =
     let cleared = linked .before .before .before .before in
     can-write (cleared .before .before .before .pre) (cleared .clear-nodes .ensures) (linked .link-edges .ensures) (searched .spanning-forest .ensures)
     (merged .merge-components .ensures) (numbered .number-classes .ensures) (listed .list-edges .ensures)
-
-same-length : tie.Need-same-length
-same-length c = search needs
 
 returns : tie.Need-returns
 returns c =
@@ -81,5 +82,5 @@ reduce-spec =
     number-classes-requires
     list-edges-requires
     write-numbers-requires
-    same-length
+    (λ c. search needs)
     returns)
