@@ -180,4 +180,16 @@ module _ (l : Lent) (s : Sound l) where
         → outcome (Done h e) mp lows highs w₃ ≡ done l
     unfolding done
     outcome-is a b c k f =
-        rw (the-nodes (l .n) (edges l) (entries l) edges-below entries-below h (edgesOut e w₂) (r .ρ) (r .σ) small canonical, sym edges-length ∙ ap length result-edges, a, b, c, f, k, result-map, result-from, result-to, result-work) refl
+        rw (
+          the-nodes (l .n) (edges l) (entries l) edges-below entries-below h (edgesOut e w₂) (r .ρ) (r .σ) small canonical,
+          sym edges-length ∙ ap length result-edges,
+          a,
+          b,
+          c,
+          f,
+          k,
+          result-map,
+          result-from,
+          result-to,
+          result-work,
+        ) refl

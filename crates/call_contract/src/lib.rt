@@ -24,7 +24,9 @@ fn contracted(
     work: &mut [u32],
 ) -> ContractReply
     requires { ⌜ fault (lent n m k (now from) (now to) (now active) (now map) (now «out_from») (now «out_to») (now work)) .0 ≡ 0 ⌝ }
-    ensures { λ r. ⌜ outcome r (now (map .exit)) (now («out_from» .exit)) (now («out_to» .exit)) (now (work .exit)) ≡ done (lent n m k (now (from .entry)) (now (to .entry)) (now (active .entry)) (now (map .entry)) (now («out_from» .entry)) (now («out_to» .entry)) (now (work .entry))) ⌝ }
+    ensures { λ r. ⌜ outcome r (now (map .exit)) (now («out_from» .exit)) (now («out_to» .exit)) (now (work .exit))
+        ≡ done (lent n m k (now (from .entry)) (now (to .entry)) (now (active .entry))
+        (now (map .entry)) (now («out_from» .entry)) (now («out_to» .entry)) (now (work .entry))) ⌝ }
 {
     let d = contraction_tables::load(work, n, m, k, from, to, active);
     let small = core_reduce::reduce(work, n, m, d);
@@ -51,7 +53,9 @@ pub fn contract(
     out_to: &mut [u16],
     work: &mut [u32],
 ) -> ContractReply
-    ensures { λ r. ⌜ outcome r (now (map .exit)) (now («out_from» .exit)) (now («out_to» .exit)) (now (work .exit)) ≡ contraction (lent n m k (now (from .entry)) (now (to .entry)) (now (active .entry)) (now (map .entry)) (now («out_from» .entry)) (now («out_to» .entry)) (now (work .entry))) ⌝ }
+    ensures { λ r. ⌜ outcome r (now (map .exit)) (now («out_from» .exit)) (now («out_to» .exit)) (now (work .exit))
+        ≡ contraction (lent n m k (now (from .entry)) (now (to .entry)) (now (active .entry))
+        (now (map .entry)) (now («out_from» .entry)) (now («out_to» .entry)) (now (work .entry))) ⌝ }
 {
     let fault = contraction_checks::first_fault(
         n,

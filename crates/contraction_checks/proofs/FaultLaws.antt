@@ -9,7 +9,8 @@ use lib.ListN.{getD, length}
 use native.Mathlib.Omega.{arith}
 use borrow.Author.Tests.{le-ltb, leb-false, lt-ltb, ltb-false}
 use Rattle.theory_contraction.specs.Contraction.{Lent, badEntry, fault, faults, required, shortTables, tableLengths}
-use Rattle.call_sizes.proofs.RefusalLaws.{accepted-long, fault-silent, numbered-append, short-numbered, seek-none, silent-fault, silent-left, silent-right, fault-left, fault-right, sizes-numbered}
+use Rattle.call_sizes.proofs.RefusalLaws.{accepted-long, fault-silent, numbered-append, short-numbered, seek-none, silent-fault}
+use Rattle.call_sizes.proofs.RefusalLaws.{silent-left, silent-right, fault-left, fault-right, sizes-numbered}
 use Rattle.call_sizes.specs.Refusal.{Refusal, Row, firstFault, row, seek, badEnds}
 use Rattle.call_sizes.specs.Sizes.{sizeFaults}
 
@@ -96,7 +97,8 @@ module _ (l : Lent) where
   unfolding fault faults
   sound z =
       let sizes = sizeFaults (l .n) (l .m) 0 (l .k) in
-      let numbers = numbered-append sizes (shortTables l ++ placed) (sizes-numbered (l .n) (l .m) 0 (l .k)) (numbered-append (shortTables l) placed (short-numbered (tableLengths l)) ((λ e. omega arith), ((λ e. omega arith), tt))) in
+      let numbers = numbered-append sizes (shortTables l ++ placed) (sizes-numbered (l .n) (l .m) 0 (l .k))
+      (numbered-append (shortTables l) placed (short-numbered (tableLengths l)) ((λ e. omega arith), ((λ e. omega arith), tt))) in
       let s = fault-silent (sizes ++ shortTables l ++ placed) numbers z in
       let t = silent-right sizes (shortTables l ++ placed) s in
       let u = silent-right (shortTables l) placed t in

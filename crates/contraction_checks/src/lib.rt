@@ -28,7 +28,8 @@ fn length_fault(
     work: &[u32],
 ) -> Fault
     requires { ⌜ (n ≤ 4096) × (m ≤ 8192) × (k ≤ 8192) ⌝ }
-    ensures { λ r. ⌜ (r .code, r .place) ≡ firstFault (shortTables (lent n m k (now (from .entry)) (now (to .entry)) (now (active .entry)) (now (map .entry)) (now («out_from» .entry)) (now («out_to» .entry)) (now (work .entry)))) ⌝ }
+    ensures { λ r. ⌜ (r .code, r .place) ≡ firstFault (shortTables (lent n m k (now (from .entry)) (now (to .entry)) (now (active .entry))
+        (now (map .entry)) (now («out_from» .entry)) (now («out_to» .entry)) (now (work .entry)))) ⌝ }
 {
     let tables = [
         from.len(),
@@ -77,7 +78,8 @@ pub fn first_fault(
     out_to: &[u16],
     work: &[u32],
 ) -> Fault
-    ensures { λ r. ⌜ (r .code, r .place) ≡ fault (lent n m k (now (from .entry)) (now (to .entry)) (now (active .entry)) (now (map .entry)) (now («out_from» .entry)) (now («out_to» .entry)) (now (work .entry))) ⌝ }
+    ensures { λ r. ⌜ (r .code, r .place) ≡ fault (lent n m k (now (from .entry)) (now (to .entry)) (now (active .entry))
+        (now (map .entry)) (now («out_from» .entry)) (now («out_to» .entry)) (now (work .entry))) ⌝ }
 {
     let sizes = call_sizes::size_fault(n, m, 0, k);
     if sizes.code != 0 {

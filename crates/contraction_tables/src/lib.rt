@@ -9,7 +9,8 @@ ghost use Rattle.theory_graph.specs.Lists.{table, over};
 
 // Enters the first k active entries; the count of different active nodes.
 fn enter_active(work: &mut [u32], n: usize, k: usize, active: &[u16]) -> usize
-    requires { ⌜ (n ≤ 65536) × (16 * n ≤ length (now work)) × (k ≤ length (now active)) × ((i : ℕ) → i < k → getD (now active) i 0 < n) × ((v : ℕ) → v < n → node MARK (now work) v ≡ 0) ⌝ }
+    requires { ⌜ (n ≤ 65536) × (16 * n ≤ length (now work)) × (k ≤ length (now active))
+        × ((i : ℕ) → i < k → getD (now active) i 0 < n) × ((v : ℕ) → v < n → node MARK (now work) v ≡ 0) ⌝ }
     ensures { λ r. ⌜ Entries n (take k (now (active .entry))) (now (work .entry)) (now (work .exit)) r ⌝ }
 {
     let mut d: usize = 0;
@@ -53,7 +54,8 @@ pub fn load(
 
 // Internal: the new numbers of the first k active entries.
 pub fn fill_map(work: &[u32], n: usize, k: usize, active: &[u16], map: &mut [u16])
-    requires { ⌜ (16 * n ≤ length (now work)) × (k ≤ length (now active)) × (k ≤ length (now map)) × ((i : ℕ) → i < k → (getD (now active) i 0 < n) × (node MAPPED (now work) (getD (now active) i 0) < 65536)) ⌝ }
+    requires { ⌜ (16 * n ≤ length (now work)) × (k ≤ length (now active)) × (k ≤ length (now map))
+        × ((i : ℕ) → i < k → (getD (now active) i 0 < n) × (node MAPPED (now work) (getD (now active) i 0) < 65536)) ⌝ }
     ensures { λ _. ⌜ now (map .exit) ≡ over (table (λ i. node MAPPED (now (work .entry)) (getD (now (active .entry)) i 0)) 0 k) (now (map .entry)) ⌝ }
 {
     for i in 0..k {

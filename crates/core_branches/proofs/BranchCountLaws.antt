@@ -65,7 +65,8 @@ module _ {n seen : ℕ} {ord pos par te top live₀ live child other : ℕ → �
       one = update-at (λ t y. t < n → (y ≡ 0 → ⊥) → Child n pos par te top t (y - 1) × (i < pos (y - 1)) × (update live (top (par v)) (live v) (y - 1) ≡ 0 → ⊥)) child (top (par v)) (v + 1)
           (λ l a. let e : v + 1 - 1 ≡ v = omega arith in rw e (child-v, omega arith, more v alive))
           (λ t _ l a. let k = w .one t l a in (k .0, omega (arith, k .1), more (child t - 1) (k .2)));
-      two = update-at (λ t y. t < n → (y ≡ 0 → ⊥) → Child n pos par te top t (y - 1) × (i < pos (y - 1)) × (update live (top (par v)) (live v) (y - 1) ≡ 0 → ⊥) × (y ≡ update child (top (par v)) (v + 1) t → ⊥) × (update child (top (par v)) (v + 1) t ≡ 0 → ⊥)) other (top (par v)) (child (top (par v)))
+      two = update-at (λ t y. t < n → (y ≡ 0 → ⊥) → Child n pos par te top t (y - 1) × (i < pos (y - 1)) × (update live (top (par v)) (live v) (y - 1) ≡ 0 → ⊥)
+          × (y ≡ update child (top (par v)) (v + 1) t → ⊥) × (update child (top (par v)) (v + 1) t ≡ 0 → ⊥)) other (top (par v)) (child (top (par v)))
           (λ l a.
           let k = w .one (top (par v)) l a in
           rw (update-same child (top (par v)) (v + 1)) (
@@ -108,7 +109,8 @@ module _ {n v q p : ℕ} {a : List ℕ} (g : CanReport n a v) (ep : p ≡ node P
   pub q-fits : q < n
   q-fits = rw (← q-is) (g .top-fit)
 
-  pub reported : {t e l old : ℕ} {b c d : List ℕ} → t ≡ node TOP a v → (t ≡ v) → e ≡ node EDGE a v → (e ≡ 0 → ⊥) → l ≡ node LIVE a v → (l ≡ 0 → ⊥) → old ≡ node BRANCH a q → Put LIVE q l a b → Put OTHER q old b c → Put BRANCH q (v + 1) c d
+  pub reported : {t e l old : ℕ} {b c d : List ℕ} → t ≡ node TOP a v → (t ≡ v) → e ≡ node EDGE a v → (e ≡ 0 → ⊥) → l ≡ node LIVE a v → (l ≡ 0 → ⊥)
+      → old ≡ node BRANCH a q → Put LIVE q l a b → Put OTHER q old b c → Put BRANCH q (v + 1) c d
       → Report n v a d
   reported {l = l} {old} et tv ee ne el nl eo p7 p9 p8 = inr (rw q-is (record {
     is = q-is;

@@ -11,7 +11,8 @@ use borrow.Author.Tests.{eqb-false, eqb-true, ltb-false, ltb-true}
 use Rattle.core_branches.proofs.SmallForestOf.{small-canonical, small-forest}
 use Rattle.core_branches.specs.BranchCounts.{Branches, CanCount, Counting, TreeOrderAt}
 use Rattle.core_branches.specs.Classes.{CanNumberClasses, ClassNumbers, classFields}
-use Rattle.core_branches.specs.Numbers.{CanFindNearest, CanNumberActives, CanNumberOthers, CanSetParents, NearestLoop, NearestNumbers, NumberingActives, NumberingOthers, OtherNumbers, ParentLoop, ParentNumbers}
+use Rattle.core_branches.specs.Numbers.{CanFindNearest, CanNumberActives, CanNumberOthers, CanSetParents, NearestLoop, NearestNumbers}
+use Rattle.core_branches.specs.Numbers.{NumberingActives, NumberingOthers, OtherNumbers, ParentLoop, ParentNumbers}
 use Rattle.core_forest.proofs.Counting.{count-le}
 use Rattle.core_forest.proofs.SearchLaws.{seen-less}
 use Rattle.theory_graph.proofs.Booleans.{onBool}
@@ -40,10 +41,17 @@ module _ {n m k seen : ℕ} {w₀ : List ℕ} (s : CanNumberClasses n m k seen w
   }
     where
       over : (v u : ℕ) → v < n → node POSITION w₀ v < node POSITION w₀ u → node POSITION w₀ (node TOP w₀ v) < node POSITION w₀ u
-      over v u l q = onBool (eqb (node TOP w₀ v) v) (λ e. omega (arith, ap (node POSITION w₀) (eqb-true (node TOP w₀ v) v e))) (λ e. omega (arith, s .final .tops .up v l (eqb-false (node TOP w₀ v) v e)))
+      over v u l q = onBool (eqb (node TOP w₀ v) v) (λ e. omega (arith, ap (node POSITION w₀) (eqb-true (node TOP w₀ v) v e)))
+          (λ e. omega (arith, s .final .tops .up v l (eqb-false (node TOP w₀ v) v e)))
 
   tree-order-at : (w : List ℕ) → OnlyFields classFields n w₀ w → TreeOrderAt n seen w
-  tree-order-at w o = rw (o .nodes ORDER (omega arith) refl, o .nodes POSITION (omega arith) refl, o .nodes PARENT (omega arith) refl, o .nodes EDGE (omega arith) refl, o .nodes TOP (omega arith) refl) tree-order
+  tree-order-at w o = rw (
+    o .nodes ORDER (omega arith) refl,
+    o .nodes POSITION (omega arith) refl,
+    o .nodes PARENT (omega arith) refl,
+    o .nodes EDGE (omega arith) refl,
+    o .nodes TOP (omega arith) refl,
+  ) tree-order
 
   pub can-number-actives : CanNumberActives n k w₀
   can-number-actives = record {
@@ -156,18 +164,30 @@ module _ {n m k seen : ℕ} {w₀ : List ℕ} (s : CanNumberClasses n m k seen w
             h11 = u .rest .nodes MEMBER (omega arith) refl ∙ g11
 
             branches : Branches n (node POSITION w₀) (node PARENT w₀) (node EDGE w₀) (node TOP w₀) (node LIVE w₁) (node LIVE w₂) (node BRANCH w₂) (node OTHER w₂) 0
-            branches = rw (rest₁ .nodes POSITION (omega arith) refl, rest₁ .nodes PARENT (omega arith) refl, rest₁ .nodes EDGE (omega arith) refl, rest₁ .nodes TOP (omega arith) refl) at (b .branches)
+            branches = rw (
+              rest₁ .nodes POSITION (omega arith) refl,
+              rest₁ .nodes PARENT (omega arith) refl,
+              rest₁ .nodes EDGE (omega arith) refl,
+              rest₁ .nodes TOP (omega arith) refl,
+            ) at (b .branches)
 
             nearest : NearestNumbers n seen (node POSITION w₀) (node PARENT w₀) (node EDGE w₀) (node TOP w₀) (node NUMBER w₃) (node NEAREST w₄)
-            nearest = rw (rest₃ .nodes POSITION (omega arith) refl, rest₃ .nodes PARENT (omega arith) refl, rest₃ .nodes EDGE (omega arith) refl, rest₃ .nodes TOP (omega arith) refl) at (l .nearest)
+            nearest = rw (
+              rest₃ .nodes POSITION (omega arith) refl,
+              rest₃ .nodes PARENT (omega arith) refl,
+              rest₃ .nodes EDGE (omega arith) refl,
+              rest₃ .nodes TOP (omega arith) refl,
+            ) at (l .nearest)
 
             parents : ParentNumbers h (node PARENT w₀) (node EDGE w₀) (node TOP w₀) (node NEAREST w₄) (node MEMBER w₃) (node ABOVE w₅)
             parents = rw (g5, rest₄ .nodes EDGE (omega arith) refl, g6, g11) at (u .parents)
 
             pub class-numbers : ClassNumbers n m k w₀ h w₅
             class-numbers = record {
-              forest = rw (h11, h10, h6) (small-forest (s .forest) (s .final) (s .marks) (s .search .search .marked) (s .search .active) (s .search .have) (λ v i p. s .search .search .place-of v i p .0) (a .actives) branches others nearest parents);
-              canonical = rw (h11, h10, h6) (small-canonical (s .forest) (s .final) (s .marks) (s .search .search .marked) (s .search .active) (s .search .have) (λ v i p. s .search .search .place-of v i p .0) (a .actives) branches others nearest parents);
+              forest = rw (h11, h10, h6) (small-forest (s .forest) (s .final) (s .marks) (s .search .search .marked) (s .search .active) (s .search .have)
+                  (λ v i p. s .search .search .place-of v i p .0) (a .actives) branches others nearest parents);
+              canonical = rw (h11, h10, h6) (small-canonical (s .forest) (s .final) (s .marks) (s .search .search .marked) (s .search .active) (s .search .have)
+                  (λ v i p. s .search .search .place-of v i p .0) (a .actives) branches others nearest parents);
               less = fits;
               placed = λ j i.
                   let p = s .search .active j i .0 in

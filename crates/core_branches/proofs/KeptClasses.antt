@@ -15,7 +15,8 @@ use Rattle.theory_graph.proofs.Links.{linked-from, linked-to}
 use Rattle.theory_graph.proofs.Renumbering.{linked-flip}
 use Rattle.theory_graph.proofs.Separation.{insep-sym, insep-trans, same-side, twoEdge-connected}
 use Rattle.theory_graph.proofs.SmallGraphs.{Linked, OnePerClass}
-use Rattle.theory_graph.proofs.SpanningForest.{ChildClass, ClassForest, KeptTop, NearestAbove, NoThird, above-linked, below-antisym, below-class, below-position, branches-kept, kept-branches, linked-nearest, onEq, top-unique}
+use Rattle.theory_graph.proofs.SpanningForest.{ChildClass, ClassForest, KeptTop, NearestAbove, NoThird, above-linked, below-antisym}
+use Rattle.theory_graph.proofs.SpanningForest.{below-class, below-position, branches-kept, kept-branches, linked-nearest, onEq, top-unique}
 use Rattle.theory_graph.specs.Cut.{Between, Connected, TwoEdgeConnected, cut}
 use Rattle.theory_graph.specs.Graph.{Edge}
 use Rattle.theory_graph.specs.SmallGraph.{inOrder}

@@ -14,7 +14,8 @@ use Rattle.core_words.proofs.FieldLaws.{update-at, update-other}
 use Rattle.core_words.specs.Fields.{ABOVE, EDGE, MEMBER, NEAREST, NUMBER, ORDER, PARENT, POSITION, TOP, Put, node, update}
 
 -- ---- over functions
-module _ {n seen i v : ℕ} {ord pos par te top nr near : ℕ → ℕ} (g : TreeOrder n seen ord pos par te top) (s : NearestNumbers n i pos par te top nr near) (fit : v < n) (at : pos v ≡ i + 1) where
+module _ {n seen i v : ℕ} {ord pos par te top nr near : ℕ → ℕ} (g : TreeOrder n seen ord pos par te top) (s : NearestNumbers n i pos par te top nr near)
+    (fit : v < n) (at : pos v ≡ i + 1) where
   -- a node up to place i + 1 is v, or up to i
   early : (c : ℕ) → c < n → 0 < pos c → pos c ≤ i + 1 → ¬ (c ≡ v) → pos c ≤ i
   early c l p b ne =
@@ -167,7 +168,8 @@ module _ {n h x : ℕ} {a w : List ℕ} (g : CanSetParents n h a) (s : ParentLoo
       none = update-at (λ u y. u < x + 1 → node EDGE a (node TOP a (node MEMBER a u)) ≡ 0 → y ≡ 0) (node ABOVE w) x (f .value)
           (λ _. rw (h11, h6, hold EDGE (omega arith) refl) at (f .none))
           (λ u ne b. s .parents .none u (omega arith));
-      some = update-at (λ u y. u < x + 1 → ¬ (node EDGE a (node TOP a (node MEMBER a u)) ≡ 0) → y ≡ node NEAREST a (node TOP a (node PARENT a (node TOP a (node MEMBER a u))))) (node ABOVE w) x (f .value)
+      some = update-at (λ u y. u < x + 1 → ¬ (node EDGE a (node TOP a (node MEMBER a u)) ≡ 0)
+          → y ≡ node NEAREST a (node TOP a (node PARENT a (node TOP a (node MEMBER a u))))) (node ABOVE w) x (f .value)
           (λ _. rw (h11, h6, h5, hold NEAREST (omega arith) refl, hold EDGE (omega arith) refl) at (f .some))
           (λ u ne b. s .parents .some u (omega arith));
     });

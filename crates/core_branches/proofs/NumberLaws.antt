@@ -7,7 +7,8 @@ use mathlib.Core.Path.{_∙_, _≡_, ap, refl, subst, sym}
 use lib.Dec.{eqb, ltb}
 use native.Mathlib.Omega.{arith}
 use borrow.Author.Tests.{eqb-false, eqb-true, ltb-false, ltb-true}
-use Rattle.core_branches.specs.Numbers.{ActiveNumbers, ActiveStep, Assigned, CanAssign, CanNumber, CanNumberActives, CanNumberOthers, NumberingActives, NumberingOthers, Numbers, OtherNumbers, OtherStep, Prior}
+use Rattle.core_branches.specs.Numbers.{ActiveNumbers, ActiveStep, Assigned, CanAssign, CanNumber, CanNumberActives, CanNumberOthers}
+use Rattle.core_branches.specs.Numbers.{NumberingActives, NumberingOthers, Numbers, OtherNumbers, OtherStep, Prior}
 use Rattle.core_forest.proofs.Counting.{count-less, count-more, count-none}
 use Rattle.theory_graph.proofs.Booleans.{onBool}
 use Rattle.core_words.proofs.ChangeLaws.{only-more, only-none, only-put, only-then}
@@ -82,7 +83,8 @@ module _ {n i h : ℕ} {act top nr rep live : ℕ → ℕ} (g : ActiveNumbers n 
   active-new new = record {
     numbers = numbers-more (act i) (g .numbers) fit top-fit new;
     done = λ j l. onBool (eqb j i)
-        (λ q. subst (λ (u : ℕ). ¬ (update nr (top (act i)) (h + 1) (top (act u)) ≡ 0)) (sym (eqb-true j i q)) (λ z. let y : h + 1 ≡ 0 = sym (update-same nr (top (act i)) (h + 1)) ∙ z in omega arith))
+        (λ q. subst (λ (u : ℕ). ¬ (update nr (top (act i)) (h + 1) (top (act u)) ≡ 0)) (sym (eqb-true j i q))
+        (λ z. let y : h + 1 ≡ 0 = sym (update-same nr (top (act i)) (h + 1)) ∙ z in omega arith))
         (λ q. let ne : ¬ (j ≡ i) = eqb-false j i q in update-some nr (top (act i)) (h + 1) (top (act j)) (λ z. omega arith) (g .done j (omega arith)));
     some = update-at (λ c y. c < n → ¬ (y ≡ 0) → (j : ℕ) × (j < i + 1) × (y ≡ act j + 1) × (top (act j) ≡ c)) live (top (act i)) (act i + 1)
         (λ _ _. (i, omega arith, refl, refl))
@@ -94,7 +96,8 @@ module _ {n i h : ℕ} {act top nr rep live : ℕ → ℕ} (g : ActiveNumbers n 
         (λ _. (i, omega arith, refl))
         (λ x ne l. let (j, p, e) = g .reps x (omega arith) in (j, omega arith, e));
     order = λ j l. onBool (eqb j i)
-        (λ q. subst (λ (u : ℕ). Prior (λ j. update nr (top (act i)) (h + 1) (top (act j))) u) (sym (eqb-true j i q)) (rw (update-same nr (top (act i)) (h + 1)) (⊎-elim inl (λ (l, p, e). inr (l, p, rw (stays l p) e)) (after (h + 1) (omega arith)))))
+        (λ q. subst (λ (u : ℕ). Prior (λ j. update nr (top (act i)) (h + 1) (top (act j))) u) (sym (eqb-true j i q))
+        (rw (update-same nr (top (act i)) (h + 1)) (⊎-elim inl (λ (l, p, e). inr (l, p, rw (stays l p) e)) (after (h + 1) (omega arith)))))
         (λ q.
         let ne : ¬ (j ≡ i) = eqb-false j i q in
         let b : j < i = omega arith in
@@ -124,20 +127,23 @@ module _ {n h₀ v h : ℕ} {pos top other nr₀ nr rep₀ rep : ℕ → ℕ} (g
     more = g .more;
     still = g .still;
     old = g .old;
-    done = λ u l. onBool (eqb u v) (λ q. subst (λ (u : ℕ). ¬ (pos u ≡ 0) → ¬ (other (top u) ≡ 0) → ¬ (nr (top u) ≡ 0)) (sym (eqb-true u v q)) old) (λ q. let ne : ¬ (u ≡ v) = eqb-false u v q in g .done u (omega arith));
+    done = λ u l. onBool (eqb u v) (λ q. subst (λ (u : ℕ). ¬ (pos u ≡ 0) → ¬ (other (top u) ≡ 0) → ¬ (nr (top u) ≡ 0)) (sym (eqb-true u v q)) old)
+        (λ q. let ne : ¬ (u ≡ v) = eqb-false u v q in g .done u (omega arith));
     late = λ i p q. let (a, b, c) = g .late i p q in (omega arith, b, c);
     least = g .least;
     rises = g .rises;
   }
 
-  pub other-new : v < n → top v < n → ¬ (pos v ≡ 0) → ¬ (other (top v) ≡ 0) → nr (top v) ≡ 0 → OtherNumbers n h₀ (v + 1) (h + 1) pos top other nr₀ (update nr (top v) (h + 1)) rep₀ (update rep h v)
+  pub other-new : v < n → top v < n → ¬ (pos v ≡ 0) → ¬ (other (top v) ≡ 0) → nr (top v) ≡ 0
+      → OtherNumbers n h₀ (v + 1) (h + 1) pos top other nr₀ (update nr (top v) (h + 1)) rep₀ (update rep h v)
   other-new fit top-fit seen two new = record {
     numbers = numbers-more v (g .numbers) fit top-fit new;
     more = omega (arith, g .more);
     still = λ c a. let e = g .still c a in update-stays nr (top v) (h + 1) c new (λ z. a (sym e ∙ z)) ∙ e;
     old = λ i l. update-other rep h v i (λ e. omega (arith, g .more)) ∙ g .old i l;
     done = λ u l. onBool (eqb u v)
-        (λ q. subst (λ (u : ℕ). ¬ (pos u ≡ 0) → ¬ (other (top u) ≡ 0) → ¬ (update nr (top v) (h + 1) (top u) ≡ 0)) (sym (eqb-true u v q)) (λ _ _ z. let y : h + 1 ≡ 0 = sym (update-same nr (top v) (h + 1)) ∙ z in omega arith))
+        (λ q. subst (λ (u : ℕ). ¬ (pos u ≡ 0) → ¬ (other (top u) ≡ 0) → ¬ (update nr (top v) (h + 1) (top u) ≡ 0)) (sym (eqb-true u v q))
+        (λ _ _ z. let y : h + 1 ≡ 0 = sym (update-same nr (top v) (h + 1)) ∙ z in omega arith))
         (λ q s o. let ne : ¬ (u ≡ v) = eqb-false u v q in update-some nr (top v) (h + 1) (top u) (λ z. omega arith) (g .done u (omega arith) s o));
     late = λ i p. update-at (λ i y. h₀ ≤ i → i < h + 1 → (y < v + 1) × ¬ (pos y ≡ 0) × ¬ (other (top y) ≡ 0)) rep h v
         (λ _ _. (omega arith, seen, two))

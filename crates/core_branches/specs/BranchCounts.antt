@@ -57,7 +57,8 @@ pub record Branches (n : ℕ) (pos par te top live₀ live child other : ℕ →
       → (t : ℕ) → t < n → (live t ≡ 0 → ⊥) → P t (live t) ≡ true
   pub still : (t : ℕ) → (live₀ t ≡ 0 → ⊥) → live t ≡ 0 → ⊥
   pub one : (t : ℕ) → t < n → (child t ≡ 0 → ⊥) → Child n pos par te top t (child t - 1) × (i < pos (child t - 1)) × (live (child t - 1) ≡ 0 → ⊥)
-  pub two : (t : ℕ) → t < n → (other t ≡ 0 → ⊥) → Child n pos par te top t (other t - 1) × (i < pos (other t - 1)) × (live (other t - 1) ≡ 0 → ⊥) × (other t ≡ child t → ⊥) × (child t ≡ 0 → ⊥)
+  pub two : (t : ℕ) → t < n → (other t ≡ 0 → ⊥) → Child n pos par te top t (other t - 1) × (i < pos (other t - 1)) × (live (other t - 1) ≡ 0 → ⊥)
+      × (other t ≡ child t → ⊥) × (child t ≡ 0 → ⊥)
   pub all : (t c : ℕ) → t < n → Child n pos par te top t c → i < pos c → (live c ≡ 0 → ⊥) → (live t ≡ 0 → ⊥) × (child t ≡ 0 → ⊥) × ((c + 1 ≡ child t) ⊎ (other t ≡ 0 → ⊥))
 
 pub record Counting (n seen : ℕ) (a : List ℕ) (i : ℕ) (w : List ℕ) : Type 0 where

@@ -28,7 +28,15 @@ between-still {n} {m} {k} {seen} {j} {a} {b} o g = record {
   lists = lists-still refl o (g .lists);
   active = rw (at MARK (omega arith) refl, at ACTIVE (omega arith) refl) (g .active);
   all = g .all;
-  search = rw (o .halves TO, at MARK (omega arith) refl, at ORDER (omega arith) refl, at POSITION (omega arith) refl, at PARENT (omega arith) refl, at ROOT (omega arith) refl, at EDGE (omega arith) refl) (g .search);
+  search = rw (
+    o .halves TO,
+    at MARK (omega arith) refl,
+    at ORDER (omega arith) refl,
+    at POSITION (omega arith) refl,
+    at PARENT (omega arith) refl,
+    at ROOT (omega arith) refl,
+    at EDGE (omega arith) refl,
+  ) (g .search);
   have = rw (at ACTIVE (omega arith) refl, at POSITION (omega arith) refl) (g .have);
 }
   where
@@ -78,14 +86,17 @@ module _ {n m s : ℕ} {w₁ w₂ : List ℕ} (g : CanMergeComponents n m s w₁
         full D c = q .keep D (t .full D (con D c))
 
         low : (u : ℕ) → u < n → node POSITION w₃ u ≤ s
-        low u i = onBool (eqb (node POSITION w₃ u) 0) (λ r. omega (arith, eqb-true (node POSITION w₃ u) 0 r)) (λ r. let ne : ¬ (node POSITION w₃ u ≡ 0) = eqb-false (node POSITION w₃ u) 0 r in can-compress .place-of u i (omega arith) .0)
+        low u i = onBool (eqb (node POSITION w₃ u) 0) (λ r. omega (arith, eqb-true (node POSITION w₃ u) 0 r))
+            (λ r. let ne : ¬ (node POSITION w₃ u ≡ 0) = eqb-false (node POSITION w₃ u) 0 r in can-compress .place-of u i (omega arith) .0)
 
         final₂ : FinalTops n m (half n TO w₂) (node POSITION w₂) (node PARENT w₂) (node EDGE w₂) (node TOP w₄)
         final₂ = record {
           tops = tops;
           flat = λ u i. q .flat u i (low u i);
           seen = λ u i p. ltb-true 0 (node POSITION w₂ (node TOP w₄ u))
-              (full (λ v. ltb 0 (node POSITION w₂ v)) (seen-follows n (node POSITION w₂) (node PARENT w₂) (node ROOT w₂) (order-of (can-merge .forest)) 0 0 (node TOP w₄) (node TOP w₄) tops) u i ∙ lt-ltb 0 (node POSITION w₂ u) p);
+              (full (λ v. ltb 0 (node POSITION w₂ v))
+              (seen-follows n (node POSITION w₂) (node PARENT w₂) (node ROOT w₂) (order-of (can-merge .forest)) 0 0 (node TOP w₄) (node TOP w₄) tops) u i
+              ∙ lt-ltb 0 (node POSITION w₂ u) p);
           sound = λ U c. q .keep U (t .sound U c);
           full = full;
           done = λ D c. t .done D (con D c);

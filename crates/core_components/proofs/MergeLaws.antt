@@ -175,7 +175,8 @@ module _ {n m e : ℕ} {w₀ w : List ℕ} (h : CanMerge n m w₀) (t : EdgesMer
       (λ p.
       let j = p .0 in
       let o : NonTreeEdge (half n TO w₀) (node POSITION w₀) (node EDGE w₀) e = rw (k0, k4, k13) at (p .1) in
-      let full : (D : NodeSet) → FollowsParents n (node PARENT w₀) (node TOP w′) D → Stable n (node TOP w′) D × (D (half n TO w₀ (2 * e)) ≡ D (half n TO w₀ (2 * e + 1))) = rw (k0, k5) at (j .full) in
+      let full : (D : NodeSet) → FollowsParents n (node PARENT w₀) (node TOP w′) D → Stable n (node TOP w′) D × (D (half n TO w₀ (2 * e)) ≡ D (half n TO w₀ (2 * e + 1))) =
+      rw (k0, k5) at (j .full) in
       record {
         rest = only-then (t .rest) (j .rest);
         tops = rw k4 at (j .tops);

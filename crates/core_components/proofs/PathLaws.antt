@@ -10,7 +10,8 @@ use lib.ListN.{length}
 use native.Mathlib.Omega.{arith}
 use borrow.Author.Tests.{eq-eqb, eqb-true, lt-ltb, ltb-true}
 use Rattle.core_words.proofs.ChangeLaws.{only-none, only-then, only-then-put}
-use Rattle.core_components.specs.Tops.{AllowsMerge, CanFind, CanMergePath, CanMergeUp, FindPath, FollowsParents, Found, MergedPath, MergedUp, MergedUpAt, OnlyTops, SameTree, SearchOrder, SeenTop, Stable, Tops}
+use Rattle.core_components.specs.Tops.{AllowsMerge, CanFind, CanMergePath, CanMergeUp, FindPath, FollowsParents, Found, MergedPath}
+use Rattle.core_components.specs.Tops.{MergedUp, MergedUpAt, OnlyTops, SameTree, SearchOrder, SeenTop, Stable, Tops}
 use Rattle.core_words.proofs.FieldLaws.{update-at, update-other, update-same}
 use Rattle.core_words.specs.Fields.{PARENT, POSITION, ROOT, TOP, Put, node, update}
 
@@ -229,10 +230,13 @@ module _ {n v r : ℕ} {w w₁ : List ℕ} (g : CanMergePath n w) (f : Found n w
   top-after l = (
     record {
       fit = f .path .fit;
-      seen = rw s4 (ltb-true 0 (node POSITION w r) (at-r (λ u. ltb 0 (node POSITION w u)) (seen-follows n _ _ _ (g .order) 0 0 (node TOP w) (node TOP w) (g .tops)) ∙ lt-ltb 0 (node POSITION w v) l));
+      seen = rw s4 (ltb-true 0 (node POSITION w r)
+          (at-r (λ u. ltb 0 (node POSITION w u)) (seen-follows n _ _ _ (g .order) 0 0 (node TOP w) (node TOP w) (g .tops)) ∙ lt-ltb 0 (node POSITION w v) l));
       top = f .top;
     },
-    rw s12 (eqb-true (node ROOT w r) (node ROOT w v) (at-r (λ u. eqb (node ROOT w u) (node ROOT w v)) (tree-follows n _ _ _ (g .order) 0 0 (node TOP w) (node TOP w) (g .tops) (node ROOT w v)) ∙ eq-eqb (node ROOT w v) (node ROOT w v) refl)),
+    rw s12 (eqb-true (node ROOT w r) (node ROOT w v)
+        (at-r (λ u. eqb (node ROOT w u) (node ROOT w v)) (tree-follows n _ _ _ (g .order) 0 0 (node TOP w) (node TOP w) (g .tops) (node ROOT w v))
+        ∙ eq-eqb (node ROOT w v) (node ROOT w v) refl)),
   )
 
   pub top-still : {a : ℕ} → SeenTop n w a → SeenTop n w₁ a

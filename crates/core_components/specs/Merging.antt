@@ -27,7 +27,8 @@ pub record CanMergeEdge (n m e : ℕ) (w : List ℕ) : Type 0 where
 
 -- the tree path of edge e is merged where it is no tree edge
 abbrev pub EdgeMerged : ℕ → ℕ → List ℕ → List ℕ → Type 0
-EdgeMerged n e w w′ = ((w′ ≡ w) × (NonTreeEdge (half n TO w) (node POSITION w) (node EDGE w) e → ⊥)) ⊎ (MergedPath n w (half n TO w (2 * e)) (half n TO w (2 * e + 1)) w′ × NonTreeEdge (half n TO w) (node POSITION w) (node EDGE w) e)
+EdgeMerged n e w w′ = ((w′ ≡ w) × (NonTreeEdge (half n TO w) (node POSITION w) (node EDGE w) e → ⊥))
+    ⊎ (MergedPath n w (half n TO w (2 * e)) (half n TO w (2 * e + 1)) w′ × NonTreeEdge (half n TO w) (node POSITION w) (node EDGE w) e)
 
 -- the same of the first i edges
 pub record EdgesMerged (n m : ℕ) (w₀ : List ℕ) (i : ℕ) (w : List ℕ) : Type 0 where

@@ -21,15 +21,22 @@ use Rattle.core_words.proofs.FieldLaws.{update-at, update-other, update-same}
 use Rattle.core_words.specs.Changes.{OnlyFields}
 use Rattle.core_words.specs.Fields.{ACTIVE, EDGE, HEAD, MARK, NEXT, ORDER, PARENT, POSITION, ROOT, TO, Put, half, node, update}
 
-pub appended : {n seen v p t r : ℕ} {a b c d e f : List ℕ} → CanAppend n a seen v p t r → Put ORDER seen v a b → Put POSITION v (seen + 1) b c → Put PARENT v p c d → Put EDGE v t d e → Put ROOT v r e f
+pub appended : {n seen v p t r : ℕ} {a b c d e f : List ℕ} → CanAppend n a seen v p t r → Put ORDER seen v a b → Put POSITION v (seen + 1) b c → Put PARENT v p c d
+    → Put EDGE v t d e → Put ROOT v r e f
     → Appended n seen v p t r a f
 appended {n} {seen} {v} {p} {t} {r} {a} {b} {c} {d} {e} {f} g p3 p4 p5 p13 p12 = record {
   rest = only-then-put refl (g .fit) (only-then-put refl (g .fit) (only-then-put refl (g .fit) (only-then-put refl (g .fit) (only-put refl (g .less) p3) p4) p5) p13) p12;
-  ord = step12 ORDER (omega arith) (λ e. omega arith) ∙ step13 ORDER (omega arith) (λ e. omega arith) ∙ step5 ORDER (omega arith) (λ e. omega arith) ∙ step4 ORDER (omega arith) (λ e. omega arith) ∙ p3 .here;
-  pos = step12 POSITION (omega arith) (λ e. omega arith) ∙ step13 POSITION (omega arith) (λ e. omega arith) ∙ step5 POSITION (omega arith) (λ e. omega arith) ∙ p4 .here ∙ ap (λ g. update g v (seen + 1)) (step3 POSITION (omega arith) (λ e. omega arith));
-  par = step12 PARENT (omega arith) (λ e. omega arith) ∙ step13 PARENT (omega arith) (λ e. omega arith) ∙ p5 .here ∙ ap (λ g. update g v p) (step4 PARENT (omega arith) (λ e. omega arith) ∙ step3 PARENT (omega arith) (λ e. omega arith));
-  te = step12 EDGE (omega arith) (λ e. omega arith) ∙ p13 .here ∙ ap (λ g. update g v t) (step5 EDGE (omega arith) (λ e. omega arith) ∙ step4 EDGE (omega arith) (λ e. omega arith) ∙ step3 EDGE (omega arith) (λ e. omega arith));
-  root = p12 .here ∙ ap (λ g. update g v r) (step13 ROOT (omega arith) (λ e. omega arith) ∙ step5 ROOT (omega arith) (λ e. omega arith) ∙ step4 ROOT (omega arith) (λ e. omega arith) ∙ step3 ROOT (omega arith) (λ e. omega arith));
+  ord = step12 ORDER (omega arith) (λ e. omega arith) ∙ step13 ORDER (omega arith) (λ e. omega arith) ∙ step5 ORDER (omega arith) (λ e. omega arith)
+      ∙ step4 ORDER (omega arith) (λ e. omega arith) ∙ p3 .here;
+  pos = step12 POSITION (omega arith) (λ e. omega arith) ∙ step13 POSITION (omega arith) (λ e. omega arith) ∙ step5 POSITION (omega arith) (λ e. omega arith)
+      ∙ p4 .here ∙ ap (λ g. update g v (seen + 1)) (step3 POSITION (omega arith) (λ e. omega arith));
+  par = step12 PARENT (omega arith) (λ e. omega arith) ∙ step13 PARENT (omega arith) (λ e. omega arith) ∙ p5 .here
+      ∙ ap (λ g. update g v p) (step4 PARENT (omega arith) (λ e. omega arith) ∙ step3 PARENT (omega arith) (λ e. omega arith));
+  te = step12 EDGE (omega arith) (λ e. omega arith) ∙ p13 .here
+      ∙ ap (λ g. update g v t) (step5 EDGE (omega arith) (λ e. omega arith) ∙ step4 EDGE (omega arith) (λ e. omega arith) ∙ step3 EDGE (omega arith) (λ e. omega arith));
+  root = p12 .here ∙ ap (λ g. update g v r)
+      (step13 ROOT (omega arith) (λ e. omega arith) ∙ step5 ROOT (omega arith) (λ e. omega arith) ∙ step4 ROOT (omega arith) (λ e. omega arith)
+      ∙ step3 ROOT (omega arith) (λ e. omega arith));
 }
   where
     step3 : (j : ℕ) → j < 16 → (j ≡ 3 → ⊥) → node j b ≡ node j a
@@ -71,7 +78,8 @@ module _ {n m : ℕ} {mark to ord pos par te root : ℕ → ℕ} {done seen r : 
     place-of = update-at (λ u y. u < n → 0 < y → (y ≤ seen + 1) × (update ord seen v (y - 1) ≡ u)) pos v (seen + 1)
         (λ _ _. (omega arith, ap (update ord seen v) (let e : seen + 1 - 1 ≡ seen = omega arith in e) ∙ update-same ord seen v))
         (λ u _ i j. let q = s .place-of u i j in (omega (arith, q .0), update-other ord seen v (pos u - 1) (λ e. omega (arith, q .0)) ∙ q .1));
-    kind = update-at (λ u y. u < n → 0 < y → Root (update par v p) (update te v t) (update root v r) u ⊎ HasParent n m to pos′ (update par v p) (update te v t) (update root v r) u) pos v (seen + 1)
+    kind = update-at (λ u y. u < n → 0 < y → Root (update par v p) (update te v t) (update root v r) u
+        ⊎ HasParent n m to pos′ (update par v p) (update te v t) (update root v r) u) pos v (seen + 1)
         (λ _ _. new)
         (λ u _ i j. old u j (s .kind u i j));
     first = update-at (λ u y. u < n → 0 < y → (0 < pos′ (update root v r u)) × (pos′ (update root v r u) ≤ y)) pos v (seen + 1)
@@ -106,7 +114,8 @@ module _ {n m : ℕ} {mark to ord pos par te root : ℕ → ℕ} {done seen r : 
           }))
           k
 
-      old : (u : ℕ) → 0 < pos u → Root par te root u ⊎ HasParent n m to pos par te root u → Root (update par v p) (update te v t) (update root v r) u ⊎ HasParent n m to pos′ (update par v p) (update te v t) (update root v r) u
+      old : (u : ℕ) → 0 < pos u → Root par te root u ⊎ HasParent n m to pos par te root u → Root (update par v p) (update te v t) (update root v r) u
+          ⊎ HasParent n m to pos′ (update par v p) (update te v t) (update root v r) u
       old u j = ⊎-elim
           (λ q. inl (record { top = off root r u j ∙ q .top; self = off par p u j ∙ q .self; none = off te t u j ∙ q .none }))
           (λ q. inr (record {
@@ -155,7 +164,8 @@ module _ {n m done seen r v h x p : ℕ} {w : List ℕ} (g : CanVisit n m w done
       (λ q.
       let b = twin-back (half n TO w) m h (g .less) in
       let e : origin (half n TO w) (twin h) ≡ x = b .2 ∙ sym ex in
-      let o : (0 < node POSITION w (half n TO w (twin h))) × (node ROOT w (half n TO w (twin h)) ≡ node ROOT w x) = rw e at (g .scan .search .out (twin h) (b .0) (rw e i) (rw e (ltb-false _ _ q))) in
+      let o : (0 < node POSITION w (half n TO w (twin h))) × (node ROOT w (half n TO w (twin h)) ≡ node ROOT w x) =
+      rw e at (g .scan .search .out (twin h) (b .0) (rw e i) (rw e (ltb-false _ _ q))) in
       sym (o .1) ∙ ap (node ROOT w) (b .1 ∙ g .leaves) ∙ root-v)
 
   pub visit-seen : (p ≡ 0 → ⊥) → Visited n m w w done seen r v h
@@ -215,11 +225,15 @@ module _ {n m done seen r v h x p : ℕ} {w : List ℕ} (g : CanVisit n m w done
         mark = rw (a .rest .nodes MARK (omega arith) refl) (g .scan .mark);
         at = rw (a .pos, off s x v (h / 2 + 1) x-fits x-new mr k (node POSITION w) (seen + 1) v (omega (arith, g .scan .at))) (g .scan .at);
         part = rw (a .rest .halves TO, a .pos, a .root) (λ j l b e. onBool (eqb j h)
-            (λ q. let c : half n TO w j ≡ x = ap (half n TO w) (eqb-true j h q) ∙ sym ex in rw (c, update-same (node POSITION w) x (seen + 1), update-same (node ROOT w) x r) (omega arith, refl))
+            (λ q. let c : half n TO w j ≡ x = ap (half n TO w) (eqb-true j h q) ∙ sym ex in
+            rw (c, update-same (node POSITION w) x (seen + 1), update-same (node ROOT w) x r) (omega arith, refl))
             (λ q.
             let ne : ¬ (j ≡ h) = eqb-false j h q in
             let o = g .scan .part j (omega arith) b e in
-            rw (off s x v (h / 2 + 1) x-fits x-new mr k (node POSITION w) (seen + 1) (half n TO w j) (o .0), off s x v (h / 2 + 1) x-fits x-new mr k (node ROOT w) r (half n TO w j) (o .0)) o));
+            rw (
+              off s x v (h / 2 + 1) x-fits x-new mr k (node POSITION w) (seen + 1) (half n TO w j) (o .0),
+              off s x v (h / 2 + 1) x-fits x-new mr k (node ROOT w) r (half n TO w j) (o .0),
+            ) o));
       },
     )
       where
@@ -232,7 +246,8 @@ module _ {n m done seen r v h x p : ℕ} {w : List ℕ} (g : CanVisit n m w done
         k : ((v ≡ x) × (h / 2 + 1 ≡ 0) × (r ≡ x)) ⊎ TreeEdge n m (half n TO w) (node POSITION w) (node ROOT w) x v (h / 2 + 1) r
         k = inr tree-edge
 
-        more : Search n m (node MARK w) (half n TO w) (update (node ORDER w) seen x) (update (node POSITION w) x (seen + 1)) (update (node PARENT w) x v) (update (node EDGE w) x (h / 2 + 1)) (update (node ROOT w) x r) done (seen + 1) r
+        more : Search n m (node MARK w) (half n TO w) (update (node ORDER w) seen x) (update (node POSITION w) x (seen + 1)) (update (node PARENT w) x v)
+            (update (node EDGE w) x (h / 2 + 1)) (update (node ROOT w) x r) done (seen + 1) r
         more = append-more s x v (h / 2 + 1) x-fits x-new mr k
 
 pub record ScanLoop (n m done r v : ℕ) (w₀ : List ℕ) (seen cur : ℕ) (w : List ℕ) : Type 0 where
@@ -416,7 +431,8 @@ module _ {n m k seen j r p : ℕ} {w : List ℕ} (b : BetweenTrees n m k w seen 
           )
 
 -- nothing is seen at the start
-pub between-none : {n m k : ℕ} {w : List ℕ} → AdjacencyLists n m w → ((i : ℕ) → i < k → (node ACTIVE w i < n) × (0 < node MARK w (node ACTIVE w i))) → k ≤ n → ((u : ℕ) → u < n → node POSITION w u ≡ 0) → BetweenTrees n m k w 0 0
+pub between-none : {n m k : ℕ} {w : List ℕ} → AdjacencyLists n m w → ((i : ℕ) → i < k → (node ACTIVE w i < n) × (0 < node MARK w (node ACTIVE w i))) → k ≤ n
+    → ((u : ℕ) → u < n → node POSITION w u ≡ 0) → BetweenTrees n m k w 0 0
 between-none {n} {m} {k} {w} g a l z = record {
   lists = g;
   active = a;

@@ -10,7 +10,8 @@ use native.Mathlib.Omega.{arith}
 use borrow.Author.Tests.{eq-eqb, eqb-false, eqb-true, ne-eqb}
 use Rattle.theory_graph.proofs.ActiveLists.{in-firsts}
 use Rattle.theory_graph.proofs.Booleans.{contradict, onBool}
-use Rattle.theory_graph.proofs.Lists.{All, Pairwise, all-filter, filter-all, filter-length, firsts-in, firsts-pairwise, mem-member, member-mem, pairwise-filter, table-all, table-in, table-length, table-mem}
+use Rattle.theory_graph.proofs.Lists.{All, Pairwise, all-filter, filter-all, filter-length, firsts-in, firsts-pairwise}
+use Rattle.theory_graph.proofs.Lists.{mem-member, member-mem, pairwise-filter, table-all, table-in, table-length, table-mem}
 use Rattle.theory_graph.proofs.TableLaws.{table-equal, table-more}
 use Rattle.theory_graph.specs.Lists.{filter, firsts, member, table}
 use Rattle.core_loading.specs.Loading.{Entered, Entering, Past, PutEdge, Unmarked}
@@ -63,7 +64,8 @@ distinct-most (suc n) xs p a =
       arith,
       filter-length f xs,
       few (filter f xs) (pairwise-filter eqb f xs p) (filter-all f xs),
-      distinct-most n (filter (λ x. not (f x)) xs) (pairwise-filter eqb (λ x. not (f x)) xs p) (less (filter (λ x. not (f x)) xs) (all-filter (λ x. x < suc n) (λ x. not (f x)) xs a) (filter-all (λ x. not (f x)) xs)),
+      distinct-most n (filter (λ x. not (f x)) xs) (pairwise-filter eqb (λ x. not (f x)) xs p)
+          (less (filter (λ x. not (f x)) xs) (all-filter (λ x. x < suc n) (λ x. not (f x)) xs a) (filter-all (λ x. not (f x)) xs)),
     )
   where
     few : (l : List ℕ) → Pairwise eqb l → All (λ x. eqb x n ≡ true) l → length l ≤ 1
@@ -97,7 +99,8 @@ module _ {n d v : ℕ} {S : List ℕ} {mark act : ℕ → ℕ} (g : Entered n S 
   mark-member : v < n → 0 < mark v → member S v ≡ true
   mark-member l p =
       let (i, k, e) = g .marks v l p in
-      mem-member v S (firsts-in eqb v S (subst (λ (l : List ℕ). List·Memᴰ v l) (g .active) (subst (λ (u : ℕ). List·Memᴰ u (table act 0 d)) e (table-in act 0 d i (omega arith) (omega arith)))))
+      mem-member v S (firsts-in eqb v S (subst (λ (l : List ℕ). List·Memᴰ v l) (g .active)
+      (subst (λ (u : ℕ). List·Memᴰ u (table act 0 d)) e (table-in act 0 d i (omega arith) (omega arith)))))
 
   member-mark : List·Memᴰ v S → (i : ℕ) × (i < d) × (v ≡ act i)
   member-mark m =

@@ -5,7 +5,8 @@ use mathlib.Core.List.{List, List·Memᴰ, [], _∷_}
 use mathlib.Core.Logic.{inl, ⊎-elim}
 use mathlib.Core.Path.{_∙_, _≡_, ap, refl, sym}
 use native.Mathlib.Omega.{arith}
-use Rattle.core_reduce.proofs.EdgeListLaws.{first-after, first-from, first-least, first-none, first-stay, listed-few, listed-more, listed-next, listed-none, lists-push, lists-skip, edges-ascend, edge-in, edge-out}
+use Rattle.core_reduce.proofs.EdgeListLaws.{first-after, first-from, first-least, first-none, first-stay, listed-few, listed-more}
+use Rattle.core_reduce.proofs.EdgeListLaws.{listed-next, listed-none, lists-push, lists-skip, edges-ascend, edge-in, edge-out}
 use Rattle.core_reduce.specs.Clearing.{ClearedNodes}
 use Rattle.core_reduce.specs.EdgeList.{CanList, EdgePair, EdgesListed, FirstFrom, IfAbove, LargerChild, LeastNonzero, ListedPairs, NextChild, Pushing, Writing, edgeTable, listFields}
 use Rattle.theory_graph.specs.Graph.{Edge}
@@ -100,7 +101,8 @@ pub record RowLoop (n h : ℕ) (a w : List ℕ) (s u c f m t : ℕ) : Type 0 whe
   pub ups : u ≡ node ABOVE w s
   pub past : s < f
 
-pub row-none : {n h s u c m o t : ℕ} {w : List ℕ} → Writing n h w w m s (s + 1) → s < h → u ≡ node ABOVE w s → c ≡ node CHILD w s → IfAbove u (s + 1) o → LeastNonzero c o t → RowLoop n h w w s u c (s + 1) m t
+pub row-none : {n h s u c m o t : ℕ} {w : List ℕ} → Writing n h w w m s (s + 1) → s < h → u ≡ node ABOVE w s → c ≡ node CHILD w s → IfAbove u (s + 1) o
+    → LeastNonzero c o t → RowLoop n h w w s u c (s + 1) m t
 row-none {n} {h} {s} {u} {c} {w = w} k l eu ec a b =
     let ch : FirstFrom (LargerChild h (node ABOVE w) s) (s + 1) c = rw ec (first-from (s + 1) (k .lists .heads s l) (λ y p. omega (arith, p .0))) in
     record { listing = k; child = ch; next = first-least ch (first-after (node ABOVE w) (omega arith) eu (rw eu (k .ready .fits s l)) a) b; ups = eu; past = omega arith }
@@ -108,7 +110,13 @@ row-none {n} {h} {s} {u} {c} {w = w} k l eu ec a b =
 module _ {n h s u c f m t : ℕ} {a w : List ℕ} (g : RowLoop n h a w s u c f m t) (l : s < h) where
   pub row-more : 0 < t → {c′ o t′ : ℕ} {w′ : List ℕ} → Writing n h w w′ (m + 1) s t → NextChild w′ c t c′ → IfAbove u t o → LeastNonzero c′ o t′ → RowLoop n h a w′ s u c′ t (m + 1) t′
   row-more z {c′} {o} {t′} {w′} k sk af le =
-      record { listing = writing-then (g .listing) k; child = ch; next = first-least ch (first-after (node ABOVE w′) (omega (arith, g .past, far)) eu (rw eu (k .ready .fits s l)) af) le; ups = eu; past = omega (arith, g .past, far) }
+      record {
+        listing = writing-then (g .listing) k;
+        child = ch;
+        next = first-least ch (first-after (node ABOVE w′) (omega (arith, g .past, far)) eu (rw eu (k .ready .fits s l)) af) le;
+        ups = eu;
+        past = omega (arith, g .past, far);
+      }
     where
       far : f < t
       far = g .next .at z .0

@@ -94,7 +94,12 @@ module _ {n m k : ℕ} {w₀ : List ℕ} (s : Loaded n m k w₀) where
             forest = p .forest;
             final = p .final;
             marks = rw (f0, f1) (λ v l b. let (j, i, e) = s .marks v l (subst (λ (x : ℕ). 0 < x) (mark₂ v l) b) in (j, i, act₂ j i ∙ e));
-            none = λ v l. (still-zero LIVE (omega arith) (λ e. omega arith) refl refl v l, still-zero BRANCH (omega arith) (λ e. omega arith) refl refl v l, still-zero OTHER (omega arith) (λ e. omega arith) refl refl v l, still-zero NUMBER (omega arith) (λ e. omega arith) refl refl v l);
+            none = λ v l. (
+              still-zero LIVE (omega arith) (λ e. omega arith) refl refl v l,
+              still-zero BRANCH (omega arith) (λ e. omega arith) refl refl v l,
+              still-zero OTHER (omega arith) (λ e. omega arith) refl refl v l,
+              still-zero NUMBER (omega arith) (λ e. omega arith) refl refl v l,
+            );
           }
 
           module _ {h : ℕ} {w₅ : List ℕ} (d : ClassNumbers n m k w₄ h w₅) where
@@ -140,13 +145,15 @@ module _ {n m k : ℕ} {w₀ : List ℕ} (s : Loaded n m k w₀) where
 
               canonical : Canonical (edgesIn n m w₀) (activeIn k w₀) h (node MEMBER w₅) (λ v. node NUMBER w₅ (node TOP w₅ v) - 1)
               canonical =
-                  let g : Canonical (edgesBelow (half n TO w₀) m) (activeIn k w₀) h (node MEMBER w₅) (λ v. node NUMBER w₅ (node TOP w₅ v) - 1) = rw (ends-same, actives-same) at (d .canonical) in
+                  let g : Canonical (edgesBelow (half n TO w₀) m) (activeIn k w₀) h (node MEMBER w₅) (λ v. node NUMBER w₅ (node TOP w₅ v) - 1) =
+                  rw (ends-same, actives-same) at (d .canonical) in
                   canonical-cuts-equal (edgesBelow (half n TO w₀) m) (edgesIn n m w₀) cuts g
 
               module _ {w₇ : List ℕ} (t : WritingNumbers n w₆ k w₇) where
                 numbers : (i : ℕ) → i < k → node MAPPED w₇ (node ACTIVE w₀ i) ≡ node NUMBER w₅ (node TOP w₅ (node ACTIVE w₀ i)) - 1
                 numbers i b =
-                    let e : node MAPPED w₇ (node ACTIVE w₆ i) ≡ node NUMBER w₅ (node TOP w₅ (node ACTIVE w₆ i)) - 1 = rw (l .rest .nodes NUMBER (omega arith) refl, l .rest .nodes TOP (omega arith) refl) at (t .numbers i b) in
+                    let e : node MAPPED w₇ (node ACTIVE w₆ i) ≡ node NUMBER w₅ (node TOP w₅ (node ACTIVE w₆ i)) - 1 =
+                    rw (l .rest .nodes NUMBER (omega arith) refl, l .rest .nodes TOP (omega arith) refl) at (t .numbers i b) in
                     rw (act₆ i b) at e
 
                 past : (i : ℕ) → 16 * n + 4 * m ≤ i → getD w₇ i 0 ≡ getD w₀ i 0

@@ -1,3 +1,5 @@
+-- `contract` meets its contract.
+-- Assumes nothing.
 use mathlib.Core.Path.{_∙_, ap, sym}
 use native.Mathlib.Omega.{arith}
 use borrow.Author.Needs.{needs}
@@ -10,13 +12,14 @@ use Rattle.call_contract.proofs.contract.Tie as tie
 -- what the call was lent
 abbrev given : tie.Start → Lent
 given s =
-    lent (s .args .n) (s .args .m) (s .args .k) (s .args .from .now) (s .args .to .now) (s .args .active .now) (s .args .map .now) (s .args .out-from .now) (s .args .out-to .now) (s .args .work .now)
+    lent (s .args .n) (s .args .m) (s .args .k) (s .args .from .now) (s .args .to .now) (s .args .active .now) (s .args .map .now) (s .args .out-from .now)
+    (s .args .out-to .now) (s .args .work .now)
 
 returns : tie.Need-returns
 returns c =
     let at-first-fault = c .before .before in
-    let at-14 = at-first-fault .before .before .before .before .before .before .before .before .before .before .before .before in
-    outcome-refused (given (at-14)) (at-first-fault .first-fault .ensures) (λ e. omega arith)
+    let start = at-first-fault .before .before .before .before .before .before .before .before .before .before .before .before in
+    outcome-refused (given start) (at-first-fault .first-fault .ensures) (λ e. omega arith)
 
 contracted-requires : tie.Need-contracted-requires
 contracted-requires c κs =
@@ -27,8 +30,8 @@ returns-2 : tie.Need-returns-2
 returns-2 c =
     let at-contracted = c .before .before .before .before .before .before .before .before in
     let at-first-fault = at-contracted .before .before .before .before .before .before .before in
-    let at-27 = at-first-fault .before .before .before .before .before .before .before .before .before .before .before .before in
-    outcome-done (given (at-27)) (at-first-fault .first-fault .ensures) (omega arith) (at-contracted .contracted .ensures)
+    let start = at-first-fault .before .before .before .before .before .before .before .before .before .before .before .before in
+    outcome-done (given start) (at-first-fault .first-fault .ensures) (omega arith) (at-contracted .contracted .ensures)
 
 pub contract-spec : {M : Type 1} → statement M
 contract-spec =

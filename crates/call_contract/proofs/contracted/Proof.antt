@@ -1,3 +1,5 @@
+-- `contracted` meets its contract.
+-- Assumes nothing.
 use native.Mathlib.Omega.{arith}
 use borrow.Author.Needs.{needs}
 use Rattle.contraction_checks.proofs.FaultLaws.{sound}
@@ -9,19 +11,20 @@ use Rattle.call_contract.proofs.contracted.Tie as tie
 -- what the call was lent
 abbrev given : tie.Start → Lent
 given s =
-    lent (s .args .n) (s .args .m) (s .args .k) (s .args .from .now) (s .args .to .now) (s .args .active .now) (s .args .map .now) (s .args .out-from .now) (s .args .out-to .now) (s .args .work .now)
+    lent (s .args .n) (s .args .m) (s .args .k) (s .args .from .now) (s .args .to .now) (s .args .active .now) (s .args .map .now) (s .args .out-from .now)
+    (s .args .out-to .now) (s .args .work .now)
 
 load-requires : tie.Need-load-requires
 load-requires c κs =
     let start = c .before .before .before .before .before .before .before .before in
-    loadable (given (start)) (sound (given (start)) (start .pre))
+    loadable (given start) (sound (given start) (start .pre))
 
 fill-map-requires : tie.Need-fill-map-requires
 fill-map-requires c κs =
     let at-reduce = c .before .before .before .before in
     let at-load = at-reduce .before .before .before .before in
     let start = at-load .before .before .before .before .before .before .before .before .before in
-    let l = given (start) in
+    let l = given start in
     let s = sound l (start .pre) in
     let p = at-load .load .ensures in
     let r = at-reduce .reduce .ensures in
@@ -32,35 +35,45 @@ fill-ends-requires c κs =
     let at-reduce = c .before .before .before .before .before .before .before .before .before in
     let at-load = at-reduce .before .before .before .before in
     let start = at-load .before .before .before .before .before .before .before .before .before in
-    let l = given (start) in
+    let l = given start in
     let s = sound l (start .pre) in
     let p = at-load .load .ensures in
-    let r = at-reduce .reduce .ensures in
-    (omega (arith, words-length l s p r, s .long .work-length, edges-few l s p r), omega (arith, edges-room l s p r, s .long .out-from-length), omega arith, λ i j. let q = ends-fit l s p r i (omega arith) in omega (arith, q .0, q .1))
+    let r = at-reduce .reduce .ensures in (
+      omega (arith, words-length l s p r, s .long .work-length, edges-few l s p r),
+      omega (arith, edges-room l s p r, s .long .out-from-length),
+      omega arith,
+      λ i j. let q = ends-fit l s p r i (omega arith) in omega (arith, q .0, q .1),
+    )
 
 fill-ends-requires-2 : tie.Need-fill-ends-requires-2
 fill-ends-requires-2 c κs =
     let at-reduce = c .before .before .before .before .before .before .before .before .before .before .before .before .before .before in
     let at-load = at-reduce .before .before .before .before in
     let start = at-load .before .before .before .before .before .before .before .before .before in
-    let l = given (start) in
+    let l = given start in
     let s = sound l (start .pre) in
     let p = at-load .load .ensures in
-    let r = at-reduce .reduce .ensures in
-    (omega (arith, words-length l s p r, s .long .work-length, edges-few l s p r), omega (arith, edges-room l s p r, s .long .out-to-length), omega arith, λ i j. let q = ends-fit l s p r i (omega arith) in omega (arith, q .0, q .1))
+    let r = at-reduce .reduce .ensures in (
+      omega (arith, words-length l s p r, s .long .work-length, edges-few l s p r),
+      omega (arith, edges-room l s p r, s .long .out-to-length),
+      omega arith,
+      λ i j. let q = ends-fit l s p r i (omega arith) in omega (arith, q .0, q .1),
+    )
 
 required-requires : tie.Need-required-requires
 required-requires c κs =
-    let start = c .before .before .before .before .before .before .before .before .before .before .before .before .before .before .before .before .before .before .before .before .before .before .before .before .before .before .before .before .before .before .before in
-    let w = sound (given (start)) (start .pre) .within in
+    let at-reduce = c .before .before .before .before .before .before .before .before .before .before .before .before .before .before .before .before .before .before in
+    let start = at-reduce .before .before .before .before .before .before .before .before .before .before .before .before .before in
+    let w = sound (given start) (start .pre) .within in
     (omega (arith, w .nodes), omega (arith, w .edges))
 
 clear-requires : tie.Need-clear-requires
 clear-requires c κs =
-    let at-reduce = c .before .before .before .before .before .before .before .before .before .before .before .before .before .before .before .before .before .before .before in
+    let at-fill-map = c .before .before .before .before .before .before .before .before .before .before .before .before .before .before in
+    let at-reduce = at-fill-map .before .before .before .before .before in
     let at-load = at-reduce .before .before .before .before in
     let start = at-load .before .before .before .before .before .before .before .before .before in
-    let l = given (start) in
+    let l = given start in
     let s = sound l (start .pre) in
     let p = at-load .load .ensures in
     let r = at-reduce .reduce .ensures in
@@ -76,7 +89,7 @@ returns c =
     let at-reduce = at-fill-map .before .before .before .before .before in
     let at-load = at-reduce .before .before .before .before in
     let start = at-load .before .before .before .before .before .before .before .before .before in
-    let l = given (start) in
+    let l = given start in
     let s = sound l (start .pre) in
     let p = at-load .load .ensures in
     let r = at-reduce .reduce .ensures in

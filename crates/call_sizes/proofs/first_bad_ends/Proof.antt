@@ -1,3 +1,5 @@
+-- `first_bad_ends` meets its contract. The loop's invariant: no segment or edge before s has a bad end.
+-- Assumes nothing.
 use Prim.Native.Nat.{_-_, _≤_}
 use mathlib.Core.Path.{_∙_, _≡_, sym}
 use native.Mathlib.Omega.{arith}
@@ -24,7 +26,8 @@ returns c =
     let at-loop = c .before .before .before in
     let start = at-loop .before in
     let a = start .args in
-    sym (at-loop .loop .inv .1 ∙ seek-here (badEnds (a .n) (a .from .now) (a .to .now)) (at-loop .loop .s) (a .m) (omega arith) (bad-from (a .n) (a .from .now) (a .to .now) (at-loop .loop .s) (c .if1 .taken)))
+    sym (at-loop .loop .inv .1 ∙ seek-here (badEnds (a .n) (a .from .now) (a .to .now)) (at-loop .loop .s) (a .m) (omega arith)
+    (bad-from (a .n) (a .from .now) (a .to .now) (at-loop .loop .s) (c .if1 .taken)))
 
 cast-if2 : tie.Need-cast-if2 Inv-loop μ-loop
 cast-if2 c =
@@ -37,15 +40,19 @@ returns-2 c =
     let at-loop = at-if1 .before .before .before in
     let start = at-loop .before in
     let a = start .args in
-    sym (at-loop .loop .inv .1 ∙ seek-here (badEnds (a .n) (a .from .now) (a .to .now)) (at-loop .loop .s) (a .m) (omega arith) (bad-to (a .n) (a .from .now) (a .to .now) (at-loop .loop .s) (at-if1 .if1 .left) (c .if2 .taken)))
+    sym (at-loop .loop .inv .1 ∙ seek-here (badEnds (a .n) (a .from .now) (a .to .now)) (at-loop .loop .s) (a .m) (omega arith)
+    (bad-to (a .n) (a .from .now) (a .to .now) (at-loop .loop .s) (at-if1 .if1 .left) (c .if2 .taken)))
 
 loop-again : tie.Need-loop-again Inv-loop μ-loop
 loop-again c =
     let at-if1 = c .before .before in
     let at-loop = at-if1 .before .before .before in
     let start = at-loop .before in
-    let a = start .args in
-    (omega arith, at-loop .loop .inv .1 ∙ seek-more (badEnds (a .n) (a .from .now) (a .to .now)) (at-loop .loop .s) (a .m) (omega arith) (good-ends (a .n) (a .from .now) (a .to .now) (at-loop .loop .s) (at-if1 .if1 .left) (c .if2 .left)))
+    let a = start .args in (
+      omega arith,
+      at-loop .loop .inv .1 ∙ seek-more (badEnds (a .n) (a .from .now) (a .to .now)) (at-loop .loop .s) (a .m) (omega arith)
+          (good-ends (a .n) (a .from .now) (a .to .now) (at-loop .loop .s) (at-if1 .if1 .left) (c .if2 .left)),
+    )
 
 returns-3 : tie.Need-returns-3 Inv-loop μ-loop
 returns-3 c = let a = c .before .before .args in

@@ -18,14 +18,12 @@ abbrev μ-loop : tie.MeasureT-loop
 
 returns : tie.Need-returns Inv-loop μ-loop
 returns c =
-    let at-4 = c .before .before .before .before in
-    let at = at-4 in
+    let at = c .before .before .before .before in
     sym (at .loop .inv .1 ∙ short-here (at .before .args .tables .now) (at .loop .i) (omega arith) (c .if1 .taken))
 
 loop-again : tie.Need-loop-again Inv-loop μ-loop
 loop-again c =
-    let at-4 = c .before .before .before .before in
-    let at = at-4 in
+    let at = c .before .before .before .before in
     (omega arith, at .loop .inv .1 ∙ short-more (at .before .args .tables .now) (at .loop .i) (omega arith) (c .if1 .left))
 
 returns-2 : tie.Need-returns-2 Inv-loop μ-loop

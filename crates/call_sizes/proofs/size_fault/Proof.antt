@@ -1,3 +1,5 @@
+-- `size_fault` meets its contract.
+-- Assumes nothing.
 use mathlib.Core.Path.{_∙_, ap, sym}
 use borrow.Author.Needs.{needs}
 use Rattle.call_sizes.proofs.size_fault.Statement.{statement}

@@ -1,3 +1,5 @@
+-- `first_bad_entry` meets its contract. The loop's invariant: no entry before i is bad.
+-- Assumes nothing.
 use Prim.Native.Nat.{_-_, _≤_}
 use mathlib.Core.Path.{_∙_, _≡_, sym}
 use lib.ListN.{getD}
@@ -27,14 +29,18 @@ returns c =
     let at-loop = c .before .before .before in
     let start = at-loop .before in
     let a = start .args in
-    sym (at-loop .loop .inv .1 ∙ seek-here (badEntry (a .n) (a .active .now)) (at-loop .loop .i) (a .k) (omega arith) (le-leb (a .n) (getD (a .active .now) (at-loop .loop .i) 0) (c .if1 .taken)))
+    sym (at-loop .loop .inv .1 ∙ seek-here (badEntry (a .n) (a .active .now)) (at-loop .loop .i) (a .k) (omega arith)
+    (le-leb (a .n) (getD (a .active .now) (at-loop .loop .i) 0) (c .if1 .taken)))
 
 loop-again : tie.Need-loop-again Inv-loop μ-loop
 loop-again c =
     let at-loop = c .before .before .before in
     let start = at-loop .before in
-    let a = start .args in
-    (omega arith, at-loop .loop .inv .1 ∙ seek-more (badEntry (a .n) (a .active .now)) (at-loop .loop .i) (a .k) (omega arith) (lt-leb (a .n) (getD (a .active .now) (at-loop .loop .i) 0) (c .if1 .left)))
+    let a = start .args in (
+      omega arith,
+      at-loop .loop .inv .1 ∙ seek-more (badEntry (a .n) (a .active .now)) (at-loop .loop .i) (a .k) (omega arith)
+          (lt-leb (a .n) (getD (a .active .now) (at-loop .loop .i) 0) (c .if1 .left)),
+    )
 
 returns-2 : tie.Need-returns-2 Inv-loop μ-loop
 returns-2 c = let a = c .before .before .args in

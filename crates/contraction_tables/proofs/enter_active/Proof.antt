@@ -1,3 +1,5 @@
+-- `enter_active` meets its contract. The loop's invariant: the first i entries are entered.
+-- Assumes nothing.
 use Prim.Native.Nat.{_-_, _≤_, ℕ}
 use mathlib.Core.Path.{_∙_, _≡_, ap}
 use lib.ListN.{take}

@@ -1,3 +1,5 @@
+-- `fill_ends` meets its contract. The loop's invariant: the first i ends are written.
+-- Assumes nothing.
 use Prim.Native.Nat.{_-_, _≤_}
 use mathlib.Core.Path.{_≡_, refl}
 use native.Mathlib.Omega.{arith}

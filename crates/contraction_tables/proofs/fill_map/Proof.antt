@@ -1,3 +1,5 @@
+-- `fill_map` meets its contract. The loop's invariant: the first i numbers are written.
+-- Assumes nothing.
 use Prim.Native.Nat.{_-_, _≤_}
 use mathlib.Core.Path.{_≡_, refl}
 use lib.ListN.{getD}

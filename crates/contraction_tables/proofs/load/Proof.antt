@@ -1,3 +1,5 @@
+-- `load` meets its contract.
+-- Assumes nothing.
 use native.Mathlib.Omega.{arith}
 use borrow.Author.Needs.{needs}
 use Rattle.contraction_tables.proofs.TransferLaws.{prepared}

@@ -1,3 +1,5 @@
+-- `put_edges` meets its contract. The loop's invariant: the first s edges are stored.
+-- Assumes nothing.
 use Prim.Native.Nat.{_-_, _≤_}
 use mathlib.Core.Path.{_≡_}
 use native.Mathlib.Omega.{arith}
@@ -26,8 +28,13 @@ put-edge-requires : tie.Need-put-edge-requires Inv-loop μ-loop
 put-edge-requires c κs =
     let at-shared-slice-known3 = c .before .before in
     let at-loop = at-shared-slice-known3 .before .before in
-    let start = at-loop .before .before .before .before in
-    (omega (arith, start .pre .2, at-loop .loop .inv .1 .same), omega (arith, at-shared-slice-known3 .shared-slice-known3 .given (at-loop .loop .s)), omega (arith, c .before .shared-slice-known4 .given (at-loop .loop .s)), start .pre .0, omega arith)
+    let start = at-loop .before .before .before .before in (
+      omega (arith, start .pre .2, at-loop .loop .inv .1 .same),
+      omega (arith, at-shared-slice-known3 .shared-slice-known3 .given (at-loop .loop .s)),
+      omega (arith, c .before .shared-slice-known4 .given (at-loop .loop .s)),
+      start .pre .0,
+      omega arith,
+    )
 
 loop-again : tie.Need-loop-again Inv-loop μ-loop
 loop-again c =

@@ -39,8 +39,11 @@ loop-again c =
     let at-get = at-report-branch .before .before in
     let at-loop-test = at-get .before .before in
     let at-loop = at-loop-test .before in
-    let start = at-loop .before .before in
-    (omega arith, counting-more (at-loop .loop .i - 1) (start .pre) (counting-down (at-loop-test .loop-test .taken) (at-loop .loop .inv .1)) (omega (arith, at-loop-test .loop-test .taken)) (at-get .get .ensures .0) (at-report-branch .report-branch .ensures))
+    let start = at-loop .before .before in (
+      omega arith,
+      counting-more (at-loop .loop .i - 1) (start .pre) (counting-down (at-loop-test .loop-test .taken) (at-loop .loop .inv .1))
+          (omega (arith, at-loop-test .loop-test .taken)) (at-get .get .ensures .0) (at-report-branch .report-branch .ensures),
+    )
 
 same-length : tie.Need-same-length Inv-loop μ-loop
 same-length c = c .before .loop .inv .1 .rest .same

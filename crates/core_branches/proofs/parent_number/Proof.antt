@@ -45,7 +45,12 @@ get-requires-6 c κs =
     let at-get2 = at-get3 .before .before in
     let at-get = at-get2 .before .before in
     let start = at-get .before .before .before in
-    omega (arith, over-fits (start .pre) (at-get .get .ensures .0) (at-get2 .get2 .ensures .0) (at-get3 .get3 .ensures .0) (at-get4 .get4 .ensures .0) (c .before .get5 .ensures .0), start .pre .room)
+    omega (
+      arith,
+      over-fits (start .pre) (at-get .get .ensures .0) (at-get2 .get2 .ensures .0) (at-get3 .get3 .ensures .0) (at-get4 .get4 .ensures .0)
+          (c .before .get5 .ensures .0),
+      start .pre .room,
+    )
 
 returns-2 : tie.Need-returns-2
 returns-2 c =

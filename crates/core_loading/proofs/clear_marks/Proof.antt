@@ -1,3 +1,5 @@
+-- `clear_marks` meets its contract. The loop's invariant: the first v nodes have no mark.
+-- Assumes nothing.
 use Prim.Native.Nat.{_-_}
 use native.Mathlib.Omega.{arith}
 use Rattle.core_loading.proofs.LoadingLaws.{Clearing, clearing-more, clearing-none}

@@ -1,3 +1,5 @@
+-- `enter` meets its contract.
+-- Assumes nothing.
 use mathlib.Core.Path.{_∙_, _≡_, sym}
 use native.Mathlib.Omega.{arith}
 use borrow.Author.Needs.{needs}

@@ -15,9 +15,13 @@ returns c =
     let at-put2 = at-put3 .before .before .before .before in
     let at-put = at-put2 .before .before .before .before in
     let start = at-put .before .before .before in
-    clear-put refl (start .pre .2)
-    (clear-put refl (start .pre .2) (clear-put refl (start .pre .2) (clear-put refl (start .pre .2) (clear-put refl (start .pre .2) (clear-put refl (start .pre .2) (clear-none _ _) (at-put .put .ensures)) (at-put2 .put2 .ensures)) (at-put3 .put3 .ensures)) (at-put4 .put4 .ensures)) (at-put5 .put5 .ensures))
-    (at-put6 .put6 .ensures)
+    let fit = start .pre .2 in
+    let one = clear-put refl fit (clear-none _ _) (at-put .put .ensures) in
+    let two = clear-put refl fit one (at-put2 .put2 .ensures) in
+    let three = clear-put refl fit two (at-put3 .put3 .ensures) in
+    let four = clear-put refl fit three (at-put4 .put4 .ensures) in
+    let five = clear-put refl fit four (at-put5 .put5 .ensures) in
+    clear-put refl fit five (at-put6 .put6 .ensures)
 
 pub clear-node-spec : {M : Type 1} → statement M
 clear-node-spec =

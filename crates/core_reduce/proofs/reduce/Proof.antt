@@ -21,22 +21,18 @@ spanning-forest-requires c κs =
 
 merge-components-requires : tie.Need-merge-components-requires
 merge-components-requires c κs =
-    let at-3 = c .before .before .before in
-    let searched = at-3 in
+    let searched = c .before .before .before in
     let linked = searched .before .before .before .before in
     let cleared = linked .before .before .before .before in
-    can-merge-components (cleared .before .before .before .pre) (cleared .clear-nodes .ensures) (linked .link-edges .ensures)
-    (searched .spanning-forest .ensures)
+    can-merge-components (cleared .before .before .before .pre) (cleared .clear-nodes .ensures) (linked .link-edges .ensures) (searched .spanning-forest .ensures)
 
 number-classes-requires : tie.Need-number-classes-requires
 number-classes-requires c κs =
-    let at-3 = c .before .before .before in
-    let merged = at-3 in
+    let merged = c .before .before .before in
     let searched = merged .before .before .before .before in
     let linked = searched .before .before .before .before in
     let cleared = linked .before .before .before .before in
-    can-number-classes (cleared .before .before .before .pre) (cleared .clear-nodes .ensures) (linked .link-edges .ensures) (searched .spanning-forest .ensures)
-    (merged .merge-components .ensures)
+    can-number-classes (cleared .before .before .before .pre) (cleared .clear-nodes .ensures) (linked .link-edges .ensures) (searched .spanning-forest .ensures) (merged .merge-components .ensures)
 
 list-edges-requires : tie.Need-list-edges-requires
 list-edges-requires c κs =

@@ -1,3 +1,5 @@
+-- `clear` meets its contract. The loop's invariant: the first i words are 0.
+-- Assumes nothing.
 use Prim.Native.Nat.{_-_, _≤_, ℕ}
 use mathlib.Core.List.{List}
 use mathlib.Core.Path.{_∙_, _≡_, ap, refl}

@@ -1,3 +1,5 @@
+-- `put` meets its contract.
+-- Assumes nothing.
 use borrow.Author.Needs.{needs}
 use Rattle.core_words.proofs.FieldLaws.{set-put}
 use Rattle.core_words.proofs.put.Statement.{statement}

@@ -1,3 +1,5 @@
+-- `put_half` meets its contract.
+-- Assumes nothing.
 use borrow.Author.Needs.{needs}
 use Rattle.core_words.proofs.FieldLaws.{set-half}
 use Rattle.core_words.proofs.put_half.Statement.{statement}

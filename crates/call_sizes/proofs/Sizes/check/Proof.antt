@@ -1,3 +1,5 @@
+-- `Sizes::check` meets its contract.
+-- Assumes nothing.
 use borrow.Author.Tests.{le-ltb, lt-ltb}
 use Rattle.call_sizes.proofs.Sizes.check.Statement.{statement}
 use Rattle.call_sizes.proofs.Sizes.check.Tie as tie

@@ -49,8 +49,15 @@ next-child-requires : tie.Need-next-child-requires Inv-loop μ-loop
 next-child-requires c κs =
     let at-write-edge = c .before .before .before in
     let at-loop = at-write-edge .before .before .before in
-    let start = at-loop .before .before .before .before .before .before .before .before in
-    (omega arith, omega (arith, t-fits (writing-self (at-loop .loop .inv .listing)) (start .pre .1) (at-loop .loop .inv .next) (omega arith), at-write-edge .write-edge .ensures .ready .room, at-write-edge .write-edge .ensures .ready .less))
+    let start = at-loop .before .before .before .before .before .before .before .before in (
+      omega arith,
+      omega (
+        arith,
+        t-fits (writing-self (at-loop .loop .inv .listing)) (start .pre .1) (at-loop .loop .inv .next) (omega arith),
+        at-write-edge .write-edge .ensures .ready .room,
+        at-write-edge .write-edge .ensures .ready .less,
+      ),
+    )
 
 loop-less : tie.Need-loop-less Inv-loop μ-loop
 loop-less c =
