@@ -31,7 +31,7 @@ use Rattle.theory_graph.specs.Contraction.{Contracted, contract, keptClasses}
 use Rattle.theory_graph.specs.Graph.{Edge}
 use Rattle.theory_graph.specs.Lists.{firsts, over, table}
 use Rattle.theory_graph.specs.SmallGraph.{Canonical, IsSmallGraph, endsIn}
-use Rattle.core_words.specs.Fields.{node}
+use Rattle.core_words.specs.Fields.{ACTIVE, LOWER, MAPPED, UPPER, node}
 
 -- ---- the definition's contraction is the only small graph so numbered
 module _ (n : ℕ) (E : List Edge) (S : List ℕ) (wE : endsIn (λ v. ltb v n) E ≡ true) (wS : (a : ℕ) → List·Memᴰ a S → a < n)
@@ -123,26 +123,26 @@ module _ (l : Lent) (s : Sound l) where
         (subst (λ (E : List Edge). Canonical E (firsts eqb (entries l)) h (r .ρ) (r .σ)) given-edges
         (subst (λ (S : List ℕ). Canonical (edgesIn (l .n) (l .m) w) S h (r .ρ) (r .σ)) given-active (r .canonical)))
 
-    -- field 0 of an entry is its number
-    number-at : (a : ℕ) → List·Memᴰ a (entries l) → node 0 w₂ a ≡ r .σ a
+    -- MAPPED of an entry is its number
+    number-at : (a : ℕ) → List·Memᴰ a (entries l) → node MAPPED w₂ a ≡ r .σ a
     number-at a m =
-        let (i, j, q) = table-mem (node 1 w) 0 d a (subst (λ (xs : List ℕ). List·Memᴰ a xs) (sym given-active) (in-firsts (entries l) a m)) in
-        ap (node 0 w₂) q ∙ r .numbers i (omega arith) ∙ ap (r .σ) (sym q)
+        let (i, j, q) = table-mem (node ACTIVE w) 0 d a (subst (λ (xs : List ℕ). List·Memᴰ a xs) (sym given-active) (in-firsts (entries l) a m)) in
+        ap (node MAPPED w₂) q ∙ r .numbers i (omega arith) ∙ ap (r .σ) (sym q)
 
     -- ---- what the fills ask
     pub words-length : length w₂ ≡ length (l .work)
     words-length = r .same ∙ p .same
 
-    pub map-fits : (i : ℕ) → i < l .k → (getD (l .active) i 0 < l .n) × (node 0 w₂ (getD (l .active) i 0) < 65536)
+    pub map-fits : (i : ℕ) → i < l .k → (getD (l .active) i 0 < l .n) × (node MAPPED w₂ (getD (l .active) i 0) < 65536)
     map-fits i j = (s .entries i j, omega (arith, number-at (getD (l .active) i 0) (entries-at i j), small .place (getD (l .active) i 0) (entries-at i j) .0, r .less, s .within .nodes))
 
-    pub ends-fit : (i : ℕ) → i < e → (node 4 w₂ i < 65536) × (node 5 w₂ i < 65536)
+    pub ends-fit : (i : ℕ) → i < e → (node LOWER w₂ i < 65536) × (node UPPER w₂ i < 65536)
     ends-fit i j =
-        let q = small .edge (node 4 w₂ i) (node 5 w₂ i) (table-at (λ j. (node 4 w₂ j, node 5 w₂ j)) 0 e i (omega arith) (omega arith)) in
+        let q = small .edge (node LOWER w₂ i) (node UPPER w₂ i) (table-at (λ j. (node LOWER w₂ j, node UPPER w₂ j)) 0 e i (omega arith) (omega arith)) in
         (omega (arith, q .0, q .1, r .less, s .within .nodes), omega (arith, q .1, r .less, s .within .nodes))
 
     edges-length : length (edgesOut e w₂) ≡ e
-    edges-length = table-length (λ j. (node 4 w₂ j, node 5 w₂ j)) 0 e
+    edges-length = table-length (λ j. (node LOWER w₂ j, node UPPER w₂ j)) 0 e
 
     pub edges-few : e ≤ l .n
     edges-few = omega (arith, edges-length, small-edges-most (edges l) (entries l) h (edgesOut e w₂) (r .ρ) (r .σ) small, r .less)
@@ -154,30 +154,42 @@ module _ (l : Lent) (s : Sound l) where
     abbrev result : Contracted
     result = contract (l .n) (edges l) (entries l)
 
-    result-map : table (λ i. node 0 w₂ (getD (l .active) i 0)) 0 (l .k) ≡ result .map
+    result-map : table (λ i. node MAPPED w₂ (getD (l .active) i 0)) 0 (l .k) ≡ result .map
     result-map =
-        sym (table-map (node 0 w₂) (λ i. getD (l .active) i 0) 0 (l .k)) ∙ ap (map (node 0 w₂)) (sym entries-table) ∙ map-equal (node 0 w₂) (r .σ) (entries l) number-at
+        sym (table-map (node MAPPED w₂) (λ i. getD (l .active) i 0) 0 (l .k)) ∙ ap (map (node MAPPED w₂)) (sym entries-table) ∙ map-equal (node MAPPED w₂) (r .σ) (entries l) number-at
         ∙ the-map (l .n) (edges l) (entries l) edges-below entries-below h (edgesOut e w₂) (r .ρ) (r .σ) small canonical
 
     result-edges : edgesOut e w₂ ≡ result .edges
     result-edges = the-edges (l .n) (edges l) (entries l) edges-below entries-below h (edgesOut e w₂) (r .ρ) (r .σ) small canonical
 
-    result-from : table (node 4 w₂) 0 e ≡ map (λ (x : Edge). x .0) (result .edges)
-    result-from = sym (table-map (λ (x : Edge). x .0) (λ j. (node 4 w₂ j, node 5 w₂ j)) 0 e) ∙ ap (map (λ (x : Edge). x .0)) result-edges
+    result-from : table (node LOWER w₂) 0 e ≡ map (λ (x : Edge). x .0) (result .edges)
+    result-from = sym (table-map (λ (x : Edge). x .0) (λ j. (node LOWER w₂ j, node UPPER w₂ j)) 0 e) ∙ ap (map (λ (x : Edge). x .0)) result-edges
 
-    result-to : table (node 5 w₂) 0 e ≡ map (λ (x : Edge). x .1) (result .edges)
-    result-to = sym (table-map (λ (x : Edge). x .1) (λ j. (node 4 w₂ j, node 5 w₂ j)) 0 e) ∙ ap (map (λ (x : Edge). x .1)) result-edges
+    result-to : table (node UPPER w₂) 0 e ≡ map (λ (x : Edge). x .1) (result .edges)
+    result-to = sym (table-map (λ (x : Edge). x .1) (λ j. (node LOWER w₂ j, node UPPER w₂ j)) 0 e) ∙ ap (map (λ (x : Edge). x .1)) result-edges
 
     result-work : over (replicate (required (l .n) (l .m)) 0) w₂ ≡ over (replicate (required (l .n) (l .m)) 0) (l .work)
     result-work = over-equal (replicate (required (l .n) (l .m)) 0) w₂ (l .work) words-length
         (λ i j. let k = length-replicate (required (l .n) (l .m)) zero in r .past i (omega arith) ∙ p .past i (omega arith))
 
     pub outcome-is : {mp lows highs w₃ : List ℕ} {k : ℕ}
-        → mp ≡ over (table (λ i. node 0 w₂ (getD (l .active) i 0)) 0 (l .k)) (l .map)
-        → lows ≡ over (table (node 4 w₂) 0 e) (l .outFrom)
-        → highs ≡ over (table (node 5 w₂) 0 e) (l .outTo)
+        → mp ≡ over (table (λ i. node MAPPED w₂ (getD (l .active) i 0)) 0 (l .k)) (l .map)
+        → lows ≡ over (table (node LOWER w₂) 0 e) (l .outFrom)
+        → highs ≡ over (table (node UPPER w₂) 0 e) (l .outTo)
         → k ≡ required (l .n) (l .m) → w₃ ≡ over (replicate k 0) w₂
         → outcome (Done h e) mp lows highs w₃ ≡ done l
     unfolding done
     outcome-is a b c k f =
-        rw (the-nodes (l .n) (edges l) (entries l) edges-below entries-below h (edgesOut e w₂) (r .ρ) (r .σ) small canonical, sym edges-length ∙ ap length result-edges, a, b, c, f, k, result-map, result-from, result-to, result-work) refl
+        rw (
+          the-nodes (l .n) (edges l) (entries l) edges-below entries-below h (edgesOut e w₂) (r .ρ) (r .σ) small canonical,
+          sym edges-length ∙ ap length result-edges,
+          a,
+          b,
+          c,
+          f,
+          k,
+          result-map,
+          result-from,
+          result-to,
+          result-work,
+        ) refl

@@ -1,5 +1,5 @@
 // The contraction as a public call: the checks in document 01's order, the graph loaded into words, its contraction, and the reply's tables filled.
-
+use core_words::*;
 ghost use mathlib.Core.Path.{_≡_};
 ghost use Rattle.theory_contraction.specs.Contraction.{fault, done, contraction, lent};
 ghost use Rattle.call_contract.specs.Reply.{outcome};
@@ -24,15 +24,17 @@ fn contracted(
     work: &mut [u32],
 ) -> ContractReply
     requires { ⌜ fault (lent n m k (now from) (now to) (now active) (now map) (now «out_from») (now «out_to») (now work)) .0 ≡ 0 ⌝ }
-    ensures { λ r. ⌜ outcome r (now (map .exit)) (now («out_from» .exit)) (now («out_to» .exit)) (now (work .exit)) ≡ done (lent n m k (now (from .entry)) (now (to .entry)) (now (active .entry)) (now (map .entry)) (now («out_from» .entry)) (now («out_to» .entry)) (now (work .entry))) ⌝ }
+    ensures { λ r. ⌜ outcome r (now (map .exit)) (now («out_from» .exit)) (now («out_to» .exit)) (now (work .exit))
+        ≡ done (lent n m k (now (from .entry)) (now (to .entry)) (now (active .entry))
+        (now (map .entry)) (now («out_from» .entry)) (now («out_to» .entry)) (now (work .entry))) ⌝ }
 {
     let d = contraction_tables::load(work, n, m, k, from, to, active);
     let small = core_reduce::reduce(work, n, m, d);
     let nodes = small.nodes;
     let edges = small.edges;
     contraction_tables::fill_map(work, n, k, active, map);
-    contraction_tables::fill_ends(work, edges, 4, out_from);
-    contraction_tables::fill_ends(work, edges, 5, out_to);
+    contraction_tables::fill_ends(work, edges, LOWER, out_from);
+    contraction_tables::fill_ends(work, edges, UPPER, out_to);
     core_words::clear(work, contraction_checks::required(n, m));
     ContractReply::Done(nodes, edges)
 }
@@ -51,7 +53,9 @@ pub fn contract(
     out_to: &mut [u16],
     work: &mut [u32],
 ) -> ContractReply
-    ensures { λ r. ⌜ outcome r (now (map .exit)) (now («out_from» .exit)) (now («out_to» .exit)) (now (work .exit)) ≡ contraction (lent n m k (now (from .entry)) (now (to .entry)) (now (active .entry)) (now (map .entry)) (now («out_from» .entry)) (now («out_to» .entry)) (now (work .entry))) ⌝ }
+    ensures { λ r. ⌜ outcome r (now (map .exit)) (now («out_from» .exit)) (now («out_to» .exit)) (now (work .exit))
+        ≡ contraction (lent n m k (now (from .entry)) (now (to .entry)) (now (active .entry))
+        (now (map .entry)) (now («out_from» .entry)) (now («out_to» .entry)) (now (work .entry))) ⌝ }
 {
     let fault = contraction_checks::first_fault(
         n,

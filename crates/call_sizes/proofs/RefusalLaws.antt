@@ -1,15 +1,18 @@
 -- Laws of refusals: where a list of faults refuses nothing no test holds, and the other way round; and what the first number that passes a test says of those before it.
 -- Assumes nothing.
-use Prim.Native.Nat.{_+_, _-_, _<_, _≤_, suc, zero, ℕ}
+use Prim.Native.Nat.{_*_, _+_, _-_, _/_, _<_, _≤_, suc, zero, ℕ}
 use mathlib.Core.Bool.{Bool, cond, false, true}
 use mathlib.Core.List.{List, [], _++_, _∷_}
+use mathlib.Core.Logic.{_↔_}
 use mathlib.Core.Path.{_∙_, _≡_, ap, refl}
 use lib.Dec.{eqb, ltb}
-use lib.ListN.{getD}
+use lib.ListN.{drop, getD, length, length-drop}
+use lib.Seq.{drop-cons}
+use native.Mathlib.Numerals.{add-one}
 use native.Mathlib.Omega.{arith}
-use borrow.Author.Tests.{eqb-false, eqb-true, le-leb, lt-leb, ltb-false}
+use borrow.Author.Tests.{eqb-false, eqb-true, le-leb, le-ltb, lt-leb, lt-ltb, ltb-false}
 use Rattle.theory_graph.proofs.Booleans.{onBool}
-use Rattle.call_sizes.specs.Refusal.{Row, badEnds, firstFault, seek}
+use Rattle.call_sizes.specs.Refusal.{Row, badEnds, byTwo, firstFault, seek, shortRows}
 use Rattle.call_sizes.specs.Sizes.{sizeFaults}
 
 -- ---- faults
@@ -46,6 +49,48 @@ silent-right (r ∷ rs) bs s = silent-right rs bs (s .1)
 pub numbered-append : (rs bs : List Row) → Numbered rs → Numbered bs → Numbered (rs ++ bs)
 numbered-append [] bs s t = t
 numbered-append (r ∷ rs) bs s t = (s .0, numbered-append rs bs (s .1) t)
+
+-- ---- lengths
+-- each table is as long as it must be
+abbrev pub Long : List (ℕ × ℕ) → Type 0
+Long [] = Unit {0}
+Long (t ∷ ts) = (t .1 ≤ t .0) × Long ts
+
+pub short-numbered : (ts : List (ℕ × ℕ)) → Numbered (shortRows ts)
+short-numbered [] = tt
+short-numbered (t ∷ ts) = (λ h. omega arith, short-numbered ts)
+
+pub short-long : (ts : List (ℕ × ℕ)) → Silent (shortRows ts) ↔ Long ts
+short-long [] = (λ s. s, λ s. s)
+short-long (t ∷ ts) = let (to, from) = short-long ts in (λ s. (ltb-false (t .0) (t .1) (s .0), to (s .1)), λ l. (le-ltb (t .0) (t .1) (l .0), from (l .1)))
+
+-- what is left of refusal 2 where it does not refuse
+pub accepted-long : (ts : List (ℕ × ℕ)) → firstFault (shortRows ts) .0 ≡ 0 → Long ts
+accepted-long ts z = short-long ts .0 (fault-silent (shortRows ts) (short-numbered ts) z)
+
+-- ---- the loop over the lengths
+module _ (xs : List ℕ) (i : ℕ) where
+  two-at : i < length xs / 2 → drop (2 * i) xs ≡ getD xs (2 * i) 0 ∷ getD xs (2 * i + 1) 0 ∷ drop (2 * (i + 1)) xs
+  two-at l =
+      let e : 2 * (i + 1) ≡ suc (suc (2 * i)) = omega arith in
+      let a : 2 * i < length xs = omega arith in
+      let b : suc (2 * i) < length xs = omega arith in
+      rw (e, add-one, drop-cons xs (2 * i) 0, drop-cons xs (suc (2 * i)) 0)
+
+  pub short-here : i < length xs / 2 → getD xs (2 * i) 0 < getD xs (2 * i + 1) 0 → firstFault (shortRows (byTwo (drop (2 * i) xs))) ≡ (2, 0)
+  short-here l h = rw (two-at l, lt-ltb (getD xs (2 * i) 0) (getD xs (2 * i + 1) 0) h) refl
+
+  pub short-more : i < length xs / 2 → getD xs (2 * i + 1) 0 ≤ getD xs (2 * i) 0
+      → firstFault (shortRows (byTwo (drop (2 * i) xs))) ≡ firstFault (shortRows (byTwo (drop (2 * (i + 1)) xs)))
+  short-more l h = rw (two-at l, le-ltb (getD xs (2 * i) 0) (getD xs (2 * i + 1) 0) h) refl
+
+  pub short-past : length xs / 2 ≤ i → firstFault (shortRows (byTwo (drop (2 * i) xs))) ≡ (0, 0)
+  short-past l = few (drop (2 * i) xs) (rw length-drop (omega arith))
+    where
+      few : (ys : List ℕ) → length ys < 2 → firstFault (shortRows (byTwo ys)) ≡ (0, 0)
+      few [] h = refl
+      few (y ∷ []) h = refl
+      few (y ∷ z ∷ ys) h = absurd (omega arith)
 
 -- ---- the first fault of two lists of rows
 pub fault-left : (rs bs : List Row) → ¬ (firstFault rs .0 ≡ 0) → firstFault (rs ++ bs) ≡ firstFault rs

@@ -3,7 +3,7 @@
 use Prim.Native.Nat.{_+_, suc, zero, ℕ}
 use mathlib.Core.Bool.{Bool, _||_, cond}
 use mathlib.Core.List.{List, [], _∷_}
-use lib.Dec.{leb}
+use lib.Dec.{leb, ltb}
 use lib.ListN.{getD}
 
 -- a test, and the number and the place that are returned where it holds
@@ -22,6 +22,17 @@ Refusal = ℕ × ℕ
 abbrev pub firstFault : List Row → Refusal
 firstFault [] = (0, 0)
 firstFault (r ∷ rs) = cond (r .test) (r .code, r .place) (firstFault rs)
+
+-- refusal 2: a table is shorter than it must be. Each table by its length and its least length
+abbrev pub shortRows : List (ℕ × ℕ) → List Row
+shortRows [] = []
+shortRows (t ∷ ts) = row (ltb (t .0) (t .1)) 2 0 ∷ shortRows ts
+
+-- numbers two by two
+abbrev pub byTwo : List ℕ → List (ℕ × ℕ)
+byTwo [] = []
+byTwo (a ∷ []) = []
+byTwo (a ∷ b ∷ xs) = (a, b) ∷ byTwo xs
 
 -- the first number from i on, of k, that passes; i + k where none does
 abbrev pub seek : (ℕ → Bool) → ℕ → ℕ → ℕ

@@ -1,8 +1,8 @@
-// The sizes of a replay or a contraction, with their limits and their check; and what refusals share: a fault with its place, the search for a bad end.
+// The sizes of a replay or a contraction, with their limits and their check; and what refusals share: a fault with its place, the lengths of tables, the search for a bad end.
 ghost use mathlib.Core.Path.{_≡_};
 ghost use Prim.Native.Nat.{_≤_};
 ghost use lib.ListN.{length};
-ghost use Rattle.call_sizes.specs.Refusal.{badEnds, firstFault, seek};
+ghost use Rattle.call_sizes.specs.Refusal.{badEnds, byTwo, firstFault, seek, shortRows};
 ghost use Rattle.call_sizes.specs.Sizes.{sizesOutcome, checkSizes, sizeFaults};
 
 // The sizes of a replay (n junctions, m segments, t events) or of a contraction (n nodes, m edges, k active entries), within the limits.
@@ -71,6 +71,21 @@ pub fn size_fault(n: usize, m: usize, t: usize, k: usize) -> Fault
             place: place,
         },
     }
+}
+
+// Internal: refusal 2, as a fault. Of each table two numbers: its length, and the least that it must have.
+pub fn length_fault(tables: &[usize]) -> Fault
+    ensures { λ r. ⌜ (r .code, r .place) ≡ firstFault (shortRows (byTwo (now (tables .entry)))) ⌝ }
+{
+    let mut i: usize = 0;
+    // The first i tables are long enough.
+    while i < tables.len() / 2 {
+        if tables[2 * i] < tables[2 * i + 1] {
+            return Fault { code: 2, place: 0 };
+        }
+        i += 1;
+    }
+    Fault { code: 0, place: 0 }
 }
 
 // Internal: refusal 4: the first segment or edge with an end not below n, or m.

@@ -8,8 +8,9 @@ use lib.Dec.{leb, ltb}
 use lib.ListN.{getD, length}
 use native.Mathlib.Omega.{arith}
 use borrow.Author.Tests.{le-ltb, leb-false, lt-ltb, ltb-false}
-use Rattle.theory_contraction.specs.Contraction.{Lent, badEntry, fault, faults, required, shortTables}
-use Rattle.call_sizes.proofs.RefusalLaws.{Numbered, fault-silent, numbered-append, seek-none, silent-fault, silent-left, silent-right, fault-left, fault-right, sizes-numbered}
+use Rattle.theory_contraction.specs.Contraction.{Lent, badEntry, fault, faults, required, shortTables, tableLengths}
+use Rattle.call_sizes.proofs.RefusalLaws.{accepted-long, fault-silent, numbered-append, short-numbered, seek-none, silent-fault}
+use Rattle.call_sizes.proofs.RefusalLaws.{silent-left, silent-right, fault-left, fault-right, sizes-numbered}
 use Rattle.call_sizes.specs.Refusal.{Refusal, Row, firstFault, row, seek, badEnds}
 use Rattle.call_sizes.specs.Sizes.{sizeFaults}
 
@@ -30,7 +31,7 @@ pub record Within (n m k : ℕ) : Type 0 where
   pub entries : k ≤ 8192
 
 -- what the check of the lengths leaves
-pub record Long (l : Lent) : Type 0 where
+pub record LongTables (l : Lent) : Type 0 where
   pub from-length : l .m ≤ length (l .from)
   pub to-length : l .m ≤ length (l .to)
   pub active-length : l .k ≤ length (l .active)
@@ -42,30 +43,19 @@ pub record Long (l : Lent) : Type 0 where
 -- what holds where nothing is refused
 pub record Sound (l : Lent) : Type 0 where
   pub within : Within (l .n) (l .m) (l .k)
-  pub long : Long l
+  pub long : LongTables l
   pub ends : (s : ℕ) → s < l .m → (getD (l .from) s 0 < l .n) × (getD (l .to) s 0 < l .n)
   pub entries : (i : ℕ) → i < l .k → getD (l .active) i 0 < l .n
-
-length-numbers : (l : Lent) → Numbered (shortTables l)
-length-numbers l = ((λ e. omega arith), ((λ e. omega arith), ((λ e. omega arith), ((λ e. omega arith), ((λ e. omega arith), ((λ e. omega arith), ((λ e. omega arith), tt)))))))
 
 pub sizes-within : {n m k c p : ℕ} → (c, p) ≡ firstFault (sizeFaults n m 0 k) → c ≡ 0 → Within n m k
 sizes-within {n} {m} {k} e z =
     let s = fault-silent (sizeFaults n m 0 k) (sizes-numbered n m 0 k) (sym (ap (λ (f : Refusal). f .0) e) ∙ z) in
     record { nodes = ltb-false 4096 n (s .0); edges = ltb-false 8192 m (s .1 .0); entries = ltb-false 8192 k (s .1 .1 .1 .0) }
 
-pub lengths-long : (l : Lent) {c p : ℕ} → (c, p) ≡ firstFault (shortTables l) → c ≡ 0 → Long l
+pub lengths-long : (l : Lent) {c p : ℕ} → (c, p) ≡ firstFault (shortTables l) → c ≡ 0 → LongTables l
 lengths-long l e z =
-    let s = fault-silent (shortTables l) (length-numbers l) (sym (ap (λ (f : Refusal). f .0) e) ∙ z) in
-    record {
-      from-length = ltb-false (length (l .from)) (l .m) (s .0);
-      to-length = ltb-false (length (l .to)) (l .m) (s .1 .0);
-      active-length = ltb-false (length (l .active)) (l .k) (s .1 .1 .0);
-      map-length = ltb-false (length (l .map)) (l .k) (s .1 .1 .1 .0);
-      out-from-length = ltb-false (length (l .outFrom)) (2 * l .k) (s .1 .1 .1 .1 .0);
-      out-to-length = ltb-false (length (l .outTo)) (2 * l .k) (s .1 .1 .1 .1 .1 .0);
-      work-length = ltb-false (length (l .work)) (required (l .n) (l .m)) (s .1 .1 .1 .1 .1 .1 .0);
-    }
+    let (from, (to, (active, (map, (outFrom, (outTo, (work, _))))))) = accepted-long (tableLengths l) (sym (ap (λ (f : Refusal). f .0) e) ∙ z) in
+    record { from-length = from; to-length = to; active-length = active; map-length = map; out-from-length = outFrom; out-to-length = outTo; work-length = work }
 
 module _ (l : Lent) where
   abbrev edgeAt : ℕ
@@ -91,7 +81,7 @@ module _ (l : Lent) where
 
     module _ {b q : ℕ} (f : (b, q) ≡ firstFault (shortTables l)) (y : b ≡ 0) where
       last : fault l ≡ firstFault placed
-      last = rest ∙ fault-right (shortTables l) placed (length-numbers l) (sym (ap (λ (f : Refusal). f .0) f) ∙ y)
+      last = rest ∙ fault-right (shortTables l) placed (short-numbered (tableLengths l)) (sym (ap (λ (f : Refusal). f .0) f) ∙ y)
 
       pub edge-refused : (x : ℕ) → x ≡ edgeAt → x < l .m → (4, x) ≡ fault l
       edge-refused x q i = sym (last ∙ rw (← q, lt-ltb x (l .m) i) refl)
@@ -107,7 +97,8 @@ module _ (l : Lent) where
   unfolding fault faults
   sound z =
       let sizes = sizeFaults (l .n) (l .m) 0 (l .k) in
-      let numbers = numbered-append sizes (shortTables l ++ placed) (sizes-numbered (l .n) (l .m) 0 (l .k)) (numbered-append (shortTables l) placed (length-numbers l) ((λ e. omega arith), ((λ e. omega arith), tt))) in
+      let numbers = numbered-append sizes (shortTables l ++ placed) (sizes-numbered (l .n) (l .m) 0 (l .k))
+      (numbered-append (shortTables l) placed (short-numbered (tableLengths l)) ((λ e. omega arith), ((λ e. omega arith), tt))) in
       let s = fault-silent (sizes ++ shortTables l ++ placed) numbers z in
       let t = silent-right sizes (shortTables l ++ placed) s in
       let u = silent-right (shortTables l) placed t in

@@ -28,30 +28,26 @@ fn length_fault(
     work: &[u32],
 ) -> Fault
     requires { ⌜ (n ≤ 4096) × (m ≤ 8192) × (k ≤ 8192) ⌝ }
-    ensures { λ r. ⌜ (r .code, r .place) ≡ firstFault (shortTables (lent n m k (now (from .entry)) (now (to .entry)) (now (active .entry)) (now (map .entry)) (now («out_from» .entry)) (now («out_to» .entry)) (now (work .entry)))) ⌝ }
+    ensures { λ r. ⌜ (r .code, r .place) ≡ firstFault (shortTables (lent n m k (now (from .entry)) (now (to .entry)) (now (active .entry))
+        (now (map .entry)) (now («out_from» .entry)) (now («out_to» .entry)) (now (work .entry)))) ⌝ }
 {
-    if from.len() < m {
-        return Fault { code: 2, place: 0 };
-    }
-    if to.len() < m {
-        return Fault { code: 2, place: 0 };
-    }
-    if active.len() < k {
-        return Fault { code: 2, place: 0 };
-    }
-    if map.len() < k {
-        return Fault { code: 2, place: 0 };
-    }
-    if out_from.len() < 2 * k {
-        return Fault { code: 2, place: 0 };
-    }
-    if out_to.len() < 2 * k {
-        return Fault { code: 2, place: 0 };
-    }
-    if work.len() < required(n, m) {
-        return Fault { code: 2, place: 0 };
-    }
-    Fault { code: 0, place: 0 }
+    let tables = [
+        from.len(),
+        m,
+        to.len(),
+        m,
+        active.len(),
+        k,
+        map.len(),
+        k,
+        out_from.len(),
+        2 * k,
+        out_to.len(),
+        2 * k,
+        work.len(),
+        required(n, m),
+    ];
+    call_sizes::length_fault(&tables)
 }
 
 // The first active entry not below n, or k.
@@ -82,7 +78,8 @@ pub fn first_fault(
     out_to: &[u16],
     work: &[u32],
 ) -> Fault
-    ensures { λ r. ⌜ (r .code, r .place) ≡ fault (lent n m k (now (from .entry)) (now (to .entry)) (now (active .entry)) (now (map .entry)) (now («out_from» .entry)) (now («out_to» .entry)) (now (work .entry))) ⌝ }
+    ensures { λ r. ⌜ (r .code, r .place) ≡ fault (lent n m k (now (from .entry)) (now (to .entry)) (now (active .entry))
+        (now (map .entry)) (now («out_from» .entry)) (now («out_to» .entry)) (now (work .entry))) ⌝ }
 {
     let sizes = call_sizes::size_fault(n, m, 0, k);
     if sizes.code != 0 {

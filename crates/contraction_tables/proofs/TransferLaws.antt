@@ -12,10 +12,10 @@ use Rattle.contraction_tables.specs.Transfer.{Edges, Entries, Loadable, 
 use Rattle.theory_graph.proofs.Booleans.{onBool}
 use Rattle.core_loading.proofs.LoadingLaws.{entered-most, entered-none}
 use Rattle.core_loading.specs.Loading.{Cleared, Entering, PutEdge}
-use Rattle.core_words.specs.Fields.{half, node}
+use Rattle.core_words.specs.Fields.{ACTIVE, MARK, TO, half, node}
 
-pub entries-none : {n : ℕ} (w : List ℕ) → ((v : ℕ) → v < n → node 0 w v ≡ 0) → Entries n [] w w 0
-entries-none w z = record { same = refl; past = λ i k. refl; entered = entered-none (node 0 w) (node 1 w) z }
+pub entries-none : {n : ℕ} (w : List ℕ) → ((v : ℕ) → v < n → node MARK w v ≡ 0) → Entries n [] w w 0
+entries-none w z = record { same = refl; past = λ i k. refl; entered = entered-none (node MARK w) (node ACTIVE w) z }
 
 pub entries-more : {n d v r : ℕ} {S T : List ℕ} {a b c : List ℕ} → T ≡ S ++ (v ∷ []) → Entries n S a b d → Entering n d v b c r → Entries n T a c r
 entries-more {S = S} e g h = record {
@@ -48,18 +48,18 @@ module _ {n m k : ℕ} {from to active w₀ w₁ : List ℕ} (c : Loadable n m k
     less : d ≤ n
     less = entered-most (g .entered)
 
-    act-at : (i : ℕ) → i < d → node 1 w₃ i ≡ node 1 w₂ i
-    act-at i j = l .nodes 1 (omega arith) i (omega (arith, less))
+    act-at : (i : ℕ) → i < d → node ACTIVE w₃ i ≡ node ACTIVE w₂ i
+    act-at i j = l .nodes ACTIVE (omega arith) i (omega (arith, less))
 
-    mark-at : (v : ℕ) → v < n → node 0 w₃ v ≡ node 0 w₂ v
-    mark-at = l .nodes 0 (omega arith)
+    mark-at : (v : ℕ) → v < n → node MARK w₃ v ≡ node MARK w₂ v
+    mark-at = l .nodes MARK (omega arith)
 
-    end-below : (h : ℕ) → h < 2 * m → half n 0 w₃ h < n
+    end-below : (h : ℕ) → h < 2 * m → half n TO w₃ h < n
     end-below h i = onBool (eqb (h % 2) 0)
         (λ q. let e : 2 * (h / 2) ≡ h = omega (arith, eqb-true (h % 2) 0 q) in
-        subst (λ (u : ℕ). half n 0 w₃ u < n) e (rw (l .ends (h / 2) (omega arith) .0) (c .ends (h / 2) (omega arith) .0)))
+        subst (λ (u : ℕ). half n TO w₃ u < n) e (rw (l .ends (h / 2) (omega arith) .0) (c .ends (h / 2) (omega arith) .0)))
         (λ q. let ne : ¬ (h % 2 ≡ 0) = eqb-false (h % 2) 0 q in let e : 2 * (h / 2) + 1 ≡ h = omega arith in
-        subst (λ (u : ℕ). half n 0 w₃ u < n) e (rw (l .ends (h / 2) (omega arith) .1) (c .ends (h / 2) (omega arith) .1)))
+        subst (λ (u : ℕ). half n TO w₃ u < n) e (rw (l .ends (h / 2) (omega arith) .1) (c .ends (h / 2) (omega arith) .1)))
 
     pub prepared : Prepared n m k from to active w₀ w₃ d
     prepared = record {
@@ -72,12 +72,12 @@ module _ {n m k : ℕ} {from to active w₀ w₁ : List ℕ} (c : Loadable n m k
         less = less;
         ends = end-below;
         active = λ i j. rw (act-at i j) (g .entered .below i j);
-        marked = λ i j. ap (node 0 w₃) (act-at i j) ∙ mark-at (node 1 w₂ i) (g .entered .below i j) ∙ g .entered .marked i j;
+        marked = λ i j. ap (node MARK w₃) (act-at i j) ∙ mark-at (node ACTIVE w₂ i) (g .entered .below i j) ∙ g .entered .marked i j;
         marks = λ v i p.
             let (j, b, e) = g .entered .marks v i (rw (mark-at v i) at p) in
             (j, b, act-at j b ∙ e);
       };
-      edges = table-equal (λ e. (half n 0 w₃ (2 * e), half n 0 w₃ (2 * e + 1))) (λ e. (getD from e 0, getD to e 0)) 0 m
+      edges = table-equal (λ e. (half n TO w₃ (2 * e), half n TO w₃ (2 * e + 1))) (λ e. (getD from e 0, getD to e 0)) 0 m
           (λ e a b. let q = l .ends e (omega arith) in ap₂ (λ (x y : ℕ). (x, y)) (q .0) (q .1)) ∙ sym (pairs-table m from to (c .from-length) (c .to-length));
-      actives = table-equal (node 1 w₃) (node 1 w₂) 0 d (λ i a b. act-at i (omega arith)) ∙ g .entered .active;
+      actives = table-equal (node ACTIVE w₃) (node ACTIVE w₂) 0 d (λ i a b. act-at i (omega arith)) ∙ g .entered .active;
     }

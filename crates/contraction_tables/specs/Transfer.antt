@@ -8,20 +8,20 @@ use lib.ListN.{getD, length, take}
 use Rattle.core_reduce.specs.Core.{Loaded, activeIn, edgesIn}
 use Rattle.theory_graph.specs.Lists.{firsts, pairs}
 use Rattle.core_loading.specs.Loading.{Entered, Past}
-use Rattle.core_words.specs.Fields.{half, node}
+use Rattle.core_words.specs.Fields.{ACTIVE, MARK, TO, half, node}
 
 -- from a to b all of S are entered
 pub record Entries (n : ℕ) (S : List ℕ) (a b : List ℕ) (d : ℕ) : Type 0 where
   pub same : length b ≡ length a
   pub past : Past (16 * n) a b
-  pub entered : Entered n S d (node 0 b) (node 1 b)
+  pub entered : Entered n S d (node MARK b) (node ACTIVE b)
 
 -- from a to b the ends of the first s of m edges are stored
 pub record Edges (n m : ℕ) (from to a b : List ℕ) (s : ℕ) : Type 0 where
   pub same : length b ≡ length a
   pub past : Past (16 * n + 4 * m) a b
   pub nodes : (j : ℕ) → j < 16 → (v : ℕ) → v < n → node j b v ≡ node j a v
-  pub ends : (e : ℕ) → e < s → (half n 0 b (2 * e) ≡ getD from e 0) × (half n 0 b (2 * e + 1) ≡ getD to e 0)
+  pub ends : (e : ℕ) → e < s → (half n TO b (2 * e) ≡ getD from e 0) × (half n TO b (2 * e + 1) ≡ getD to e 0)
 
 -- what can be loaded
 pub record Loadable (n m k : ℕ) (from to active w : List ℕ) : Type 0 where

@@ -1,14 +1,16 @@
 // The lent 16-bit tables put into the words that the contraction takes, and its result read back into them.
+use core_words::*;
 ghost use mathlib.Core.Path.{_≡_};
 ghost use Prim.Native.Nat.{ℕ, _+_, _*_, _<_, _≤_};
 ghost use lib.ListN.{length, getD, take};
-ghost use Rattle.core_words.specs.Fields.{node};
+ghost use Rattle.core_words.specs.Fields.{MAPPED, MARK, node};
 ghost use Rattle.contraction_tables.specs.Transfer.{Entries, Edges, Loadable, Prepared};
 ghost use Rattle.theory_graph.specs.Lists.{table, over};
 
 // Enters the first k active entries; the count of different active nodes.
 fn enter_active(work: &mut [u32], n: usize, k: usize, active: &[u16]) -> usize
-    requires { ⌜ (n ≤ 65536) × (16 * n ≤ length (now work)) × (k ≤ length (now active)) × ((i : ℕ) → i < k → getD (now active) i 0 < n) × ((v : ℕ) → v < n → node 0 (now work) v ≡ 0) ⌝ }
+    requires { ⌜ (n ≤ 65536) × (16 * n ≤ length (now work)) × (k ≤ length (now active))
+        × ((i : ℕ) → i < k → getD (now active) i 0 < n) × ((v : ℕ) → v < n → node MARK (now work) v ≡ 0) ⌝ }
     ensures { λ r. ⌜ Entries n (take k (now (active .entry))) (now (work .entry)) (now (work .exit)) r ⌝ }
 {
     let mut d: usize = 0;
@@ -19,8 +21,8 @@ fn enter_active(work: &mut [u32], n: usize, k: usize, active: &[u16]) -> usize
     d
 }
 
-// Loads the ends of the first m edges.
-fn load_edges(work: &mut [u32], n: usize, m: usize, from: &[u16], to: &[u16])
+// Puts the first m edges into the half-edges.
+fn put_edges(work: &mut [u32], n: usize, m: usize, from: &[u16], to: &[u16])
     requires { ⌜ (n ≤ 65536) × (m ≤ 32768) × (16 * n + 4 * m ≤ length (now work)) × (m ≤ length (now from)) × (m ≤ length (now to)) ⌝ }
     ensures { λ _. ⌜ Edges n m (now (from .entry)) (now (to .entry)) (now (work .entry)) (now (work .exit)) m ⌝ }
 {
@@ -31,7 +33,7 @@ fn load_edges(work: &mut [u32], n: usize, m: usize, from: &[u16], to: &[u16])
     }
 }
 
-// Internal: loads the graph; the count of different active nodes.
+// Internal: loads the graph into the words that the contraction takes; the count of different active nodes.
 pub fn load(
     work: &mut [u32],
     n: usize,
@@ -46,17 +48,18 @@ pub fn load(
 {
     core_loading::clear_marks(work, n);
     let d = enter_active(work, n, k, active);
-    load_edges(work, n, m, from, to);
+    put_edges(work, n, m, from, to);
     d
 }
 
 // Internal: the new numbers of the first k active entries.
 pub fn fill_map(work: &[u32], n: usize, k: usize, active: &[u16], map: &mut [u16])
-    requires { ⌜ (16 * n ≤ length (now work)) × (k ≤ length (now active)) × (k ≤ length (now map)) × ((i : ℕ) → i < k → (getD (now active) i 0 < n) × (node 0 (now work) (getD (now active) i 0) < 65536)) ⌝ }
-    ensures { λ _. ⌜ now (map .exit) ≡ over (table (λ i. node 0 (now (work .entry)) (getD (now (active .entry)) i 0)) 0 k) (now (map .entry)) ⌝ }
+    requires { ⌜ (16 * n ≤ length (now work)) × (k ≤ length (now active)) × (k ≤ length (now map))
+        × ((i : ℕ) → i < k → (getD (now active) i 0 < n) × (node MAPPED (now work) (getD (now active) i 0) < 65536)) ⌝ }
+    ensures { λ _. ⌜ now (map .exit) ≡ over (table (λ i. node MAPPED (now (work .entry)) (getD (now (active .entry)) i 0)) 0 k) (now (map .entry)) ⌝ }
 {
     for i in 0..k {
-        let x = core_words::get(work, active[i] as usize, 0);
+        let x = core_words::get(work, active[i] as usize, MAPPED);
         map[i] = x as u16;
     }
 }

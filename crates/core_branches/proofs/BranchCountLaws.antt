@@ -13,7 +13,7 @@ use Rattle.theory_graph.specs.Lists.{member}
 use Rattle.theory_graph.proofs.Booleans.{onBool}
 use Rattle.core_words.proofs.ChangeLaws.{only-none, only-put, only-then, only-then-put}
 use Rattle.core_words.proofs.FieldLaws.{update-at, update-other, update-same}
-use Rattle.core_words.specs.Fields.{Put, node, update}
+use Rattle.core_words.specs.Fields.{BRANCH, EDGE, LIVE, ORDER, OTHER, PARENT, POSITION, TOP, Put, node, update}
 
 module _ {n seen : ℕ} {ord pos par te top live₀ live child other : ℕ → ℕ} (i : ℕ) {v : ℕ} (g : TreeOrder n seen ord pos par te top)
     (w : Branches n pos par te top live₀ live child other (i + 1)) (fit : v < n) (at : pos v ≡ i + 1) where
@@ -65,7 +65,8 @@ module _ {n seen : ℕ} {ord pos par te top live₀ live child other : ℕ → �
       one = update-at (λ t y. t < n → (y ≡ 0 → ⊥) → Child n pos par te top t (y - 1) × (i < pos (y - 1)) × (update live (top (par v)) (live v) (y - 1) ≡ 0 → ⊥)) child (top (par v)) (v + 1)
           (λ l a. let e : v + 1 - 1 ≡ v = omega arith in rw e (child-v, omega arith, more v alive))
           (λ t _ l a. let k = w .one t l a in (k .0, omega (arith, k .1), more (child t - 1) (k .2)));
-      two = update-at (λ t y. t < n → (y ≡ 0 → ⊥) → Child n pos par te top t (y - 1) × (i < pos (y - 1)) × (update live (top (par v)) (live v) (y - 1) ≡ 0 → ⊥) × (y ≡ update child (top (par v)) (v + 1) t → ⊥) × (update child (top (par v)) (v + 1) t ≡ 0 → ⊥)) other (top (par v)) (child (top (par v)))
+      two = update-at (λ t y. t < n → (y ≡ 0 → ⊥) → Child n pos par te top t (y - 1) × (i < pos (y - 1)) × (update live (top (par v)) (live v) (y - 1) ≡ 0 → ⊥)
+          × (y ≡ update child (top (par v)) (v + 1) t → ⊥) × (update child (top (par v)) (v + 1) t ≡ 0 → ⊥)) other (top (par v)) (child (top (par v)))
           (λ l a.
           let k = w .one (top (par v)) l a in
           rw (update-same child (top (par v)) (v + 1)) (
@@ -98,17 +99,18 @@ module _ {n seen : ℕ} {ord pos par te top live₀ live child other : ℕ → �
           ));
     }
 
-module _ {n v q p : ℕ} {a : List ℕ} (g : CanReport n a v) (ep : p ≡ node 5 a v) (eq : q ≡ node 6 a p) where
+module _ {n v q p : ℕ} {a : List ℕ} (g : CanReport n a v) (ep : p ≡ node PARENT a v) (eq : q ≡ node TOP a p) where
   pub p-fits : p < n
   p-fits = rw ep (g .par-fit)
 
-  q-is : node 6 a (node 5 a v) ≡ q
-  q-is = sym (eq ∙ ap (node 6 a) ep)
+  q-is : node TOP a (node PARENT a v) ≡ q
+  q-is = sym (eq ∙ ap (node TOP a) ep)
 
   pub q-fits : q < n
   q-fits = rw (← q-is) (g .top-fit)
 
-  pub reported : {t e l old : ℕ} {b c d : List ℕ} → t ≡ node 6 a v → (t ≡ v) → e ≡ node 13 a v → (e ≡ 0 → ⊥) → l ≡ node 7 a v → (l ≡ 0 → ⊥) → old ≡ node 8 a q → Put 7 q l a b → Put 9 q old b c → Put 8 q (v + 1) c d
+  pub reported : {t e l old : ℕ} {b c d : List ℕ} → t ≡ node TOP a v → (t ≡ v) → e ≡ node EDGE a v → (e ≡ 0 → ⊥) → l ≡ node LIVE a v → (l ≡ 0 → ⊥)
+      → old ≡ node BRANCH a q → Put LIVE q l a b → Put OTHER q old b c → Put BRANCH q (v + 1) c d
       → Report n v a d
   reported {l = l} {old} et tv ee ne el nl eo p7 p9 p8 = inr (rw q-is (record {
     is = q-is;
@@ -116,9 +118,9 @@ module _ {n v q p : ℕ} {a : List ℕ} (g : CanReport n a v) (ep : p ≡ node 5
     has-edge = λ z. ne (ee ∙ z);
     live = λ z. nl (el ∙ z);
     rest = only-then-put refl q-fits (only-then-put refl q-fits (only-put refl q-fits p7) p9) p8;
-    lives = p8 .else 7 (omega arith) (λ e. omega arith) ∙ p9 .else 7 (omega arith) (λ e. omega arith) ∙ p7 .here ∙ ap (update (node 7 a) q) el;
-    children = p8 .here ∙ ap (λ f. update f q (v + 1)) (p9 .else 8 (omega arith) (λ e. omega arith) ∙ p7 .else 8 (omega arith) (λ e. omega arith));
-    others = p8 .else 9 (omega arith) (λ e. omega arith) ∙ p9 .here ∙ ap (λ f. update f q old) (p7 .else 9 (omega arith) (λ e. omega arith)) ∙ ap (update (node 9 a) q) eo;
+    lives = p8 .else LIVE (omega arith) (λ e. omega arith) ∙ p9 .else LIVE (omega arith) (λ e. omega arith) ∙ p7 .here ∙ ap (update (node LIVE a) q) el;
+    children = p8 .here ∙ ap (λ f. update f q (v + 1)) (p9 .else BRANCH (omega arith) (λ e. omega arith) ∙ p7 .else BRANCH (omega arith) (λ e. omega arith));
+    others = p8 .else OTHER (omega arith) (λ e. omega arith) ∙ p9 .here ∙ ap (λ f. update f q old) (p7 .else OTHER (omega arith) (λ e. omega arith)) ∙ ap (update (node OTHER a) q) eo;
   }))
 
 pub counting-none : {n seen : ℕ} {w : List ℕ} → CanCount n seen w → Counting n seen w seen w
@@ -133,32 +135,32 @@ counting-none {n} {seen} {w} g = record {
   };
 }
 
-module _ {n seen v : ℕ} (i : ℕ) {a w : List ℕ} (g : CanCount n seen a) (h : Counting n seen a (i + 1) w) (l : i < seen) (ev : v ≡ node 3 w i) where
-  at-j : (j : ℕ) → j < 16 → member (7 ∷ 8 ∷ 9 ∷ []) j ≡ false → node j w ≡ node j a
+module _ {n seen v : ℕ} (i : ℕ) {a w : List ℕ} (g : CanCount n seen a) (h : Counting n seen a (i + 1) w) (l : i < seen) (ev : v ≡ node ORDER w i) where
+  at-j : (j : ℕ) → j < 16 → member (LIVE ∷ BRANCH ∷ OTHER ∷ []) j ≡ false → node j w ≡ node j a
   at-j = h .rest .nodes
 
   v-fits : v < n
-  v-fits = rw (ev, at-j 3 (omega arith) refl) (g .tree .place i l .0)
+  v-fits = rw (ev, at-j ORDER (omega arith) refl) (g .tree .place i l .0)
 
-  v-at : node 4 a v ≡ i + 1
-  v-at = rw (ev, at-j 3 (omega arith) refl) (g .tree .place i l .1)
+  v-at : node POSITION a v ≡ i + 1
+  v-at = rw (ev, at-j ORDER (omega arith) refl) (g .tree .place i l .1)
 
   pub counting-can : CanReport n w v
   counting-can = record {
     few = g .few;
     room = rw (h .rest .same) (g .room);
     fit = v-fits;
-    par-fit = rw (at-j 5 (omega arith) refl) (g .tree .par-fit v v-fits (omega (arith, v-at)));
-    top-fit = rw (at-j 5 (omega arith) refl, at-j 6 (omega arith) refl) (g .tree .top-fit (node 5 a v) (g .tree .par-fit v v-fits (omega (arith, v-at))));
+    par-fit = rw (at-j PARENT (omega arith) refl) (g .tree .par-fit v v-fits (omega (arith, v-at)));
+    top-fit = rw (at-j PARENT (omega arith) refl, at-j TOP (omega arith) refl) (g .tree .top-fit (node PARENT a v) (g .tree .par-fit v v-fits (omega (arith, v-at))));
   }
 
   pub counting-more : {w′ : List ℕ} → Report n v w w′ → Counting n seen a i w′
   counting-more {w′} = ⊎-elim
-      (λ s. rw (s .0) (record { rest = h .rest; branches = count-skip i (g .tree) (h .branches) v-fits v-at (rw (at-j 6 (omega arith) refl, at-j 13 (omega arith) refl) at (s .1)) }))
+      (λ s. rw (s .0) (record { rest = h .rest; branches = count-skip i (g .tree) (h .branches) v-fits v-at (rw (at-j TOP (omega arith) refl, at-j EDGE (omega arith) refl) at (s .1)) }))
       (λ s.
-      let e5 = at-j 5 (omega arith) refl in
-      let e6 = at-j 6 (omega arith) refl in
-      let m = count-reported i (g .tree) (h .branches) v-fits v-at (rw e6 at (s .top)) (rw (at-j 13 (omega arith) refl) at (s .has-edge)) (s .live) in
+      let e5 = at-j PARENT (omega arith) refl in
+      let e6 = at-j TOP (omega arith) refl in
+      let m = count-reported i (g .tree) (h .branches) v-fits v-at (rw e6 at (s .top)) (rw (at-j EDGE (omega arith) refl) at (s .has-edge)) (s .live) in
       record { rest = only-then (h .rest) (s .rest); branches = rw (s .lives, s .children, s .others, e5, e6) m })
 
 pub counting-down : {n seen i : ℕ} {a w : List ℕ} → (i ≡ 0 → ⊥) → Counting n seen a i w → Counting n seen a (i - 1 + 1) w

@@ -11,13 +11,14 @@ use borrow.Author.Tests.{eqb-false, eqb-true, ltb-false, ltb-true}
 use Rattle.core_branches.proofs.SmallForestOf.{small-canonical, small-forest}
 use Rattle.core_branches.specs.BranchCounts.{Branches, CanCount, Counting, TreeOrderAt}
 use Rattle.core_branches.specs.Classes.{CanNumberClasses, ClassNumbers, classFields}
-use Rattle.core_branches.specs.Numbers.{CanFindNearest, CanNumberActives, CanNumberOthers, CanSetParents, NearestLoop, NearestNumbers, NumberingActives, NumberingOthers, OtherNumbers, ParentLoop, ParentNumbers}
+use Rattle.core_branches.specs.Numbers.{CanFindNearest, CanNumberActives, CanNumberOthers, CanSetParents, NearestLoop, NearestNumbers}
+use Rattle.core_branches.specs.Numbers.{NumberingActives, NumberingOthers, OtherNumbers, ParentLoop, ParentNumbers}
 use Rattle.core_forest.proofs.Counting.{count-le}
 use Rattle.core_forest.proofs.SearchLaws.{seen-less}
 use Rattle.theory_graph.proofs.Booleans.{onBool}
 use Rattle.core_words.proofs.ChangeLaws.{only-more, only-then}
 use Rattle.core_words.specs.Changes.{OnlyFields}
-use Rattle.core_words.specs.Fields.{node}
+use Rattle.core_words.specs.Fields.{ABOVE, ACTIVE, BRANCH, EDGE, LIVE, MEMBER, NEAREST, NUMBER, ORDER, OTHER, PARENT, POSITION, TOP, node}
 
 module _ {n m k seen : ℕ} {w₀ : List ℕ} (s : CanNumberClasses n m k seen w₀) where
   pub few : n ≤ 65536
@@ -26,7 +27,7 @@ module _ {n m k seen : ℕ} {w₀ : List ℕ} (s : CanNumberClasses n m k seen w
   pub room : 16 * n ≤ length w₀
   room = omega (arith, s .search .lists .room)
 
-  par-fit : (u : ℕ) → u < n → 0 < node 4 w₀ u → node 5 w₀ u < n
+  par-fit : (u : ℕ) → u < n → 0 < node POSITION w₀ u → node PARENT w₀ u < n
   par-fit u l p = ⊎-elim (λ r. rw (r .self) l) (λ h. h .fit) (s .forest .kind u l p)
 
   tree-order : TreeOrderAt n seen w₀
@@ -36,14 +37,21 @@ module _ {n m k seen : ℕ} {w₀ : List ℕ} (s : CanNumberClasses n m k seen w
     place-of = s .search .search .place-of;
     par-fit = par-fit;
     top-fit = s .final .tops .fit;
-    up = λ u l p ne. ⊎-elim (λ r. absurd (ne (r .none))) (λ h. over (node 5 w₀ u) u (h .fit) (h .up)) (s .forest .kind u l p);
+    up = λ u l p ne. ⊎-elim (λ r. absurd (ne (r .none))) (λ h. over (node PARENT w₀ u) u (h .fit) (h .up)) (s .forest .kind u l p);
   }
     where
-      over : (v u : ℕ) → v < n → node 4 w₀ v < node 4 w₀ u → node 4 w₀ (node 6 w₀ v) < node 4 w₀ u
-      over v u l q = onBool (eqb (node 6 w₀ v) v) (λ e. omega (arith, ap (node 4 w₀) (eqb-true (node 6 w₀ v) v e))) (λ e. omega (arith, s .final .tops .up v l (eqb-false (node 6 w₀ v) v e)))
+      over : (v u : ℕ) → v < n → node POSITION w₀ v < node POSITION w₀ u → node POSITION w₀ (node TOP w₀ v) < node POSITION w₀ u
+      over v u l q = onBool (eqb (node TOP w₀ v) v) (λ e. omega (arith, ap (node POSITION w₀) (eqb-true (node TOP w₀ v) v e)))
+          (λ e. omega (arith, s .final .tops .up v l (eqb-false (node TOP w₀ v) v e)))
 
   tree-order-at : (w : List ℕ) → OnlyFields classFields n w₀ w → TreeOrderAt n seen w
-  tree-order-at w o = rw (o .nodes 3 (omega arith) refl, o .nodes 4 (omega arith) refl, o .nodes 5 (omega arith) refl, o .nodes 13 (omega arith) refl, o .nodes 6 (omega arith) refl) tree-order
+  tree-order-at w o = rw (
+    o .nodes ORDER (omega arith) refl,
+    o .nodes POSITION (omega arith) refl,
+    o .nodes PARENT (omega arith) refl,
+    o .nodes EDGE (omega arith) refl,
+    o .nodes TOP (omega arith) refl,
+  ) tree-order
 
   pub can-number-actives : CanNumberActives n k w₀
   can-number-actives = record {
@@ -57,28 +65,28 @@ module _ {n m k seen : ℕ} {w₀ : List ℕ} (s : CanNumberClasses n m k seen w
 
   module _ {g : ℕ} {w₁ : List ℕ} (a : NumberingActives n k w₀ k g w₁) where
     rest₁ : OnlyFields classFields n w₀ w₁
-    rest₁ = only-more (7 ∷ 10 ∷ 11 ∷ []) refl (a .rest)
+    rest₁ = only-more (LIVE ∷ NUMBER ∷ MEMBER ∷ []) refl (a .rest)
 
     pub can-count : CanCount n seen w₁
     can-count = record {
       few = few;
       room = rw (a .rest .same) room;
       tree = tree-order-at w₁ rest₁;
-      none = λ t l. (rw (a .rest .nodes 8 (omega arith) refl) (s .none t l .1), rw (a .rest .nodes 9 (omega arith) refl) (s .none t l .2));
+      none = λ t l. (rw (a .rest .nodes BRANCH (omega arith) refl) (s .none t l .1), rw (a .rest .nodes OTHER (omega arith) refl) (s .none t l .2));
     }
 
     module _ {w₂ : List ℕ} (b : Counting n seen w₁ 0 w₂) where
       rest₂ : OnlyFields classFields n w₀ w₂
-      rest₂ = only-then rest₁ (only-more (7 ∷ 8 ∷ 9 ∷ []) refl (b .rest))
+      rest₂ = only-then rest₁ (only-more (LIVE ∷ BRANCH ∷ OTHER ∷ []) refl (b .rest))
 
-      e6 : node 6 w₂ ≡ node 6 w₀
-      e6 = rest₂ .nodes 6 (omega arith) refl
+      e6 : node TOP w₂ ≡ node TOP w₀
+      e6 = rest₂ .nodes TOP (omega arith) refl
 
-      e10 : node 10 w₂ ≡ node 10 w₁
-      e10 = b .rest .nodes 10 (omega arith) refl
+      e10 : node NUMBER w₂ ≡ node NUMBER w₁
+      e10 = b .rest .nodes NUMBER (omega arith) refl
 
-      e11 : node 11 w₂ ≡ node 11 w₁
-      e11 = b .rest .nodes 11 (omega arith) refl
+      e11 : node MEMBER w₂ ≡ node MEMBER w₁
+      e11 = b .rest .nodes MEMBER (omega arith) refl
 
       pub can-number-others : CanNumberOthers n g w₂
       can-number-others = record {
@@ -90,37 +98,37 @@ module _ {n m k seen : ℕ} {w₀ : List ℕ} (s : CanNumberClasses n m k seen w
 
       module _ {h : ℕ} {w₃ : List ℕ} (r : NumberingOthers n g w₂ n h w₃) where
         rest₃ : OnlyFields classFields n w₀ w₃
-        rest₃ = only-then rest₂ (only-more (10 ∷ 11 ∷ []) refl (r .rest))
+        rest₃ = only-then rest₂ (only-more (NUMBER ∷ MEMBER ∷ []) refl (r .rest))
 
-        others : OtherNumbers n g n h (node 4 w₀) (node 6 w₀) (node 9 w₂) (node 10 w₁) (node 10 w₃) (node 11 w₁) (node 11 w₃)
-        others = rw (rest₂ .nodes 4 (omega arith) refl, e6, e10, e11) at (r .others)
+        others : OtherNumbers n g n h (node POSITION w₀) (node TOP w₀) (node OTHER w₂) (node NUMBER w₁) (node NUMBER w₃) (node MEMBER w₁) (node MEMBER w₃)
+        others = rw (rest₂ .nodes POSITION (omega arith) refl, e6, e10, e11) at (r .others)
 
         pub can-nearest : CanFindNearest n seen w₃
         can-nearest = record { few = few; room = rw (rest₃ .same) room; tree = tree-order-at w₃ rest₃ }
 
-        rep-seen : (x : ℕ) → x < h → 0 < node 4 w₀ (node 11 w₃ x)
+        rep-seen : (x : ℕ) → x < h → 0 < node POSITION w₀ (node MEMBER w₃ x)
         rep-seen x l = onBool (ltb x g)
             (λ q.
             let p = ltb-true x g q in
             let (j, i, e) = a .actives .reps x p in
-            subst (λ (v : ℕ). 0 < node 4 w₀ v) (sym (others .old x p ∙ e)) (s .search .have j i))
+            subst (λ (v : ℕ). 0 < node POSITION w₀ v) (sym (others .old x p ∙ e)) (s .search .have j i))
             (λ q. let ne = others .late x (omega (arith, ltb-false x g q)) l .1 in omega arith)
 
         fits : h ≤ n
-        fits = omega (arith, count-le (node 10 w₃) n, others .numbers .count)
+        fits = omega (arith, count-le (node NUMBER w₃) n, others .numbers .count)
 
         module _ {w₄ : List ℕ} (l : NearestLoop n w₃ seen w₄) where
           rest₄ : OnlyFields classFields n w₀ w₄
-          rest₄ = only-then rest₃ (only-more (7 ∷ []) refl (l .rest))
+          rest₄ = only-then rest₃ (only-more (NEAREST ∷ []) refl (l .rest))
 
-          g5 : node 5 w₄ ≡ node 5 w₀
-          g5 = rest₄ .nodes 5 (omega arith) refl
+          g5 : node PARENT w₄ ≡ node PARENT w₀
+          g5 = rest₄ .nodes PARENT (omega arith) refl
 
-          g6 : node 6 w₄ ≡ node 6 w₀
-          g6 = rest₄ .nodes 6 (omega arith) refl
+          g6 : node TOP w₄ ≡ node TOP w₀
+          g6 = rest₄ .nodes TOP (omega arith) refl
 
-          g11 : node 11 w₄ ≡ node 11 w₃
-          g11 = l .rest .nodes 11 (omega arith) refl
+          g11 : node MEMBER w₄ ≡ node MEMBER w₃
+          g11 = l .rest .nodes MEMBER (omega arith) refl
 
           room₄ : 16 * n ≤ length w₄
           room₄ = rw (rest₄ .same) room
@@ -132,8 +140,8 @@ module _ {n m k seen : ℕ} {w₀ : List ℕ} (s : CanNumberClasses n m k seen w
             less = fits;
             each = λ x i.
                 let p = others .numbers .place x i .0 in
-                let q = s .final .tops .fit (node 11 w₃ x) p in
-                let z = par-fit (node 6 w₀ (node 11 w₃ x)) q (s .final .seen (node 11 w₃ x) p (rep-seen x i)) in
+                let q = s .final .tops .fit (node MEMBER w₃ x) p in
+                let z = par-fit (node TOP w₀ (node MEMBER w₃ x)) q (s .final .seen (node MEMBER w₃ x) p (rep-seen x i)) in
                 record {
                   few = few;
                   room = room₄;
@@ -141,33 +149,45 @@ module _ {n m k seen : ℕ} {w₀ : List ℕ} (s : CanNumberClasses n m k seen w
                   rep-fit = rw g11 p;
                   top-fit = rw (g11, g6) q;
                   par-fit = rw (g11, g6, g5) z;
-                  over-fit = rw (g11, g6, g5) (s .final .tops .fit (node 5 w₀ (node 6 w₀ (node 11 w₃ x))) z);
+                  over-fit = rw (g11, g6, g5) (s .final .tops .fit (node PARENT w₀ (node TOP w₀ (node MEMBER w₃ x))) z);
                 };
           }
 
           module _ {w₅ : List ℕ} (u : ParentLoop n w₄ h w₅) where
-            h6 : node 6 w₅ ≡ node 6 w₀
-            h6 = u .rest .nodes 6 (omega arith) refl ∙ g6
+            h6 : node TOP w₅ ≡ node TOP w₀
+            h6 = u .rest .nodes TOP (omega arith) refl ∙ g6
 
-            h10 : node 10 w₅ ≡ node 10 w₃
-            h10 = u .rest .nodes 10 (omega arith) refl ∙ l .rest .nodes 10 (omega arith) refl
+            h10 : node NUMBER w₅ ≡ node NUMBER w₃
+            h10 = u .rest .nodes NUMBER (omega arith) refl ∙ l .rest .nodes NUMBER (omega arith) refl
 
-            h11 : node 11 w₅ ≡ node 11 w₃
-            h11 = u .rest .nodes 11 (omega arith) refl ∙ g11
+            h11 : node MEMBER w₅ ≡ node MEMBER w₃
+            h11 = u .rest .nodes MEMBER (omega arith) refl ∙ g11
 
-            branches : Branches n (node 4 w₀) (node 5 w₀) (node 13 w₀) (node 6 w₀) (node 7 w₁) (node 7 w₂) (node 8 w₂) (node 9 w₂) 0
-            branches = rw (rest₁ .nodes 4 (omega arith) refl, rest₁ .nodes 5 (omega arith) refl, rest₁ .nodes 13 (omega arith) refl, rest₁ .nodes 6 (omega arith) refl) at (b .branches)
+            branches : Branches n (node POSITION w₀) (node PARENT w₀) (node EDGE w₀) (node TOP w₀) (node LIVE w₁) (node LIVE w₂) (node BRANCH w₂) (node OTHER w₂) 0
+            branches = rw (
+              rest₁ .nodes POSITION (omega arith) refl,
+              rest₁ .nodes PARENT (omega arith) refl,
+              rest₁ .nodes EDGE (omega arith) refl,
+              rest₁ .nodes TOP (omega arith) refl,
+            ) at (b .branches)
 
-            nearest : NearestNumbers n seen (node 4 w₀) (node 5 w₀) (node 13 w₀) (node 6 w₀) (node 10 w₃) (node 7 w₄)
-            nearest = rw (rest₃ .nodes 4 (omega arith) refl, rest₃ .nodes 5 (omega arith) refl, rest₃ .nodes 13 (omega arith) refl, rest₃ .nodes 6 (omega arith) refl) at (l .nearest)
+            nearest : NearestNumbers n seen (node POSITION w₀) (node PARENT w₀) (node EDGE w₀) (node TOP w₀) (node NUMBER w₃) (node NEAREST w₄)
+            nearest = rw (
+              rest₃ .nodes POSITION (omega arith) refl,
+              rest₃ .nodes PARENT (omega arith) refl,
+              rest₃ .nodes EDGE (omega arith) refl,
+              rest₃ .nodes TOP (omega arith) refl,
+            ) at (l .nearest)
 
-            parents : ParentNumbers h (node 5 w₀) (node 13 w₀) (node 6 w₀) (node 7 w₄) (node 11 w₃) (node 9 w₅)
-            parents = rw (g5, rest₄ .nodes 13 (omega arith) refl, g6, g11) at (u .parents)
+            parents : ParentNumbers h (node PARENT w₀) (node EDGE w₀) (node TOP w₀) (node NEAREST w₄) (node MEMBER w₃) (node ABOVE w₅)
+            parents = rw (g5, rest₄ .nodes EDGE (omega arith) refl, g6, g11) at (u .parents)
 
             pub class-numbers : ClassNumbers n m k w₀ h w₅
             class-numbers = record {
-              forest = rw (h11, h10, h6) (small-forest (s .forest) (s .final) (s .marks) (s .search .search .marked) (s .search .active) (s .search .have) (λ v i p. s .search .search .place-of v i p .0) (a .actives) branches others nearest parents);
-              canonical = rw (h11, h10, h6) (small-canonical (s .forest) (s .final) (s .marks) (s .search .search .marked) (s .search .active) (s .search .have) (λ v i p. s .search .search .place-of v i p .0) (a .actives) branches others nearest parents);
+              forest = rw (h11, h10, h6) (small-forest (s .forest) (s .final) (s .marks) (s .search .search .marked) (s .search .active) (s .search .have)
+                  (λ v i p. s .search .search .place-of v i p .0) (a .actives) branches others nearest parents);
+              canonical = rw (h11, h10, h6) (small-canonical (s .forest) (s .final) (s .marks) (s .search .search .marked) (s .search .active) (s .search .have)
+                  (λ v i p. s .search .search .place-of v i p .0) (a .actives) branches others nearest parents);
               less = fits;
               placed = λ j i.
                   let p = s .search .active j i .0 in
@@ -175,8 +195,8 @@ module _ {n m k seen : ℕ} {w₀ : List ℕ} (s : CanNumberClasses n m k seen w
                   record {
                     room = rw (u .rest .same) room₄;
                     fit = p;
-                    top-fit = rw h6 (s .final .tops .fit (node 1 w₀ j) p);
-                    some = rw (h10, h6) (λ z. ne (sym (others .still (node 6 w₀ (node 1 w₀ j)) ne) ∙ z));
+                    top-fit = rw h6 (s .final .tops .fit (node ACTIVE w₀ j) p);
+                    some = rw (h10, h6) (λ z. ne (sym (others .still (node TOP w₀ (node ACTIVE w₀ j)) ne) ∙ z));
                   };
-              rest = only-then rest₄ (only-more (9 ∷ []) refl (u .rest));
+              rest = only-then rest₄ (only-more (ABOVE ∷ []) refl (u .rest));
             }

@@ -72,7 +72,8 @@ module _ {n m : ℕ} {to pos par te root t : ℕ → ℕ} (f : Forest n m to pos
   pub seen-closed : cut (isSeen n pos) (edgesBelow to m) ≤ 0
   seen-closed = none-cross (isSeen n pos) to m λ e l.
       onBool (ltb 0 (pos (to (2 * e))))
-      (λ q. let p = ltb-true 0 (pos (to (2 * e))) q in seen-is n pos (to (2 * e)) (f .ends (2 * e) (omega arith)) p ∙ sym (seen-is n pos (to (2 * e + 1)) (f .ends (2 * e + 1) (omega arith)) (f .over e l p .0)))
+      (λ q. let p = ltb-true 0 (pos (to (2 * e))) q in seen-is n pos (to (2 * e)) (f .ends (2 * e) (omega arith)) p
+      ∙ sym (seen-is n pos (to (2 * e + 1)) (f .ends (2 * e + 1) (omega arith)) (f .over e l p .0)))
       (λ q. let p = ltb-false 0 (pos (to (2 * e))) q in seen-not n pos (to (2 * e)) (λ x. omega arith) ∙ sym (seen-not n pos (to (2 * e + 1)) (λ x. omega (arith, f .back e l x))))
 
   pub has-parent : (v : ℕ) → isSeen n pos v ≡ true → isRoot n pos te v ≡ false → HasParent n m to pos par te root v
@@ -124,7 +125,8 @@ module _ {n m : ℕ} {to pos par te root t : ℕ → ℕ} (f : Forest n m to pos
   tree-of v zero u z b l s = absurd (omega arith)
   tree-of v (suc k) u z b l s = ⊎-elim
       (λ r. D-eq (pos u) s (r .self) ∙ ap (λ w. eqb w v) (sym (r .top)))
-      (λ h. descendants-parent f v u l s (λ e. let y : te u ≡ te v = ap te e in omega (arith, h .is)) ∙ tree-of v k (par u) z (omega (arith, h .up)) (h .fit) (h .seen) ∙ ap (λ w. eqb w v) (h .same))
+      (λ h. descendants-parent f v u l s (λ e. let y : te u ≡ te v = ap te e in omega (arith, h .is))
+      ∙ tree-of v k (par u) z (omega (arith, h .up)) (h .fit) (h .seen) ∙ ap (λ w. eqb w v) (h .same))
       (f .kind u l s)
     where
       D-eq : (j : ℕ) → 0 < j → par u ≡ u → ancestorWithin par v j u ≡ eqb u v
@@ -137,10 +139,12 @@ module _ {n m : ℕ} {to pos par te root t : ℕ → ℕ} (f : Forest n m to pos
       (λ q.
       let p = ltb-true 0 (pos (to (2 * e))) q in
       let (p′, same) = f .over e l p in
-      tree-of v (pos (to (2 * e))) (to (2 * e)) z (omega arith) (f .ends (2 * e) (omega arith)) p ∙ ap (λ w. eqb w v) same ∙ sym (tree-of v (pos (to (2 * e + 1))) (to (2 * e + 1)) z (omega arith) (f .ends (2 * e + 1) (omega arith)) p′))
+      tree-of v (pos (to (2 * e))) (to (2 * e)) z (omega arith) (f .ends (2 * e) (omega arith)) p ∙ ap (λ w. eqb w v) same
+      ∙ sym (tree-of v (pos (to (2 * e + 1))) (to (2 * e + 1)) z (omega arith) (f .ends (2 * e + 1) (omega arith)) p′))
       (λ q.
       let p = ltb-false 0 (pos (to (2 * e))) q in
-      let y : pos (to (2 * e + 1)) ≡ 0 = onBool (ltb 0 (pos (to (2 * e + 1)))) (λ x. absurd (omega (arith, f .back e l (ltb-true 0 _ x)))) (λ x. omega (arith, ltb-false 0 (pos (to (2 * e + 1))) x)) in
+      let y : pos (to (2 * e + 1)) ≡ 0 = onBool (ltb 0 (pos (to (2 * e + 1)))) (λ x. absurd (omega (arith, f .back e l (ltb-true 0 _ x))))
+      (λ x. omega (arith, ltb-false 0 (pos (to (2 * e + 1))) x)) in
       descendants-unseen f v (to (2 * e)) (omega arith) ∙ sym (descendants-unseen f v (to (2 * e + 1)) y))
 
   module _ (S : List ℕ) (active : (a : ℕ) → List·Memᴰ a S → (a < n) × (0 < pos a)) (rooted : (r : ℕ) → r < n → 0 < pos r → te r ≡ 0 → List·Memᴰ r S) where
@@ -170,7 +174,8 @@ module _ {n m : ℕ} {to pos par te root t : ℕ → ℕ} (f : Forest n m to pos
       where
         adj-of : (v e : ℕ) → e < m → Joins to e v (par v) → Adjacent v (par v) (edgesBelow to m)
         adj-of v e l (inl (p, q)) = subst (λ (x : ℕ). Adjacent x (par v) (edgesBelow to m)) p (subst (λ (y : ℕ). Adjacent (to (2 * e)) y (edgesBelow to m)) q (edge-adjacent to m e l))
-        adj-of v e l (inr (p, q)) = adjacent-sym (subst (λ (x : ℕ). Adjacent x v (edgesBelow to m)) p (subst (λ (y : ℕ). Adjacent (to (2 * e)) y (edgesBelow to m)) q (edge-adjacent to m e l)))
+        adj-of v e l (inr (p, q)) = adjacent-sym
+            (subst (λ (x : ℕ). Adjacent x v (edgesBelow to m)) p (subst (λ (y : ℕ). Adjacent (to (2 * e)) y (edgesBelow to m)) q (edge-adjacent to m e l)))
 
     pub child-class : (x c : ℕ) → Child n pos par te t x c → ChildClass (edgesBelow to m) S classForest x c
     unfolding classForest

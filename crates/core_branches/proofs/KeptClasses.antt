@@ -1,5 +1,5 @@
 -- Kept classes by witnesses: a class without an active node is kept just where it has two branches; the nearest kept class at or above a class; and kept classes
--- with numbers, each with the nearest above, are a small forest. Over a spanning forest with tops (graph/proofs/SpanningForest).
+-- with numbers, each with the nearest above, are a small forest. Over a spanning forest with tops (theory_graph/proofs/SpanningForest).
 -- Assumes nothing.
 use Prim.Native.Nat.{_+_, _-_, _<_, _≤_, suc, zero, ℕ}
 use mathlib.Core.Bool.{false, true}
@@ -7,12 +7,16 @@ use mathlib.Core.List.{List, List·Memᴰ, map}
 use mathlib.Core.Logic.{_⊎_, inl, inr, ⊎-elim}
 use mathlib.Core.Path.{_∙_, _≡_, ap, refl, subst, sym}
 use native.Mathlib.Omega.{arith}
-use Rattle.core_branches.specs.SmallForest.{SmallForest}
+use Rattle.core_branches.specs.SmallForest.{ParentPair, SmallForest}
 use Rattle.theory_graph.proofs.Booleans.{onBool}
 use Rattle.theory_graph.proofs.Kept.{Kept, kept-class}
+use Rattle.theory_graph.proofs.Definitions.{kept-from, kept-to, twoEdge-from, twoEdge-to}
+use Rattle.theory_graph.proofs.Links.{linked-from, linked-to}
+use Rattle.theory_graph.proofs.Renumbering.{linked-flip}
 use Rattle.theory_graph.proofs.Separation.{insep-sym, insep-trans, same-side, twoEdge-connected}
-use Rattle.theory_graph.proofs.SmallGraphs.{Linked}
-use Rattle.theory_graph.proofs.SpanningForest.{ChildClass, ClassForest, KeptTop, NearestAbove, NoThird, above-linked, below-antisym, below-class, below-position, branches-kept, kept-branches, linked-nearest, onEq, top-unique}
+use Rattle.theory_graph.proofs.SmallGraphs.{Linked, OnePerClass}
+use Rattle.theory_graph.proofs.SpanningForest.{ChildClass, ClassForest, KeptTop, NearestAbove, NoThird, above-linked, below-antisym}
+use Rattle.theory_graph.proofs.SpanningForest.{below-class, below-position, branches-kept, kept-branches, linked-nearest, onEq, top-unique}
 use Rattle.theory_graph.specs.Cut.{Between, Connected, TwoEdgeConnected, cut}
 use Rattle.theory_graph.specs.Graph.{Edge}
 use Rattle.theory_graph.specs.SmallGraph.{inOrder}
@@ -177,20 +181,34 @@ module _ (E : List Edge) (S : List ℕ) (T : ClassForest E S) where
         let x : up i - 1 ≡ j = omega arith in
         subst (λ (v : ℕ). NearestAbove E S T (top (ρ i)) (top (ρ v))) x u
 
-    pub numbered-forest : SmallForest E S h ρ σ up
-    numbered-forest = record {
+    each : OnePerClass E S h ρ
+    each = record {
       kept = λ i l. kept-class E S (ρ i) (top (ρ i)) (to-top i l) (N .kept i l);
       once = λ i j p q t. N .once i j p q (top-unique E S T (top (ρ i)) (top (ρ j)) (main i p .on) (main j q .on) (main i p .is-top) (main j q .is-top)
           (insep-trans E (insep-sym E (to-top i p)) (insep-trans E t (to-top j q))));
       all = all-kept;
+    }
+
+    up-linked : (i j : ℕ) → i < h → j < h → up i ≡ j + 1 → Linked E h ρ i j
+    up-linked i j p q e = to-link i j p q (above-linked E S T (top (ρ i)) (top (ρ j)) (main i p) (main j q) (up-at i j p e))
+
+    linked-up : (i j : ℕ) → i < h → j < h → ¬ (i ≡ j) → Linked E h ρ i j → ParentPair up i j
+    linked-up i j p q ne l =
+        let (c, n) = from-link i j p q l in
+        ⊎-elim (λ u. inl (up-is i j p q u)) (λ u. inr (up-is j i q p u))
+        (linked-nearest E S T (top (ρ i)) (top (ρ j)) (main i p) (main j q) (λ e. ne (N .once i j p q e)) c n)
+
+    pub numbered-forest : SmallForest E S h ρ σ up
+    numbered-forest = record {
+      node = λ i l. kept-from E S (ρ i) (each .kept i l);
+      once = λ i j p q t. each .once i j p q (twoEdge-to E (ρ i) (ρ j) t);
+      all = λ z k. let (i, l, t) = all-kept z (kept-to E S z k) in (i, l, twoEdge-from E z (ρ i) t);
       place = λ a m.
           let (l, e) = N .place a m in
-          (l, insep-trans E (subst (λ (v : ℕ). TwoEdgeConnected E a v) (sym e) (T .top-two a (T .active a m))) (insep-sym E (to-top (σ a) l)));
+          let t : TwoEdgeConnected E a (top (ρ (σ a))) = subst (λ (v : ℕ). TwoEdgeConnected E a v) (sym e) (T .top-two a (T .active a m)) in
+          (l, twoEdge-from E a (ρ (σ a)) (insep-trans E t (insep-sym E (to-top (σ a) l))));
       order = N .order;
       up-fit = λ i l. onEq (up i) 0 (λ z. omega arith) (λ z. omega (arith, N .some i l z .0));
-      link = λ i j p q e. to-link i j p q (above-linked E S T (top (ρ i)) (top (ρ j)) (main i p) (main j q) (up-at i j p e));
-      back = λ i j p q ne l.
-          let (c, n) = from-link i j p q l in
-          ⊎-elim (λ u. inl (up-is i j p q u)) (λ u. inr (up-is j i q p u))
-          (linked-nearest E S T (top (ρ i)) (top (ρ j)) (main i p) (main j q) (λ e. ne (N .once i j p q e)) c n);
+      link = λ i j p q ne e. linked-from E S h ρ each i j p q ne (⊎-elim (up-linked i j p q) (λ u. linked-flip E h ρ j i (up-linked j i q p u)) e);
+      back = λ i j p q l. let (ne, k) = linked-to E S h ρ each i j p q l in linked-up i j p q ne k;
     }

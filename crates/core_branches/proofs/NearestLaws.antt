@@ -11,10 +11,11 @@ use Rattle.core_branches.specs.Numbers.{CanSetNearest, CanFindNearest, C
 use Rattle.theory_graph.specs.Lists.{member}
 use Rattle.core_words.proofs.ChangeLaws.{only-none, only-put, only-then}
 use Rattle.core_words.proofs.FieldLaws.{update-at, update-other}
-use Rattle.core_words.specs.Fields.{Put, node, update}
+use Rattle.core_words.specs.Fields.{ABOVE, EDGE, MEMBER, NEAREST, NUMBER, ORDER, PARENT, POSITION, TOP, Put, node, update}
 
 -- ---- over functions
-module _ {n seen i v : ℕ} {ord pos par te top nr near : ℕ → ℕ} (g : TreeOrder n seen ord pos par te top) (s : NearestNumbers n i pos par te top nr near) (fit : v < n) (at : pos v ≡ i + 1) where
+module _ {n seen i v : ℕ} {ord pos par te top nr near : ℕ → ℕ} (g : TreeOrder n seen ord pos par te top) (s : NearestNumbers n i pos par te top nr near)
+    (fit : v < n) (at : pos v ≡ i + 1) where
   -- a node up to place i + 1 is v, or up to i
   early : (c : ℕ) → c < n → 0 < pos c → pos c ≤ i + 1 → ¬ (c ≡ v) → pos c ≤ i
   early c l p b ne =
@@ -42,7 +43,7 @@ module _ {n seen i v : ℕ} {ord pos par te top nr near : ℕ → ℕ} (g : Tree
 
 -- ---- at the words
 module _ {n v : ℕ} {a : List ℕ} (g : CanSetNearest n a v) where
-  pub nearest-number : {x : ℕ} {b : List ℕ} → x ≡ node 10 a v → ¬ (x ≡ 0) → Put 7 v x a b → NearestStep n v a b
+  pub nearest-number : {x : ℕ} {b : List ℕ} → x ≡ node NUMBER a v → ¬ (x ≡ 0) → Put NEAREST v x a b → NearestStep n v a b
   nearest-number {x} ex ne p = inr (record {
     value = x;
     numbered = λ _. ex;
@@ -51,16 +52,16 @@ module _ {n v : ℕ} {a : List ℕ} (g : CanSetNearest n a v) where
     nearest = p .here;
   })
 
-  pub nearest-parent : {x p q y : ℕ} {b : List ℕ} → x ≡ node 10 a v → x ≡ 0 → p ≡ node 5 a v → q ≡ node 6 a p → y ≡ node 7 a q → Put 7 v y a b → NearestStep n v a b
+  pub nearest-parent : {x p q y : ℕ} {b : List ℕ} → x ≡ node NUMBER a v → x ≡ 0 → p ≡ node PARENT a v → q ≡ node TOP a p → y ≡ node NEAREST a q → Put NEAREST v y a b → NearestStep n v a b
   nearest-parent {x} {p} {q} {y} ex z ep eq ey s = inr (record {
     value = y;
     numbered = λ ne. absurd (ne (sym ex ∙ z));
-    up = λ _. ey ∙ ap (node 7 a) (eq ∙ ap (node 6 a) ep);
+    up = λ _. ey ∙ ap (node NEAREST a) (eq ∙ ap (node TOP a) ep);
     rest = only-put refl (g .fit) s;
     nearest = s .here;
   })
 
-  pub q-fits : {p q : ℕ} → p ≡ node 5 a v → q ≡ node 6 a p → q < n
+  pub q-fits : {p q : ℕ} → p ≡ node PARENT a v → q ≡ node TOP a p → q < n
   q-fits ep eq = rw (eq, ep) (g .top-fit)
 
 pub nearest-none : {n seen : ℕ} {a : List ℕ} → CanFindNearest n seen a → NearestLoop n a 0 a
@@ -69,85 +70,85 @@ nearest-none {n} {a = a} g = record {
   nearest = record { numbered = λ c l p b. absurd (omega arith); up = λ c l p b. absurd (omega arith) };
 }
 
-module _ {n seen i v : ℕ} {a w : List ℕ} (g : CanFindNearest n seen a) (s : NearestLoop n a i w) (l : i < seen) (ev : v ≡ node 3 w i) where
-  keep : (j : ℕ) → j < 16 → member (7 ∷ []) j ≡ false → node j w ≡ node j a
+module _ {n seen i v : ℕ} {a w : List ℕ} (g : CanFindNearest n seen a) (s : NearestLoop n a i w) (l : i < seen) (ev : v ≡ node ORDER w i) where
+  keep : (j : ℕ) → j < 16 → member (NEAREST ∷ []) j ≡ false → node j w ≡ node j a
   keep = s .rest .nodes
 
   v-fits : v < n
-  v-fits = rw (ev, keep 3 (omega arith) refl) (g .tree .place i l .0)
+  v-fits = rw (ev, keep ORDER (omega arith) refl) (g .tree .place i l .0)
 
-  v-at : node 4 a v ≡ i + 1
-  v-at = rw (ev, keep 3 (omega arith) refl) (g .tree .place i l .1)
+  v-at : node POSITION a v ≡ i + 1
+  v-at = rw (ev, keep ORDER (omega arith) refl) (g .tree .place i l .1)
 
   pub nearest-can : CanSetNearest n w v
   nearest-can = record {
     few = g .few;
     room = rw (s .rest .same) (g .room);
     fit = v-fits;
-    par-fit = rw (keep 5 (omega arith) refl) (g .tree .par-fit v v-fits (omega (arith, v-at)));
-    top-fit = rw (keep 5 (omega arith) refl, keep 6 (omega arith) refl) (g .tree .top-fit (node 5 a v) (g .tree .par-fit v v-fits (omega (arith, v-at))));
+    par-fit = rw (keep PARENT (omega arith) refl) (g .tree .par-fit v v-fits (omega (arith, v-at)));
+    top-fit = rw (keep PARENT (omega arith) refl, keep TOP (omega arith) refl) (g .tree .top-fit (node PARENT a v) (g .tree .par-fit v v-fits (omega (arith, v-at))));
   }
 
   pub nearest-more : {w′ : List ℕ} → NearestStep n v w w′ → NearestLoop n a (i + 1) w′
   nearest-more {w′} = ⊎-elim
-      (λ (e, ne). rw e (record { rest = s .rest; nearest = nearest-skip (g .tree) (s .nearest) v-fits v-at (rw (keep 6 (omega arith) refl) at ne) }))
+      (λ (e, ne). rw e (record { rest = s .rest; nearest = nearest-skip (g .tree) (s .nearest) v-fits v-at (rw (keep TOP (omega arith) refl) at ne) }))
       (λ f. record {
         rest = only-then (s .rest) (f .rest);
         nearest = rw (f .nearest) (nearest-put (g .tree) (s .nearest) v-fits v-at (f .value)
-            (rw (keep 10 (omega arith) refl) at (f .numbered)) (rw (keep 10 (omega arith) refl, keep 6 (omega arith) refl, keep 5 (omega arith) refl) at (f .up)));
+            (rw (keep NUMBER (omega arith) refl) at (f .numbered)) (rw (keep NUMBER (omega arith) refl, keep TOP (omega arith) refl, keep PARENT (omega arith) refl) at (f .up)));
       })
 
 -- ---- above each number
-module _ {n x : ℕ} {a : List ℕ} (g : CanSetParent n a x) {v t e : ℕ} (ev : v ≡ node 11 a x) (et : t ≡ node 6 a v) (ee : e ≡ node 13 a t) where
-  t-is : t ≡ node 6 a (node 11 a x)
-  t-is = et ∙ ap (node 6 a) ev
+module _ {n x : ℕ} {a : List ℕ} (g : CanSetParent n a x) {v t e : ℕ} (ev : v ≡ node MEMBER a x) (et : t ≡ node TOP a v) (ee : e ≡ node EDGE a t) where
+  t-is : t ≡ node TOP a (node MEMBER a x)
+  t-is = et ∙ ap (node TOP a) ev
 
-  e-is : e ≡ node 13 a (node 6 a (node 11 a x))
-  e-is = ee ∙ ap (node 13 a) t-is
+  e-is : e ≡ node EDGE a (node TOP a (node MEMBER a x))
+  e-is = ee ∙ ap (node EDGE a) t-is
 
   pub t-fits : t < n
   t-fits = rw t-is (g .top-fit)
 
-  pub parent-none : {b : List ℕ} → e ≡ 0 → Put 9 x 0 a b → SetParent n x a b
+  pub parent-none : {b : List ℕ} → e ≡ 0 → Put ABOVE x 0 a b → SetParent n x a b
   parent-none z p = record { value = 0; none = λ _. refl; some = λ ne. absurd (ne (sym e-is ∙ z)); rest = only-put refl (g .fit) p; parents = p .here }
 
-  module _ {p q : ℕ} (ep : p ≡ node 5 a t) (eq : q ≡ node 6 a p) where
-    p-is : p ≡ node 5 a (node 6 a (node 11 a x))
-    p-is = ep ∙ ap (node 5 a) t-is
+  module _ {p q : ℕ} (ep : p ≡ node PARENT a t) (eq : q ≡ node TOP a p) where
+    p-is : p ≡ node PARENT a (node TOP a (node MEMBER a x))
+    p-is = ep ∙ ap (node PARENT a) t-is
 
-    q-is : q ≡ node 6 a (node 5 a (node 6 a (node 11 a x)))
-    q-is = eq ∙ ap (node 6 a) p-is
+    q-is : q ≡ node TOP a (node PARENT a (node TOP a (node MEMBER a x)))
+    q-is = eq ∙ ap (node TOP a) p-is
 
     pub over-fits : q < n
     over-fits = rw q-is (g .over-fit)
 
-    pub parent-some : {y : ℕ} {b : List ℕ} → ¬ (e ≡ 0) → y ≡ node 7 a q → Put 9 x y a b → SetParent n x a b
+    pub parent-some : {y : ℕ} {b : List ℕ} → ¬ (e ≡ 0) → y ≡ node NEAREST a q → Put ABOVE x y a b → SetParent n x a b
     parent-some {y} ne ey s = record {
       value = y;
       none = λ z. absurd (ne (e-is ∙ z));
-      some = λ _. ey ∙ ap (node 7 a) q-is;
+      some = λ _. ey ∙ ap (node NEAREST a) q-is;
       rest = only-put refl (g .fit) s;
       parents = s .here;
     }
 
-  pub p-fits : {p : ℕ} → p ≡ node 5 a t → p < n
+  pub p-fits : {p : ℕ} → p ≡ node PARENT a t → p < n
   p-fits ep = rw (ep, t-is) (g .par-fit)
 
 pub parents-none : {n h : ℕ} {a : List ℕ} → CanSetParents n h a → ParentLoop n a 0 a
 parents-none {n} {a = a} g = record { rest = only-none n a; parents = record { none = λ x l. absurd (omega arith); some = λ x l. absurd (omega arith) } }
 
 module _ {n h x : ℕ} {a w : List ℕ} (g : CanSetParents n h a) (s : ParentLoop n a x w) (l : x < h) where
-  hold : (j : ℕ) → j < 16 → member (9 ∷ []) j ≡ false → node j w ≡ node j a
+  hold : (j : ℕ) → j < 16 → member (ABOVE ∷ []) j ≡ false → node j w ≡ node j a
   hold = s .rest .nodes
 
-  h5 : node 5 w ≡ node 5 a
-  h5 = hold 5 (omega arith) refl
+  h5 : node PARENT w ≡ node PARENT a
+  h5 = hold PARENT (omega arith) refl
 
-  h6 : node 6 w ≡ node 6 a
-  h6 = hold 6 (omega arith) refl
+  h6 : node TOP w ≡ node TOP a
+  h6 = hold TOP (omega arith) refl
 
-  h11 : node 11 w ≡ node 11 a
-  h11 = hold 11 (omega arith) refl
+  h11 : node MEMBER w ≡ node MEMBER a
+  h11 = hold MEMBER (omega arith) refl
 
   pub parents-can : CanSetParent n w x
   parents-can = let q = g .each x l in record {
@@ -164,11 +165,12 @@ module _ {n h x : ℕ} {a w : List ℕ} (g : CanSetParents n h a) (s : ParentLoo
   parents-more {w′} f = record {
     rest = only-then (s .rest) (f .rest);
     parents = rw (f .parents) (record {
-      none = update-at (λ u y. u < x + 1 → node 13 a (node 6 a (node 11 a u)) ≡ 0 → y ≡ 0) (node 9 w) x (f .value)
-          (λ _. rw (h11, h6, hold 13 (omega arith) refl) at (f .none))
+      none = update-at (λ u y. u < x + 1 → node EDGE a (node TOP a (node MEMBER a u)) ≡ 0 → y ≡ 0) (node ABOVE w) x (f .value)
+          (λ _. rw (h11, h6, hold EDGE (omega arith) refl) at (f .none))
           (λ u ne b. s .parents .none u (omega arith));
-      some = update-at (λ u y. u < x + 1 → ¬ (node 13 a (node 6 a (node 11 a u)) ≡ 0) → y ≡ node 7 a (node 6 a (node 5 a (node 6 a (node 11 a u))))) (node 9 w) x (f .value)
-          (λ _. rw (h11, h6, h5, hold 7 (omega arith) refl, hold 13 (omega arith) refl) at (f .some))
+      some = update-at (λ u y. u < x + 1 → ¬ (node EDGE a (node TOP a (node MEMBER a u)) ≡ 0)
+          → y ≡ node NEAREST a (node TOP a (node PARENT a (node TOP a (node MEMBER a u))))) (node ABOVE w) x (f .value)
+          (λ _. rw (h11, h6, h5, hold NEAREST (omega arith) refl, hold EDGE (omega arith) refl) at (f .some))
           (λ u ne b. s .parents .some u (omega arith));
     });
   }

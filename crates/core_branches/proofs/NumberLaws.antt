@@ -7,12 +7,13 @@ use mathlib.Core.Path.{_∙_, _≡_, ap, refl, subst, sym}
 use lib.Dec.{eqb, ltb}
 use native.Mathlib.Omega.{arith}
 use borrow.Author.Tests.{eqb-false, eqb-true, ltb-false, ltb-true}
-use Rattle.core_branches.specs.Numbers.{ActiveNumbers, ActiveStep, Assigned, CanAssign, CanNumber, CanNumberActives, CanNumberOthers, NumberingActives, NumberingOthers, Numbers, OtherNumbers, OtherStep, Prior}
+use Rattle.core_branches.specs.Numbers.{ActiveNumbers, ActiveStep, Assigned, CanAssign, CanNumber, CanNumberActives, CanNumberOthers}
+use Rattle.core_branches.specs.Numbers.{NumberingActives, NumberingOthers, Numbers, OtherNumbers, OtherStep, Prior}
 use Rattle.core_forest.proofs.Counting.{count-less, count-more, count-none}
 use Rattle.theory_graph.proofs.Booleans.{onBool}
 use Rattle.core_words.proofs.ChangeLaws.{only-more, only-none, only-put, only-then}
 use Rattle.core_words.proofs.FieldLaws.{update-at, update-other, update-same}
-use Rattle.core_words.specs.Fields.{Put, node, update}
+use Rattle.core_words.specs.Fields.{ACTIVE, LIVE, MEMBER, NUMBER, OTHER, POSITION, TOP, Put, node, update}
 
 -- ---- numbers, over functions
 pub numbers-none : {n : ℕ} {top nr rep : ℕ → ℕ} → ((v : ℕ) → v < n → nr v ≡ 0) → Numbers n 0 top nr rep
@@ -82,7 +83,8 @@ module _ {n i h : ℕ} {act top nr rep live : ℕ → ℕ} (g : ActiveNumbers n 
   active-new new = record {
     numbers = numbers-more (act i) (g .numbers) fit top-fit new;
     done = λ j l. onBool (eqb j i)
-        (λ q. subst (λ (u : ℕ). ¬ (update nr (top (act i)) (h + 1) (top (act u)) ≡ 0)) (sym (eqb-true j i q)) (λ z. let y : h + 1 ≡ 0 = sym (update-same nr (top (act i)) (h + 1)) ∙ z in omega arith))
+        (λ q. subst (λ (u : ℕ). ¬ (update nr (top (act i)) (h + 1) (top (act u)) ≡ 0)) (sym (eqb-true j i q))
+        (λ z. let y : h + 1 ≡ 0 = sym (update-same nr (top (act i)) (h + 1)) ∙ z in omega arith))
         (λ q. let ne : ¬ (j ≡ i) = eqb-false j i q in update-some nr (top (act i)) (h + 1) (top (act j)) (λ z. omega arith) (g .done j (omega arith)));
     some = update-at (λ c y. c < n → ¬ (y ≡ 0) → (j : ℕ) × (j < i + 1) × (y ≡ act j + 1) × (top (act j) ≡ c)) live (top (act i)) (act i + 1)
         (λ _ _. (i, omega arith, refl, refl))
@@ -94,7 +96,8 @@ module _ {n i h : ℕ} {act top nr rep live : ℕ → ℕ} (g : ActiveNumbers n 
         (λ _. (i, omega arith, refl))
         (λ x ne l. let (j, p, e) = g .reps x (omega arith) in (j, omega arith, e));
     order = λ j l. onBool (eqb j i)
-        (λ q. subst (λ (u : ℕ). Prior (λ j. update nr (top (act i)) (h + 1) (top (act j))) u) (sym (eqb-true j i q)) (rw (update-same nr (top (act i)) (h + 1)) (⊎-elim inl (λ (l, p, e). inr (l, p, rw (stays l p) e)) (after (h + 1) (omega arith)))))
+        (λ q. subst (λ (u : ℕ). Prior (λ j. update nr (top (act i)) (h + 1) (top (act j))) u) (sym (eqb-true j i q))
+        (rw (update-same nr (top (act i)) (h + 1)) (⊎-elim inl (λ (l, p, e). inr (l, p, rw (stays l p) e)) (after (h + 1) (omega arith)))))
         (λ q.
         let ne : ¬ (j ≡ i) = eqb-false j i q in
         let b : j < i = omega arith in
@@ -124,20 +127,23 @@ module _ {n h₀ v h : ℕ} {pos top other nr₀ nr rep₀ rep : ℕ → ℕ} (g
     more = g .more;
     still = g .still;
     old = g .old;
-    done = λ u l. onBool (eqb u v) (λ q. subst (λ (u : ℕ). ¬ (pos u ≡ 0) → ¬ (other (top u) ≡ 0) → ¬ (nr (top u) ≡ 0)) (sym (eqb-true u v q)) old) (λ q. let ne : ¬ (u ≡ v) = eqb-false u v q in g .done u (omega arith));
+    done = λ u l. onBool (eqb u v) (λ q. subst (λ (u : ℕ). ¬ (pos u ≡ 0) → ¬ (other (top u) ≡ 0) → ¬ (nr (top u) ≡ 0)) (sym (eqb-true u v q)) old)
+        (λ q. let ne : ¬ (u ≡ v) = eqb-false u v q in g .done u (omega arith));
     late = λ i p q. let (a, b, c) = g .late i p q in (omega arith, b, c);
     least = g .least;
     rises = g .rises;
   }
 
-  pub other-new : v < n → top v < n → ¬ (pos v ≡ 0) → ¬ (other (top v) ≡ 0) → nr (top v) ≡ 0 → OtherNumbers n h₀ (v + 1) (h + 1) pos top other nr₀ (update nr (top v) (h + 1)) rep₀ (update rep h v)
+  pub other-new : v < n → top v < n → ¬ (pos v ≡ 0) → ¬ (other (top v) ≡ 0) → nr (top v) ≡ 0
+      → OtherNumbers n h₀ (v + 1) (h + 1) pos top other nr₀ (update nr (top v) (h + 1)) rep₀ (update rep h v)
   other-new fit top-fit seen two new = record {
     numbers = numbers-more v (g .numbers) fit top-fit new;
     more = omega (arith, g .more);
     still = λ c a. let e = g .still c a in update-stays nr (top v) (h + 1) c new (λ z. a (sym e ∙ z)) ∙ e;
     old = λ i l. update-other rep h v i (λ e. omega (arith, g .more)) ∙ g .old i l;
     done = λ u l. onBool (eqb u v)
-        (λ q. subst (λ (u : ℕ). ¬ (pos u ≡ 0) → ¬ (other (top u) ≡ 0) → ¬ (update nr (top v) (h + 1) (top u) ≡ 0)) (sym (eqb-true u v q)) (λ _ _ z. let y : h + 1 ≡ 0 = sym (update-same nr (top v) (h + 1)) ∙ z in omega arith))
+        (λ q. subst (λ (u : ℕ). ¬ (pos u ≡ 0) → ¬ (other (top u) ≡ 0) → ¬ (update nr (top v) (h + 1) (top u) ≡ 0)) (sym (eqb-true u v q))
+        (λ _ _ z. let y : h + 1 ≡ 0 = sym (update-same nr (top v) (h + 1)) ∙ z in omega arith))
         (λ q s o. let ne : ¬ (u ≡ v) = eqb-false u v q in update-some nr (top v) (h + 1) (top u) (λ z. omega arith) (g .done u (omega arith) s o));
     late = λ i p. update-at (λ i y. h₀ ≤ i → i < h + 1 → (y < v + 1) × ¬ (pos y ≡ 0) × ¬ (other (top y) ≡ 0)) rep h v
         (λ _ _. (omega arith, seen, two))
@@ -162,41 +168,41 @@ module _ {n h₀ v h : ℕ} {pos top other nr₀ nr rep₀ rep : ℕ → ℕ} (g
   }
 
 -- ---- at the words
-pub assigned : {n h v t : ℕ} {a b c : List ℕ} → CanAssign n h a v t → Put 11 h v a b → Put 10 t (h + 1) b c → Assigned n h v t a c
+pub assigned : {n h v t : ℕ} {a b c : List ℕ} → CanAssign n h a v t → Put MEMBER h v a b → Put NUMBER t (h + 1) b c → Assigned n h v t a c
 assigned {n} {h} {v} {t} g p q = record {
   rest = only-then (only-put refl (g .less) p) (only-put refl (g .top-fit) q);
-  numbers = q .here ∙ ap (λ f. update f t (h + 1)) (p .else 10 (omega arith) (λ e. omega arith));
-  reps = q .else 11 (omega arith) (λ e. omega arith) ∙ p .here;
+  numbers = q .here ∙ ap (λ f. update f t (h + 1)) (p .else NUMBER (omega arith) (λ e. omega arith));
+  reps = q .else MEMBER (omega arith) (λ e. omega arith) ∙ p .here;
 }
 
-module _ {n h v : ℕ} {a : List ℕ} (g : CanNumber n h a v) {t x : ℕ} (et : t ≡ node 6 a v) (ex : x ≡ node 10 a t) where
-  new-is : x ≡ 0 → node 10 a (node 6 a v) ≡ 0
-  new-is z = ap (node 10 a) (sym et) ∙ sym ex ∙ z
+module _ {n h v : ℕ} {a : List ℕ} (g : CanNumber n h a v) {t x : ℕ} (et : t ≡ node TOP a v) (ex : x ≡ node NUMBER a t) where
+  new-is : x ≡ 0 → node NUMBER a (node TOP a v) ≡ 0
+  new-is z = ap (node NUMBER a) (sym et) ∙ sym ex ∙ z
 
   pub room-more : x ≡ 0 → h < n
-  room-more z = numbers-less (node 6 a v) (g .numbers) (g .top-fit) (new-is z)
+  room-more z = numbers-less (node TOP a v) (g .numbers) (g .top-fit) (new-is z)
 
   pub can-assign : x ≡ 0 → CanAssign n h a v t
   can-assign z = record { few = g .few; room = g .room; less = room-more z; fit = g .fit; top-fit = rw et (g .top-fit) }
 
-  pub has-number : ¬ (x ≡ 0) → ¬ (node 10 a (node 6 a v) ≡ 0)
-  has-number ne z = ne (ex ∙ ap (node 10 a) et ∙ z)
+  pub has-number : ¬ (x ≡ 0) → ¬ (node NUMBER a (node TOP a v) ≡ 0)
+  has-number ne z = ne (ex ∙ ap (node NUMBER a) et ∙ z)
 
-  pub active-assigned : {b c : List ℕ} → x ≡ 0 → Assigned n h v t a b → Put 7 t (v + 1) b c → ActiveStep n h v a c (h + 1)
+  pub active-assigned : {b c : List ℕ} → x ≡ 0 → Assigned n h v t a b → Put LIVE t (v + 1) b c → ActiveStep n h v a c (h + 1)
   active-assigned {b} {c} z m p = inr (record {
     new = new-is z;
     more = refl;
-    rest = only-then (only-more (10 ∷ 11 ∷ []) refl (m .rest)) (only-put refl (can-assign z .top-fit) p);
-    numbers = p .else 10 (omega arith) (λ e. omega arith) ∙ m .numbers ∙ ap (λ i. update (node 10 a) i (h + 1)) et;
-    reps = p .else 11 (omega arith) (λ e. omega arith) ∙ m .reps;
-    lives = p .here ∙ ap (λ f. update f t (v + 1)) (m .rest .nodes 7 (omega arith) refl) ∙ ap (λ i. update (node 7 a) i (v + 1)) et;
+    rest = only-then (only-more (NUMBER ∷ MEMBER ∷ []) refl (m .rest)) (only-put refl (can-assign z .top-fit) p);
+    numbers = p .else NUMBER (omega arith) (λ e. omega arith) ∙ m .numbers ∙ ap (λ i. update (node NUMBER a) i (h + 1)) et;
+    reps = p .else MEMBER (omega arith) (λ e. omega arith) ∙ m .reps;
+    lives = p .here ∙ ap (λ f. update f t (v + 1)) (m .rest .nodes LIVE (omega arith) refl) ∙ ap (λ i. update (node LIVE a) i (v + 1)) et;
   })
 
-  pub other-assigned : {b : List ℕ} {p o : ℕ} → x ≡ 0 → p ≡ node 4 a v → ¬ (p ≡ 0) → o ≡ node 9 a t → ¬ (o ≡ 0) → Assigned n h v t a b → OtherStep n h v a b (h + 1)
+  pub other-assigned : {b : List ℕ} {p o : ℕ} → x ≡ 0 → p ≡ node POSITION a v → ¬ (p ≡ 0) → o ≡ node OTHER a t → ¬ (o ≡ 0) → Assigned n h v t a b → OtherStep n h v a b (h + 1)
   other-assigned {b} z ep np eo no′ m = inr (record {
     new = new-is z;
     seen = λ y. np (ep ∙ y);
-    two = λ y. no′ (eo ∙ ap (node 9 a) et ∙ y);
+    two = λ y. no′ (eo ∙ ap (node OTHER a) et ∙ y);
     more = refl;
     is = subst (λ (i : ℕ). Assigned n h v i a b) et m;
   })
@@ -205,12 +211,12 @@ module _ {n k : ℕ} {a : List ℕ} (g : CanNumberActives n k a) where
   pub actives-none : NumberingActives n k a 0 0 a
   actives-none = record { rest = only-none n a; actives = active-none (g .none) }
 
-  module _ {i h v : ℕ} {w : List ℕ} (s : NumberingActives n k a i h w) (l : i < k) (ev : v ≡ node 1 w i) where
-    v-is : v ≡ node 1 a i
-    v-is = ev ∙ ap (λ f. f i) (s .rest .nodes 1 (omega arith) refl)
+  module _ {i h v : ℕ} {w : List ℕ} (s : NumberingActives n k a i h w) (l : i < k) (ev : v ≡ node ACTIVE w i) where
+    v-is : v ≡ node ACTIVE a i
+    v-is = ev ∙ ap (λ f. f i) (s .rest .nodes ACTIVE (omega arith) refl)
 
-    e6 : node 6 w ≡ node 6 a
-    e6 = s .rest .nodes 6 (omega arith) refl
+    e6 : node TOP w ≡ node TOP a
+    e6 = s .rest .nodes TOP (omega arith) refl
 
     pub actives-can : CanNumber n h w v
     actives-can = record {
@@ -218,15 +224,15 @@ module _ {n k : ℕ} {a : List ℕ} (g : CanNumberActives n k a) where
       room = rw (s .rest .same) (g .room);
       numbers = rw e6 (s .actives .numbers);
       fit = rw v-is (g .active i l);
-      top-fit = rw (e6, v-is) (g .top-fit (node 1 a i) (g .active i l));
+      top-fit = rw (e6, v-is) (g .top-fit (node ACTIVE a i) (g .active i l));
     }
 
     pub actives-more : {w′ : List ℕ} {h′ : ℕ} → ActiveStep n h v w w′ h′ → NumberingActives n k a (i + 1) h′ w′
     actives-more {w′} {h′} = ⊎-elim
-        (λ (e, eh, old). rw (e, eh) (record { rest = s .rest; actives = active-skip (s .actives) (g .active i l) (g .top-fit (node 1 a i) (g .active i l)) (rw (e6, v-is) at old) }))
+        (λ (e, eh, old). rw (e, eh) (record { rest = s .rest; actives = active-skip (s .actives) (g .active i l) (g .top-fit (node ACTIVE a i) (g .active i l)) (rw (e6, v-is) at old) }))
         (λ f. rw (f .more) (record {
           rest = only-then (s .rest) (f .rest);
-          actives = rw (f .numbers, f .reps, f .lives, e6, v-is) (active-new (s .actives) (g .active i l) (g .top-fit (node 1 a i) (g .active i l)) (rw (e6, v-is) at (f .new)));
+          actives = rw (f .numbers, f .reps, f .lives, e6, v-is) (active-new (s .actives) (g .active i l) (g .top-fit (node ACTIVE a i) (g .active i l)) (rw (e6, v-is) at (f .new)));
         }))
 
 module _ {n h₀ : ℕ} {a : List ℕ} (g : CanNumberOthers n h₀ a) where
@@ -234,14 +240,14 @@ module _ {n h₀ : ℕ} {a : List ℕ} (g : CanNumberOthers n h₀ a) where
   others-none = record { rest = only-none n a; others = other-none (g .numbers) }
 
   module _ {v h : ℕ} {w : List ℕ} (s : NumberingOthers n h₀ a v h w) (l : v < n) where
-    f4 : node 4 w ≡ node 4 a
-    f4 = s .rest .nodes 4 (omega arith) refl
+    f4 : node POSITION w ≡ node POSITION a
+    f4 = s .rest .nodes POSITION (omega arith) refl
 
-    f6 : node 6 w ≡ node 6 a
-    f6 = s .rest .nodes 6 (omega arith) refl
+    f6 : node TOP w ≡ node TOP a
+    f6 = s .rest .nodes TOP (omega arith) refl
 
-    f9 : node 9 w ≡ node 9 a
-    f9 = s .rest .nodes 9 (omega arith) refl
+    f9 : node OTHER w ≡ node OTHER a
+    f9 = s .rest .nodes OTHER (omega arith) refl
 
     pub others-can : CanNumber n h w v
     others-can = record { few = g .few; room = rw (s .rest .same) (g .room); numbers = rw f6 (s .others .numbers); fit = l; top-fit = rw f6 (g .top-fit v l) }

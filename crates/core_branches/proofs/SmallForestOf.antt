@@ -86,7 +86,8 @@ module _ {n m k seen h₀ h : ℕ} {to pos par te root top mark act nr₀ rep₀
   unfolding isAct
   witnesses-of = witnesses f g S active rooted isAct
       (λ a t. and-elim (ltb a n) (ltb 0 (mark a)) t λ p q. marked-in a (ltb-true a n p) (ltb-true 0 (mark a) q))
-      (λ a i. let (j, l, e) = is-act a i in subst (λ (v : ℕ). (ltb v n && ltb 0 (mark v)) ≡ true) (sym e) (ap₂ _&&_ (lt-ltb (act j) n (actives j l .0)) (lt-ltb 0 (mark (act j)) (actives j l .1))))
+      (λ a i. let (j, l, e) = is-act a i in subst (λ (v : ℕ). (ltb v n && ltb 0 (mark v)) ≡ true) (sym e)
+      (ap₂ _&&_ (lt-ltb (act j) n (actives j l .0)) (lt-ltb 0 (mark (act j)) (actives j l .1))))
       (λ c l z. let (j, b, e, t) = A .some c l z in let x : live₀ c - 1 ≡ act j = omega arith in (subst (λ (v : ℕ). List·Memᴰ v S) (sym x) (in-act j b), ap top x ∙ t))
       (λ a i. let (j, l, e) = is-act a i in A .alive (top a) (g .tops .fit a (active a i .0)) (subst (λ (v : ℕ). ¬ (nr₀ (top v) ≡ 0)) (sym e) (A .done j l)))
       K
@@ -145,7 +146,8 @@ module _ {n m k seen h₀ h : ℕ} {to pos par te root top mark act nr₀ rep₀
       let sp = T .par-seen y s r in
       let (lp, pp) = seen-in n pos (par y) sp in
       let x = top (par y) in
-      let px : pos x < pos y = onBool (eqb x (par y)) (λ i. omega (arith, ap pos (eqb-true x (par y) i), T .par-pos y s r)) (λ i. omega (arith, g .tops .up (par y) lp (eqb-false x (par y) i), T .par-pos y s r)) in
+      let px : pos x < pos y = onBool (eqb x (par y)) (λ i. omega (arith, ap pos (eqb-true x (par y) i), T .par-pos y s r))
+      (λ i. omega (arith, g .tops .up (par y) lp (eqb-false x (par y) i), T .par-pos y s r)) in
       let w = ih x px (g .tops .fit (par y) lp) (g .seen (par y) lp pp) (g .flat (par y) lp) in
       let e : near y ≡ near x = L .up y l p (low y l p) t nt z in
       rw e (w .0, w .1, nearest-passes E S T y s t r (top (rep (near x - 1))) (w .2) nk)
@@ -185,7 +187,11 @@ module _ {n m k seen h₀ h : ℕ} {to pos par te root top mark act nr₀ rep₀
         let ne : ¬ (te (top (rep i)) ≡ 0) = λ e. nz (U .none i l e) in
         let (t, s, p) = tops i l in
         let w = above i l ne in
-        rw (U .some i l ne) (w .1, nearest-above E S T (top (rep i)) (seen-is n pos (top (rep i)) s p) t (root-no n pos te (top (rep i)) ne) (top (rep (near (top (par (top (rep i)))) - 1))) (w .2));
+        rw (U .some i l ne) (
+          w .1,
+          nearest-above E S T (top (rep i)) (seen-is n pos (top (rep i)) s p) t (root-no n pos te (top (rep i)) ne)
+              (top (rep (near (top (par (top (rep i)))) - 1))) (w .2),
+        );
   }
     where
       priors : (i : ℕ) → i < k → Prior (λ j. nr (top (act j))) i
@@ -194,11 +200,13 @@ module _ {n m k seen h₀ h : ℕ} {to pos par te root top mark act nr₀ rep₀
       tops : (i : ℕ) → i < h → (top (top (rep i)) ≡ top (rep i)) × (top (rep i) < n) × (0 < pos (top (rep i)))
       tops i l = let (p, q) = rep-on i l in (g .flat (rep i) p, g .tops .fit (rep i) p, g .seen (rep i) p q)
 
-      above : (i : ℕ) → i < h → ¬ (te (top (rep i)) ≡ 0) → ¬ (near (top (par (top (rep i)))) ≡ 0) × (near (top (par (top (rep i)))) - 1 < h) × Nearest E S T (top (par (top (rep i)))) (top (rep (near (top (par (top (rep i)))) - 1)))
+      above : (i : ℕ) → i < h → ¬ (te (top (rep i)) ≡ 0) → ¬ (near (top (par (top (rep i)))) ≡ 0) × (near (top (par (top (rep i)))) - 1 < h)
+          × Nearest E S T (top (par (top (rep i)))) (top (rep (near (top (par (top (rep i)))) - 1)))
       above i l ne =
           let (t, s, p) = tops i l in
           let (lp, pp) = seen-in n pos (par (top (rep i))) (T .par-seen (top (rep i)) (seen-is n pos (top (rep i)) s p) (root-no n pos te (top (rep i)) ne)) in
-          near-is (suc (pos (top (par (top (rep i)))))) (top (par (top (rep i)))) (omega arith) (g .tops .fit (par (top (rep i))) lp) (g .seen (par (top (rep i))) lp pp) (g .flat (par (top (rep i))) lp)
+          near-is (suc (pos (top (par (top (rep i)))))) (top (par (top (rep i)))) (omega arith) (g .tops .fit (par (top (rep i))) lp)
+          (g .seen (par (top (rep i))) lp pp) (g .flat (par (top (rep i))) lp)
 
   pub small-forest : SmallForest E S h rep (λ v. nr (top v) - 1) up
   unfolding classForest

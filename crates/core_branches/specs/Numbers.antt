@@ -9,7 +9,7 @@ use lib.ListN.{length}
 use Rattle.core_branches.specs.BranchCounts.{TreeOrderAt}
 use Rattle.core_forest.specs.Search.{countNonzero}
 use Rattle.core_words.specs.Changes.{OnlyFields}
-use Rattle.core_words.specs.Fields.{node, update}
+use Rattle.core_words.specs.Fields.{ABOVE, ACTIVE, EDGE, LIVE, MEMBER, NEAREST, NUMBER, OTHER, PARENT, POSITION, TOP, node, update}
 
 -- h classes have a number
 pub record Numbers (n h : ℕ) (top nr rep : ℕ → ℕ) : Type 0 where
@@ -18,7 +18,7 @@ pub record Numbers (n h : ℕ) (top nr rep : ℕ → ℕ) : Type 0 where
   pub place-of : (c : ℕ) → c < n → ¬ (nr c ≡ 0) → (nr c ≤ h) × (top (rep (nr c - 1)) ≡ c)
 
 abbrev pub NumbersAt : ℕ → ℕ → List ℕ → Type 0
-NumbersAt n h w = Numbers n h (node 6 w) (node 10 w) (node 11 w)
+NumbersAt n h w = Numbers n h (node TOP w) (node NUMBER w) (node MEMBER w)
 
 -- there is room for one number more
 pub record CanAssign (n h : ℕ) (w : List ℕ) (v t : ℕ) : Type 0 where
@@ -29,28 +29,28 @@ pub record CanAssign (n h : ℕ) (w : List ℕ) (v t : ℕ) : Type 0 where
   pub top-fit : t < n
 
 pub record Assigned (n h v t : ℕ) (a b : List ℕ) : Type 0 where
-  pub rest : OnlyFields (10 ∷ 11 ∷ []) n a b
-  pub numbers : node 10 b ≡ update (node 10 a) t (h + 1)
-  pub reps : node 11 b ≡ update (node 11 a) h v
+  pub rest : OnlyFields (NUMBER ∷ MEMBER ∷ []) n a b
+  pub numbers : node NUMBER b ≡ update (node NUMBER a) t (h + 1)
+  pub reps : node MEMBER b ≡ update (node MEMBER a) h v
 
 pub record CanNumber (n h : ℕ) (w : List ℕ) (v : ℕ) : Type 0 where
   pub few : n ≤ 65536
   pub room : 16 * n ≤ length w
   pub numbers : NumbersAt n h w
   pub fit : v < n
-  pub top-fit : node 6 w v < n
+  pub top-fit : node TOP w v < n
 
 -- the class of the active node v gets the next number, and v is its active node
 pub record NumberedActive (n h v : ℕ) (a b : List ℕ) (h′ : ℕ) : Type 0 where
-  pub new : node 10 a (node 6 a v) ≡ 0
+  pub new : node NUMBER a (node TOP a v) ≡ 0
   pub more : h′ ≡ h + 1
-  pub rest : OnlyFields (7 ∷ 10 ∷ 11 ∷ []) n a b
-  pub numbers : node 10 b ≡ update (node 10 a) (node 6 a v) (h + 1)
-  pub reps : node 11 b ≡ update (node 11 a) h v
-  pub lives : node 7 b ≡ update (node 7 a) (node 6 a v) (v + 1)
+  pub rest : OnlyFields (LIVE ∷ NUMBER ∷ MEMBER ∷ []) n a b
+  pub numbers : node NUMBER b ≡ update (node NUMBER a) (node TOP a v) (h + 1)
+  pub reps : node MEMBER b ≡ update (node MEMBER a) h v
+  pub lives : node LIVE b ≡ update (node LIVE a) (node TOP a v) (v + 1)
 
 abbrev pub ActiveStep : ℕ → ℕ → ℕ → List ℕ → List ℕ → ℕ → Type 0
-ActiveStep n h v a b h′ = ((b ≡ a) × (h′ ≡ h) × ¬ (node 10 a (node 6 a v) ≡ 0)) ⊎ NumberedActive n h v a b h′
+ActiveStep n h v a b h′ = ((b ≡ a) × (h′ ≡ h) × ¬ (node NUMBER a (node TOP a v) ≡ 0)) ⊎ NumberedActive n h v a b h′
 
 -- the number at j is the first, or one that came before j, or the next after these
 abbrev pub Prior : (ℕ → ℕ) → ℕ → Type 0
@@ -66,27 +66,27 @@ pub record ActiveNumbers (n i h : ℕ) (act top nr rep live : ℕ → ℕ) : Typ
   pub order : (j : ℕ) → j < i → Prior (λ j. nr (top (act j))) j
 
 pub record NumberingActives (n k : ℕ) (a : List ℕ) (i h : ℕ) (w : List ℕ) : Type 0 where
-  pub rest : OnlyFields (7 ∷ 10 ∷ 11 ∷ []) n a w
-  pub actives : ActiveNumbers n i h (node 1 a) (node 6 a) (node 10 w) (node 11 w) (node 7 w)
+  pub rest : OnlyFields (LIVE ∷ NUMBER ∷ MEMBER ∷ []) n a w
+  pub actives : ActiveNumbers n i h (node ACTIVE a) (node TOP a) (node NUMBER w) (node MEMBER w) (node LIVE w)
 
 pub record CanNumberActives (n k : ℕ) (w : List ℕ) : Type 0 where
   pub few : n ≤ 65536
   pub room : 16 * n ≤ length w
   pub less : k ≤ n
-  pub active : (i : ℕ) → i < k → node 1 w i < n
-  pub top-fit : (v : ℕ) → v < n → node 6 w v < n
-  pub none : (v : ℕ) → v < n → (node 10 w v ≡ 0) × (node 7 w v ≡ 0)
+  pub active : (i : ℕ) → i < k → node ACTIVE w i < n
+  pub top-fit : (v : ℕ) → v < n → node TOP w v < n
+  pub none : (v : ℕ) → v < n → (node NUMBER w v ≡ 0) × (node LIVE w v ≡ 0)
 
 -- v's class gets the next number, where it has none and two branches
 pub record NumberedOther (n h v : ℕ) (a b : List ℕ) (h′ : ℕ) : Type 0 where
-  pub new : node 10 a (node 6 a v) ≡ 0
-  pub seen : ¬ (node 4 a v ≡ 0)
-  pub two : ¬ (node 9 a (node 6 a v) ≡ 0)
+  pub new : node NUMBER a (node TOP a v) ≡ 0
+  pub seen : ¬ (node POSITION a v ≡ 0)
+  pub two : ¬ (node OTHER a (node TOP a v) ≡ 0)
   pub more : h′ ≡ h + 1
-  pub is : Assigned n h v (node 6 a v) a b
+  pub is : Assigned n h v (node TOP a v) a b
 
 abbrev pub OtherStep : ℕ → ℕ → ℕ → List ℕ → List ℕ → ℕ → Type 0
-OtherStep n h v a b h′ = ((b ≡ a) × (h′ ≡ h) × (¬ (node 4 a v ≡ 0) → ¬ (node 9 a (node 6 a v) ≡ 0) → ¬ (node 10 a (node 6 a v) ≡ 0))) ⊎ NumberedOther n h v a b h′
+OtherStep n h v a b h′ = ((b ≡ a) × (h′ ≡ h) × (¬ (node POSITION a v ≡ 0) → ¬ (node OTHER a (node TOP a v) ≡ 0) → ¬ (node NUMBER a (node TOP a v) ≡ 0))) ⊎ NumberedOther n h v a b h′
 
 -- of the classes that had no number those with two branches and a node below v have got theirs, by their smallest nodes
 pub record OtherNumbers (n h₀ v h : ℕ) (pos top other nr₀ nr rep₀ rep : ℕ → ℕ) : Type 0 where
@@ -100,33 +100,33 @@ pub record OtherNumbers (n h₀ v h : ℕ) (pos top other nr₀ nr rep₀ rep : 
   pub rises : (i j : ℕ) → h₀ ≤ i → i < j → j < h → rep i < rep j
 
 pub record NumberingOthers (n h₀ : ℕ) (a : List ℕ) (v h : ℕ) (w : List ℕ) : Type 0 where
-  pub rest : OnlyFields (10 ∷ 11 ∷ []) n a w
-  pub others : OtherNumbers n h₀ v h (node 4 a) (node 6 a) (node 9 a) (node 10 a) (node 10 w) (node 11 a) (node 11 w)
+  pub rest : OnlyFields (NUMBER ∷ MEMBER ∷ []) n a w
+  pub others : OtherNumbers n h₀ v h (node POSITION a) (node TOP a) (node OTHER a) (node NUMBER a) (node NUMBER w) (node MEMBER a) (node MEMBER w)
 
 pub record CanNumberOthers (n h : ℕ) (w : List ℕ) : Type 0 where
   pub few : n ≤ 65536
   pub room : 16 * n ≤ length w
   pub numbers : NumbersAt n h w
-  pub top-fit : (v : ℕ) → v < n → node 6 w v < n
+  pub top-fit : (v : ℕ) → v < n → node TOP w v < n
 
 -- ---- the nearest kept class above
 pub record CanSetNearest (n : ℕ) (w : List ℕ) (v : ℕ) : Type 0 where
   pub few : n ≤ 65536
   pub room : 16 * n ≤ length w
   pub fit : v < n
-  pub par-fit : node 5 w v < n
-  pub top-fit : node 6 w (node 5 w v) < n
+  pub par-fit : node PARENT w v < n
+  pub top-fit : node TOP w (node PARENT w v) < n
 
 -- the top v gets the number of its class, or where it has none what the class above has
 pub record SetNearest (n v : ℕ) (a b : List ℕ) : Type 0 where
   pub value : ℕ
-  pub numbered : ¬ (node 10 a v ≡ 0) → value ≡ node 10 a v
-  pub up : node 10 a v ≡ 0 → value ≡ node 7 a (node 6 a (node 5 a v))
-  pub rest : OnlyFields (7 ∷ []) n a b
-  pub nearest : node 7 b ≡ update (node 7 a) v value
+  pub numbered : ¬ (node NUMBER a v ≡ 0) → value ≡ node NUMBER a v
+  pub up : node NUMBER a v ≡ 0 → value ≡ node NEAREST a (node TOP a (node PARENT a v))
+  pub rest : OnlyFields (NEAREST ∷ []) n a b
+  pub nearest : node NEAREST b ≡ update (node NEAREST a) v value
 
 abbrev pub NearestStep : ℕ → ℕ → List ℕ → List ℕ → Type 0
-NearestStep n v a b = ((b ≡ a) × ¬ (node 6 a v ≡ v)) ⊎ SetNearest n v a b
+NearestStep n v a b = ((b ≡ a) × ¬ (node TOP a v ≡ v)) ⊎ SetNearest n v a b
 
 -- the same of the tops up to place i
 pub record NearestNumbers (n i : ℕ) (pos par te top nr near : ℕ → ℕ) : Type 0 where
@@ -134,8 +134,8 @@ pub record NearestNumbers (n i : ℕ) (pos par te top nr near : ℕ → ℕ) : T
   pub up : (c : ℕ) → c < n → 0 < pos c → pos c ≤ i → top c ≡ c → ¬ (te c ≡ 0) → nr c ≡ 0 → near c ≡ near (top (par c))
 
 pub record NearestLoop (n : ℕ) (a : List ℕ) (i : ℕ) (w : List ℕ) : Type 0 where
-  pub rest : OnlyFields (7 ∷ []) n a w
-  pub nearest : NearestNumbers n i (node 4 a) (node 5 a) (node 13 a) (node 6 a) (node 10 a) (node 7 w)
+  pub rest : OnlyFields (NEAREST ∷ []) n a w
+  pub nearest : NearestNumbers n i (node POSITION a) (node PARENT a) (node EDGE a) (node TOP a) (node NUMBER a) (node NEAREST w)
 
 pub record CanFindNearest (n seen : ℕ) (w : List ℕ) : Type 0 where
   pub few : n ≤ 65536
@@ -146,18 +146,18 @@ pub record CanSetParent (n : ℕ) (w : List ℕ) (x : ℕ) : Type 0 where
   pub few : n ≤ 65536
   pub room : 16 * n ≤ length w
   pub fit : x < n
-  pub rep-fit : node 11 w x < n
-  pub top-fit : node 6 w (node 11 w x) < n
-  pub par-fit : node 5 w (node 6 w (node 11 w x)) < n
-  pub over-fit : node 6 w (node 5 w (node 6 w (node 11 w x))) < n
+  pub rep-fit : node MEMBER w x < n
+  pub top-fit : node TOP w (node MEMBER w x) < n
+  pub par-fit : node PARENT w (node TOP w (node MEMBER w x)) < n
+  pub over-fit : node TOP w (node PARENT w (node TOP w (node MEMBER w x))) < n
 
 -- number x gets what the class above its class has; a root's class gets 0
 pub record SetParent (n x : ℕ) (a b : List ℕ) : Type 0 where
   pub value : ℕ
-  pub none : node 13 a (node 6 a (node 11 a x)) ≡ 0 → value ≡ 0
-  pub some : ¬ (node 13 a (node 6 a (node 11 a x)) ≡ 0) → value ≡ node 7 a (node 6 a (node 5 a (node 6 a (node 11 a x))))
-  pub rest : OnlyFields (9 ∷ []) n a b
-  pub parents : node 9 b ≡ update (node 9 a) x value
+  pub none : node EDGE a (node TOP a (node MEMBER a x)) ≡ 0 → value ≡ 0
+  pub some : ¬ (node EDGE a (node TOP a (node MEMBER a x)) ≡ 0) → value ≡ node NEAREST a (node TOP a (node PARENT a (node TOP a (node MEMBER a x))))
+  pub rest : OnlyFields (ABOVE ∷ []) n a b
+  pub parents : node ABOVE b ≡ update (node ABOVE a) x value
 
 -- the same of the first i numbers
 pub record ParentNumbers (i : ℕ) (par te top near rep up : ℕ → ℕ) : Type 0 where
@@ -165,8 +165,8 @@ pub record ParentNumbers (i : ℕ) (par te top near rep up : ℕ → ℕ) : Type
   pub some : (x : ℕ) → x < i → ¬ (te (top (rep x)) ≡ 0) → up x ≡ near (top (par (top (rep x))))
 
 pub record ParentLoop (n : ℕ) (a : List ℕ) (i : ℕ) (w : List ℕ) : Type 0 where
-  pub rest : OnlyFields (9 ∷ []) n a w
-  pub parents : ParentNumbers i (node 5 a) (node 13 a) (node 6 a) (node 7 a) (node 11 a) (node 9 w)
+  pub rest : OnlyFields (ABOVE ∷ []) n a w
+  pub parents : ParentNumbers i (node PARENT a) (node EDGE a) (node TOP a) (node NEAREST a) (node MEMBER a) (node ABOVE w)
 
 pub record CanSetParents (n h : ℕ) (w : List ℕ) : Type 0 where
   pub few : n ≤ 65536

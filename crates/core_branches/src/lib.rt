@@ -1,7 +1,8 @@
-ghost use mathlib.Core.Path.{_≡_};
-ghost use Prim.Native.Nat.{ℕ, _+_, _*_, _<_, _≤_};
+use core_words::*;
+ghost use Prim.Native.Nat.{_+_};
 ghost use Rattle.core_branches.specs.BranchCounts.{CanReport, Report, CanCount, Counting};
-ghost use Rattle.core_branches.specs.Numbers.{CanAssign, Assigned, CanNumber, ActiveStep, CanNumberActives, NumberingActives, OtherStep, CanNumberOthers, NumberingOthers, CanSetNearest, NearestStep, CanFindNearest, NearestLoop, CanSetParent, SetParent, CanSetParents, ParentLoop};
+ghost use Rattle.core_branches.specs.Numbers.{CanAssign, Assigned, CanNumber, ActiveStep, CanNumberActives, NumberingActives, OtherStep, CanNumberOthers, NumberingOthers};
+ghost use Rattle.core_branches.specs.Numbers.{CanSetNearest, NearestStep, CanFindNearest, NearestLoop, CanSetParent, SetParent, CanSetParents, ParentLoop};
 ghost use Rattle.core_branches.specs.Classes.{CanNumberClasses, ClassNumbers};
 
 // The class with the top t, which has no number, gets the number h, by its node v.
@@ -9,8 +10,8 @@ fn assign_number(work: &mut [u32], n: usize, h: usize, v: usize, t: usize)
     requires { ⌜ CanAssign n h (now work) v t ⌝ }
     ensures { λ _. ⌜ Assigned n h v t (now (work .entry)) (now (work .exit)) ⌝ }
 {
-    core_words::put(work, h, 11, v);
-    core_words::put(work, t, 10, h + 1);
+    core_words::put(work, h, MEMBER, v);
+    core_words::put(work, t, NUMBER, h + 1);
 }
 
 // The class of the active node v gets the next number where it has none.
@@ -18,13 +19,13 @@ fn number_active(work: &mut [u32], n: usize, h: usize, v: usize) -> usize
     requires { ⌜ CanNumber n h (now work) v ⌝ }
     ensures { λ r. ⌜ ActiveStep n h v (now (work .entry)) (now (work .exit)) r ⌝ }
 {
-    let t = core_words::get(work, v, 6);
-    let x = core_words::get(work, t, 10);
+    let t = core_words::get(work, v, TOP);
+    let x = core_words::get(work, t, NUMBER);
     if x != 0 {
         return h;
     }
     assign_number(work, n, h, v, t);
-    core_words::put(work, t, 7, v + 1);
+    core_words::put(work, t, LIVE, v + 1);
     h + 1
 }
 
@@ -35,7 +36,7 @@ fn number_actives(work: &mut [u32], n: usize, k: usize) -> usize
 {
     let mut h = 0;
     for i in 0..k {
-        let v = core_words::get(work, i, 1);
+        let v = core_words::get(work, i, ACTIVE);
         h = number_active(work, n, h, v);
     }
     h
@@ -46,24 +47,24 @@ fn report_branch(work: &mut [u32], n: usize, v: usize)
     requires { ⌜ CanReport n (now work) v ⌝ }
     ensures { λ _. ⌜ Report n v (now (work .entry)) (now (work .exit)) ⌝ }
 {
-    let t = core_words::get(work, v, 6);
+    let t = core_words::get(work, v, TOP);
     if t != v {
         return;
     }
-    let e = core_words::get(work, v, 13);
+    let e = core_words::get(work, v, EDGE);
     if e == 0 {
         return;
     }
-    let l = core_words::get(work, v, 7);
+    let l = core_words::get(work, v, LIVE);
     if l == 0 {
         return;
     }
-    let p = core_words::get(work, v, 5);
-    let q = core_words::get(work, p, 6);
-    let old = core_words::get(work, q, 8);
-    core_words::put(work, q, 7, l);
-    core_words::put(work, q, 9, old);
-    core_words::put(work, q, 8, v + 1);
+    let p = core_words::get(work, v, PARENT);
+    let q = core_words::get(work, p, TOP);
+    let old = core_words::get(work, q, BRANCH);
+    core_words::put(work, q, LIVE, l);
+    core_words::put(work, q, OTHER, old);
+    core_words::put(work, q, BRANCH, v + 1);
 }
 
 // The branches of each class, two of them where there are two: against the order, so that a class reports after all that lies below it.
@@ -74,7 +75,7 @@ fn count_branches(work: &mut [u32], n: usize, seen: usize)
     let mut i = seen;
     while i != 0 {
         i -= 1;
-        let v = core_words::get(work, i, 3);
+        let v = core_words::get(work, i, ORDER);
         report_branch(work, n, v);
     }
 }
@@ -84,16 +85,16 @@ fn number_other(work: &mut [u32], n: usize, h: usize, v: usize) -> usize
     requires { ⌜ CanNumber n h (now work) v ⌝ }
     ensures { λ r. ⌜ OtherStep n h v (now (work .entry)) (now (work .exit)) r ⌝ }
 {
-    let p = core_words::get(work, v, 4);
+    let p = core_words::get(work, v, POSITION);
     if p == 0 {
         return h;
     }
-    let t = core_words::get(work, v, 6);
-    let x = core_words::get(work, t, 10);
+    let t = core_words::get(work, v, TOP);
+    let x = core_words::get(work, t, NUMBER);
     if x != 0 {
         return h;
     }
-    let o = core_words::get(work, t, 9);
+    let o = core_words::get(work, t, OTHER);
     if o == 0 {
         return h;
     }
@@ -118,19 +119,19 @@ fn nearest_at(work: &mut [u32], n: usize, v: usize)
     requires { ⌜ CanSetNearest n (now work) v ⌝ }
     ensures { λ _. ⌜ NearestStep n v (now (work .entry)) (now (work .exit)) ⌝ }
 {
-    let t = core_words::get(work, v, 6);
+    let t = core_words::get(work, v, TOP);
     if t != v {
         return;
     }
-    let x = core_words::get(work, v, 10);
+    let x = core_words::get(work, v, NUMBER);
     if x != 0 {
-        core_words::put(work, v, 7, x);
+        core_words::put(work, v, NEAREST, x);
         return;
     }
-    let p = core_words::get(work, v, 5);
-    let q = core_words::get(work, p, 6);
-    let y = core_words::get(work, q, 7);
-    core_words::put(work, v, 7, y);
+    let p = core_words::get(work, v, PARENT);
+    let q = core_words::get(work, p, TOP);
+    let y = core_words::get(work, q, NEAREST);
+    core_words::put(work, v, NEAREST, y);
 }
 
 // The nearest kept class at or above each class, by its number: in order, so that the class above has it already.
@@ -139,7 +140,7 @@ fn nearest_kept(work: &mut [u32], n: usize, seen: usize)
     ensures { λ _. ⌜ NearestLoop n (now (work .entry)) seen (now (work .exit)) ⌝ }
 {
     for i in 0..seen {
-        let v = core_words::get(work, i, 3);
+        let v = core_words::get(work, i, ORDER);
         nearest_at(work, n, v);
     }
 }
@@ -149,17 +150,17 @@ fn parent_number(work: &mut [u32], n: usize, x: usize)
     requires { ⌜ CanSetParent n (now work) x ⌝ }
     ensures { λ _. ⌜ SetParent n x (now (work .entry)) (now (work .exit)) ⌝ }
 {
-    let v = core_words::get(work, x, 11);
-    let t = core_words::get(work, v, 6);
-    let e = core_words::get(work, t, 13);
+    let v = core_words::get(work, x, MEMBER);
+    let t = core_words::get(work, v, TOP);
+    let e = core_words::get(work, t, EDGE);
     if e == 0 {
-        core_words::put(work, x, 9, 0);
+        core_words::put(work, x, ABOVE, 0);
         return;
     }
-    let p = core_words::get(work, t, 5);
-    let q = core_words::get(work, p, 6);
-    let y = core_words::get(work, q, 7);
-    core_words::put(work, x, 9, y);
+    let p = core_words::get(work, t, PARENT);
+    let q = core_words::get(work, p, TOP);
+    let y = core_words::get(work, q, NEAREST);
+    core_words::put(work, x, ABOVE, y);
 }
 
 // The same for each of the h numbers.

@@ -75,7 +75,8 @@ module _ {n m : ℕ} {to pos par te root : ℕ → ℕ} (f : Forest n m to pos p
   unfolding descendants ancestorWithin
   descendants-unseen u z = rw z refl
 
-  module _ (t : ℕ → ℕ) (tops : Tops n pos t) (done : (D : NodeSet) → FollowsParents n par t D → (e : ℕ) → e < m → NonTreeEdge to pos te e → D (to (2 * e)) ≡ D (to (2 * e + 1))) (ta : t a ≡ a) where
+  module _ (t : ℕ → ℕ) (tops : Tops n pos t)
+      (done : (D : NodeSet) → FollowsParents n par t D → (e : ℕ) → e < m → NonTreeEdge to pos te e → D (to (2 * e)) ≡ D (to (2 * e + 1))) (ta : t a ≡ a) where
     pub descendants-follow : FollowsParents n par t descendants
     descendants-follow u l ne = descendants-parent u l (omega (arith, tops .up u l ne)) (λ e. ne (ap t e ∙ ta ∙ sym e))
 
@@ -94,7 +95,8 @@ module _ {n m : ℕ} {to pos par te root : ℕ → ℕ} (f : Forest n m to pos p
     edge-inside e l ne = onBool (eqb (pos (to (2 * e))) 0)
         (λ q.
         let z : pos (to (2 * e)) ≡ 0 = eqb-true _ _ q in
-        let y : pos (to (2 * e + 1)) ≡ 0 = onBool (eqb (pos (to (2 * e + 1))) 0) (λ r. eqb-true _ _ r) (λ r. let ne : ¬ (pos (to (2 * e + 1)) ≡ 0) = eqb-false _ _ r in absurd (omega (arith, f .back e l (omega arith)))) in
+        let y : pos (to (2 * e + 1)) ≡ 0 = onBool (eqb (pos (to (2 * e + 1))) 0) (λ r. eqb-true _ _ r)
+        (λ r. let ne : ¬ (pos (to (2 * e + 1)) ≡ 0) = eqb-false _ _ r in absurd (omega (arith, f .back e l (omega arith)))) in
         descendants-unseen (to (2 * e)) z ∙ sym (descendants-unseen (to (2 * e + 1)) y))
         (λ q.
         let nz : ¬ (pos (to (2 * e)) ≡ 0) = eqb-false _ _ q in

@@ -11,15 +11,15 @@ use Rattle.core_words.proofs.ChangeLaws.{only-none, only-then-put}
 use Rattle.core_components.specs.Tops.{CanCompress, CanFind, Compressed, FindPath, OwnTops, Tops}
 use Rattle.theory_graph.proofs.Booleans.{onBool}
 use Rattle.core_words.proofs.FieldLaws.{update-at}
-use Rattle.core_words.specs.Fields.{Put, node, update}
+use Rattle.core_words.specs.Fields.{ORDER, POSITION, TOP, Put, node, update}
 
 pub own-none : (n : ℕ) (w : List ℕ) → OwnTops n 0 w w
 own-none n w = record { rest = only-none n w; self = λ u l. absurd (omega arith) }
 
-pub own-more : {n v : ℕ} {a b c : List ℕ} → v < n → OwnTops n v a b → Put 6 v v b c → OwnTops n (v + 1) a c
+pub own-more : {n v : ℕ} {a b c : List ℕ} → v < n → OwnTops n v a b → Put TOP v v b c → OwnTops n (v + 1) a c
 own-more {n} {v} {a} {b} l o p = record {
   rest = only-then-put refl l (o .rest) p;
-  self = rw (p .here) (update-at (λ u y. u < v + 1 → y ≡ u) (node 6 b) v v (λ _. refl) (λ u ne i. o .self u (omega arith)));
+  self = rw (p .here) (update-at (λ u y. u < v + 1 → y ≡ u) (node TOP b) v v (λ _. refl) (λ u ne i. o .self u (omega arith)));
 }
 
 -- one step: v goes to the top of its top
@@ -32,11 +32,11 @@ compress-step n pos t v l h = onBool (eqb (t v) v)
     rw (s, z) (path-none n pos t v h l))
     (λ q. path-halve n pos t t v v (path-none n pos t v h l) (eqb-false (t v) v q) .0)
 
-pub compress-fits : {n v t : ℕ} {w : List ℕ} → CanFind n w v → t ≡ node 6 w v → t < n
+pub compress-fits : {n v t : ℕ} {w : List ℕ} → CanFind n w v → t ≡ node TOP w v → t < n
 compress-fits {v = v} f e = rw e (f .tops .fit v (f .fit))
 
-pub compressed : {v t u : ℕ} {w w′ : List ℕ} → t ≡ node 6 w v → u ≡ node 6 w t → Put 6 v u w w′ → Put 6 v (node 6 w (node 6 w v)) w w′
-compressed {v} {t} {u} {w} e q p = let z : u ≡ node 6 w (node 6 w v) = q ∙ ap (node 6 w) e in rw z at p
+pub compressed : {v t u : ℕ} {w w′ : List ℕ} → t ≡ node TOP w v → u ≡ node TOP w t → Put TOP v u w w′ → Put TOP v (node TOP w (node TOP w v)) w w′
+compressed {v} {t} {u} {w} e q p = let z : u ≡ node TOP w (node TOP w v) = q ∙ ap (node TOP w) e in rw z at p
 
 pub compressed-none : {n seen : ℕ} {w : List ℕ} → CanCompress n seen w → Compressed n 0 w w
 compressed-none {n} {w = w} f = record {
@@ -44,28 +44,28 @@ compressed-none {n} {w = w} f = record {
   tops = f .tops;
   back = λ u l e. e;
   keep = λ D s. s;
-  flat = λ u l z. onBool (eqb (node 6 w u) u)
-      (λ q. ap (node 6 w) (eqb-true (node 6 w u) u q))
-      (λ q. absurd (omega (arith, f .tops .up u l (eqb-false (node 6 w u) u q))));
+  flat = λ u l z. onBool (eqb (node TOP w u) u)
+      (λ q. ap (node TOP w) (eqb-true (node TOP w u) u q))
+      (λ q. absurd (omega (arith, f .tops .up u l (eqb-false (node TOP w u) u q))));
 }
 
-module _ {n seen i v : ℕ} {a b : List ℕ} (f : CanCompress n seen a) (g : Compressed n i a b) (l : i < seen) (ev : v ≡ node 3 b i) where
-  k3 : node 3 b ≡ node 3 a
-  k3 = g .rest .nodes 3 (omega arith) refl
+module _ {n seen i v : ℕ} {a b : List ℕ} (f : CanCompress n seen a) (g : Compressed n i a b) (l : i < seen) (ev : v ≡ node ORDER b i) where
+  k3 : node ORDER b ≡ node ORDER a
+  k3 = g .rest .nodes ORDER (omega arith) refl
 
-  k4 : node 4 b ≡ node 4 a
-  k4 = g .rest .nodes 4 (omega arith) refl
+  k4 : node POSITION b ≡ node POSITION a
+  k4 = g .rest .nodes POSITION (omega arith) refl
 
   v-fits : v < n
   v-fits = rw (ev, k3) (f .place i l .0)
 
-  v-at : node 4 a v ≡ i + 1
+  v-at : node POSITION a v ≡ i + 1
   v-at = rw (ev, k3) (f .place i l .1)
 
   pub compressed-can : CanFind n b v
   compressed-can = record { fit = v-fits; room = rw (g .rest .same) (f .room); tops = rw k4 (g .tops) }
 
-  pub compressed-more : {c : List ℕ} → Put 6 v (node 6 b (node 6 b v)) b c → Compressed n (i + 1) a c
+  pub compressed-more : {c : List ℕ} → Put TOP v (node TOP b (node TOP b v)) b c → Compressed n (i + 1) a c
   compressed-more {c} p = record {
     rest = only-then-put refl v-fits (g .rest) p;
     tops = rw (p .here) (w .tops);
@@ -75,13 +75,13 @@ module _ {n seen i v : ℕ} {a b : List ℕ} (f : CanCompress n seen a) (g : Com
   }
     where
       t : ℕ → ℕ
-      t = node 6 b
+      t = node TOP b
 
       x : ℕ
       x = t (t v)
 
-      w : FindPath n (node 4 a) t (update t v (t (t v))) v (t (t v))
-      w = compress-step n (node 4 a) t v v-fits (g .tops)
+      w : FindPath n (node POSITION a) t (update t v (t (t v))) v (t (t v))
+      w = compress-step n (node POSITION a) t v v-fits (g .tops)
 
       -- the new top is a top
       tx : t x ≡ x
@@ -92,15 +92,15 @@ module _ {n seen i v : ℕ} {a b : List ℕ} (f : CanCompress n seen a) (g : Com
       tx′ : update t v x x ≡ x
       tx′ = update-at (λ u y. u ≡ x → y ≡ x) t v x (λ _. refl) (λ u _ e. ap t e ∙ tx) x refl
 
-      earlier : (u : ℕ) → u < n → (u ≡ v → ⊥) → node 4 a u ≤ i + 1 → node 4 a u ≤ i
-      earlier u j ne q = onBool (eqb (node 4 a u) (i + 1))
+      earlier : (u : ℕ) → u < n → (u ≡ v → ⊥) → node POSITION a u ≤ i + 1 → node POSITION a u ≤ i
+      earlier u j ne q = onBool (eqb (node POSITION a u) (i + 1))
           (λ r.
-          let z : node 4 a u ≡ i + 1 = eqb-true (node 4 a u) (i + 1) r in
-          absurd (ne (sym (f .place-of u j (omega arith) .1) ∙ ap (λ k. node 3 a (k - 1)) (z ∙ sym v-at) ∙ f .place-of v v-fits (omega (arith, v-at)) .1)))
-          (λ r. let z : ¬ (node 4 a u ≡ i + 1) = eqb-false (node 4 a u) (i + 1) r in omega arith)
+          let z : node POSITION a u ≡ i + 1 = eqb-true (node POSITION a u) (i + 1) r in
+          absurd (ne (sym (f .place-of u j (omega arith) .1) ∙ ap (λ k. node ORDER a (k - 1)) (z ∙ sym v-at) ∙ f .place-of v v-fits (omega (arith, v-at)) .1)))
+          (λ r. let z : ¬ (node POSITION a u ≡ i + 1) = eqb-false (node POSITION a u) (i + 1) r in omega arith)
 
-      flat : (u : ℕ) → u < n → node 4 a u ≤ i + 1 → update t v x (update t v x u) ≡ update t v x u
-      flat = update-at (λ u y. u < n → node 4 a u ≤ i + 1 → update t v x y ≡ y) t v x
+      flat : (u : ℕ) → u < n → node POSITION a u ≤ i + 1 → update t v x (update t v x u) ≡ update t v x u
+      flat = update-at (λ u y. u < n → node POSITION a u ≤ i + 1 → update t v x y ≡ y) t v x
           (λ _ _. tx′)
           (λ u ne j q.
           let e : t (t u) ≡ t u = g .flat u j (earlier u j ne q) in

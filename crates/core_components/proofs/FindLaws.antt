@@ -11,7 +11,7 @@ use Rattle.core_components.specs.Tops.{FindPath, OnlyTops, Tops}
 use Rattle.theory_graph.proofs.Booleans.{onBool}
 use Rattle.core_words.proofs.ChangeLaws.{only-none, only-then-put}
 use Rattle.core_words.proofs.FieldLaws.{update-at}
-use Rattle.core_words.specs.Fields.{Put, node, update}
+use Rattle.core_words.specs.Fields.{POSITION, TOP, Put, node, update}
 
 module _ (n : ℕ) (pos : ℕ → ℕ) where
   pub path-none : (t : ℕ → ℕ) (v : ℕ) → Tops n pos t → v < n → FindPath n pos t t v v
@@ -65,27 +65,27 @@ module _ (n : ℕ) (pos : ℕ → ℕ) where
 -- the loop of `find`
 pub record Finding (n v₀ : ℕ) (a : List ℕ) (v u : ℕ) (b : List ℕ) : Type 0 where
   pub rest : OnlyTops n a b
-  pub path : FindPath n (node 4 a) (node 6 a) (node 6 b) v₀ v
-  pub next : u ≡ node 6 b v
+  pub path : FindPath n (node POSITION a) (node TOP a) (node TOP b) v₀ v
+  pub next : u ≡ node TOP b v
   pub fit : u < n
   pub room : 16 * n ≤ length b
 
-pub finding-none : {n v u : ℕ} {a : List ℕ} → Tops n (node 4 a) (node 6 a) → v < n → 16 * n ≤ length a → u ≡ node 6 a v → Finding n v a v u a
+pub finding-none : {n v u : ℕ} {a : List ℕ} → Tops n (node POSITION a) (node TOP a) → v < n → 16 * n ≤ length a → u ≡ node TOP a v → Finding n v a v u a
 finding-none {n} {v} {u} {a} h l r e = record {
   rest = only-none n a;
-  path = path-none n (node 4 a) (node 6 a) v h l;
+  path = path-none n (node POSITION a) (node TOP a) v h l;
   next = e;
   fit = rw e (h .fit v l);
   room = r;
 }
 
-pub finding-more : {n v₀ v u x y : ℕ} {a b c : List ℕ} → Finding n v₀ a v u b → (u ≡ v → ⊥) → x ≡ node 6 b u → Put 6 v x b c → y ≡ node 6 c x
-    → Finding n v₀ a x y c × (node 4 a x < node 4 a v)
+pub finding-more : {n v₀ v u x y : ℕ} {a b c : List ℕ} → Finding n v₀ a v u b → (u ≡ v → ⊥) → x ≡ node TOP b u → Put TOP v x b c → y ≡ node TOP c x
+    → Finding n v₀ a x y c × (node POSITION a x < node POSITION a v)
 finding-more {n} {v₀} {v} {u} {x} {y} {a} {b} {c} f ne ex p ey =
-    let e : x ≡ node 6 b (node 6 b v) = rw ex (ap (node 6 b) (f .next)) in
-    let m = path-halve n (node 4 a) (node 6 a) (node 6 b) v₀ v (f .path) (λ z. ne (f .next ∙ z)) in
-    let q : node 6 c ≡ update (node 6 b) v (node 6 b (node 6 b v)) = p .here ∙ ap (update (node 6 b) v) e in
-    let w : FindPath n (node 4 a) (node 6 a) (node 6 c) v₀ x = rw (q, e) (m .0) in (
+    let e : x ≡ node TOP b (node TOP b v) = rw ex (ap (node TOP b) (f .next)) in
+    let m = path-halve n (node POSITION a) (node TOP a) (node TOP b) v₀ v (f .path) (λ z. ne (f .next ∙ z)) in
+    let q : node TOP c ≡ update (node TOP b) v (node TOP b (node TOP b v)) = p .here ∙ ap (update (node TOP b) v) e in
+    let w : FindPath n (node POSITION a) (node TOP a) (node TOP c) v₀ x = rw (q, e) (m .0) in (
       record {
         rest = only-then-put refl (f .path .fit) (f .rest) p;
         path = w;

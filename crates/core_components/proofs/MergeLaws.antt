@@ -13,7 +13,7 @@ use Rattle.core_components.specs.Tops.{AllowsMerge, CanMergePath, Follow
 use Rattle.core_forest.specs.Forest.{Forest, ForestAt, HasParent, Joins, edgesBelow}
 use Rattle.theory_graph.specs.Cut.{cut}
 use Rattle.theory_graph.specs.Graph.{NodeSet}
-use Rattle.core_words.specs.Fields.{half, node}
+use Rattle.core_words.specs.Fields.{EDGE, PARENT, POSITION, ROOT, TO, TOP, half, node}
 
 module _ {n m : ℕ} {to pos par te root : ℕ → ℕ} (f : Forest n m to pos par te root) where
   pub order-of : SearchOrder n pos par root
@@ -82,27 +82,27 @@ ready-of t = record { few = t .few; room = omega (arith, t .room); tops = t .top
 
 -- a change of the tops leaves the forest as it was
 pub forest-still : {n m : ℕ} {w w′ : List ℕ} → OnlyTops n w w′ → ForestAt n m w → ForestAt n m w′
-forest-still o g = rw (o .halves 0, o .nodes 4 (omega arith) refl, o .nodes 5 (omega arith) refl, o .nodes 12 (omega arith) refl, o .nodes 13 (omega arith) refl) g
+forest-still o g = rw (o .halves TO, o .nodes POSITION (omega arith) refl, o .nodes PARENT (omega arith) refl, o .nodes ROOT (omega arith) refl, o .nodes EDGE (omega arith) refl) g
 
-module _ {n m e x y : ℕ} {w : List ℕ} (t : CanMergeEdge n m e w) (ex : x ≡ half n 0 w (2 * e)) (ey : y ≡ half n 0 w (2 * e + 1)) where
+module _ {n m e x y : ℕ} {w : List ℕ} (t : CanMergeEdge n m e w) (ex : x ≡ half n TO w (2 * e)) (ey : y ≡ half n TO w (2 * e + 1)) where
   pub x-fits : x < n
   x-fits = rw ex (t .forest .ends (2 * e) (omega (arith, t .less)))
 
   pub y-fits : y < n
   y-fits = rw ey (t .forest .ends (2 * e + 1) (omega (arith, t .less)))
 
-  pub skip-unseen : {p : ℕ} → p ≡ node 4 w x → p ≡ 0 → EdgeMerged n e w w
-  skip-unseen {p} ep z = inl (refl, λ l. omega (arith, l .seen, ap (node 4 w) ex))
+  pub skip-unseen : {p : ℕ} → p ≡ node POSITION w x → p ≡ 0 → EdgeMerged n e w w
+  skip-unseen {p} ep z = inl (refl, λ l. omega (arith, l .seen, ap (node POSITION w) ex))
 
-  pub skip-first : {s : ℕ} → s ≡ node 13 w x → s ≡ e + 1 → EdgeMerged n e w w
-  skip-first {s} es z = inl (refl, λ l. l .first (sym (ap (node 13 w) ex) ∙ sym es ∙ z))
+  pub skip-first : {s : ℕ} → s ≡ node EDGE w x → s ≡ e + 1 → EdgeMerged n e w w
+  skip-first {s} es z = inl (refl, λ l. l .first (sym (ap (node EDGE w) ex) ∙ sym es ∙ z))
 
-  pub skip-second : {s : ℕ} → s ≡ node 13 w y → s ≡ e + 1 → EdgeMerged n e w w
-  skip-second {s} es z = inl (refl, λ l. l .second (sym (ap (node 13 w) ey) ∙ sym es ∙ z))
+  pub skip-second : {s : ℕ} → s ≡ node EDGE w y → s ≡ e + 1 → EdgeMerged n e w w
+  skip-second {s} es z = inl (refl, λ l. l .second (sym (ap (node EDGE w) ey) ∙ sym es ∙ z))
 
-  module _ {p : ℕ} (ep : p ≡ node 4 w x) (z : p ≡ 0 → ⊥) where
-    seen-x : 0 < node 4 w (half n 0 w (2 * e))
-    seen-x = omega (arith, ap (node 4 w) ex)
+  module _ {p : ℕ} (ep : p ≡ node POSITION w x) (z : p ≡ 0 → ⊥) where
+    seen-x : 0 < node POSITION w (half n TO w (2 * e))
+    seen-x = omega (arith, ap (node POSITION w) ex)
 
     pub to-path : CanMergePath n w × SameTree n w x y
     to-path =
@@ -117,13 +117,13 @@ module _ {n m e x y : ℕ} {w : List ℕ} (t : CanMergeEdge n m e w) (ex : x ≡
           },
         )
 
-    pub merged-one : {s r : ℕ} {w′ : List ℕ} → s ≡ node 13 w x → (s ≡ e + 1 → ⊥) → r ≡ node 13 w y → (r ≡ e + 1 → ⊥) → MergedPath n w x y w′ → EdgeMerged n e w w′
+    pub merged-one : {s r : ℕ} {w′ : List ℕ} → s ≡ node EDGE w x → (s ≡ e + 1 → ⊥) → r ≡ node EDGE w y → (r ≡ e + 1 → ⊥) → MergedPath n w x y w′ → EdgeMerged n e w w′
     merged-one es ns er nr j = inr (
       rw (ex, ey) at j,
       record {
         seen = seen-x;
-        first = λ q. ns (es ∙ ap (node 13 w) ex ∙ q);
-        second = λ q. nr (er ∙ ap (node 13 w) ey ∙ q);
+        first = λ q. ns (es ∙ ap (node EDGE w) ex ∙ q);
+        second = λ q. nr (er ∙ ap (node EDGE w) ey ∙ q);
       },
     )
 
@@ -137,20 +137,20 @@ merged-none {n} {m} {w} h = record {
 }
 
 module _ {n m e : ℕ} {w₀ w : List ℕ} (h : CanMerge n m w₀) (t : EdgesMerged n m w₀ e w) (l : e < m) where
-  k0 : half n 0 w ≡ half n 0 w₀
-  k0 = t .rest .halves 0
+  k0 : half n TO w ≡ half n TO w₀
+  k0 = t .rest .halves TO
 
-  k4 : node 4 w ≡ node 4 w₀
-  k4 = t .rest .nodes 4 (omega arith) refl
+  k4 : node POSITION w ≡ node POSITION w₀
+  k4 = t .rest .nodes POSITION (omega arith) refl
 
-  k5 : node 5 w ≡ node 5 w₀
-  k5 = t .rest .nodes 5 (omega arith) refl
+  k5 : node PARENT w ≡ node PARENT w₀
+  k5 = t .rest .nodes PARENT (omega arith) refl
 
-  k12 : node 12 w ≡ node 12 w₀
-  k12 = t .rest .nodes 12 (omega arith) refl
+  k12 : node ROOT w ≡ node ROOT w₀
+  k12 = t .rest .nodes ROOT (omega arith) refl
 
-  k13 : node 13 w ≡ node 13 w₀
-  k13 = t .rest .nodes 13 (omega arith) refl
+  k13 : node EDGE w ≡ node EDGE w₀
+  k13 = t .rest .nodes EDGE (omega arith) refl
 
   pub merged-can : CanMergeEdge n m e w
   merged-can = record {
@@ -169,19 +169,20 @@ module _ {n m e : ℕ} {w₀ w : List ℕ} (h : CanMerge n m w₀) (t : EdgesMer
         tops = t .tops;
         sound = t .sound;
         full = t .full;
-        done = λ D c. below-more (λ e. NonTreeEdge (half n 0 w₀) (node 4 w₀) (node 13 w₀) e → D (half n 0 w₀ (2 * e)) ≡ D (half n 0 w₀ (2 * e + 1))) e (t .done D c)
+        done = λ D c. below-more (λ e. NonTreeEdge (half n TO w₀) (node POSITION w₀) (node EDGE w₀) e → D (half n TO w₀ (2 * e)) ≡ D (half n TO w₀ (2 * e + 1))) e (t .done D c)
             (λ o. absurd (p .1 (rw (k0, k4, k13) o)));
       }))
       (λ p.
       let j = p .0 in
-      let o : NonTreeEdge (half n 0 w₀) (node 4 w₀) (node 13 w₀) e = rw (k0, k4, k13) at (p .1) in
-      let full : (D : NodeSet) → FollowsParents n (node 5 w₀) (node 6 w′) D → Stable n (node 6 w′) D × (D (half n 0 w₀ (2 * e)) ≡ D (half n 0 w₀ (2 * e + 1))) = rw (k0, k5) at (j .full) in
+      let o : NonTreeEdge (half n TO w₀) (node POSITION w₀) (node EDGE w₀) e = rw (k0, k4, k13) at (p .1) in
+      let full : (D : NodeSet) → FollowsParents n (node PARENT w₀) (node TOP w′) D → Stable n (node TOP w′) D × (D (half n TO w₀ (2 * e)) ≡ D (half n TO w₀ (2 * e + 1))) =
+      rw (k0, k5) at (j .full) in
       record {
         rest = only-then (t .rest) (j .rest);
         tops = rw k4 at (j .tops);
         sound = λ U c. j .keep U (rw (k0, k4, k5, k12) (allows-merge (h .forest) U c e l o)) (t .sound U c);
         full = λ D c. full D c .0;
-        done = λ D c. below-more (λ e. NonTreeEdge (half n 0 w₀) (node 4 w₀) (node 13 w₀) e → D (half n 0 w₀ (2 * e)) ≡ D (half n 0 w₀ (2 * e + 1))) e
+        done = λ D c. below-more (λ e. NonTreeEdge (half n TO w₀) (node POSITION w₀) (node EDGE w₀) e → D (half n TO w₀ (2 * e)) ≡ D (half n TO w₀ (2 * e + 1))) e
             (t .done D (λ u i ne. c u i (λ q. ne (j .back u i q))))
             (λ _. full D c .1);
       })

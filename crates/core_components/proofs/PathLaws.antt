@@ -10,9 +10,10 @@ use lib.ListN.{length}
 use native.Mathlib.Omega.{arith}
 use borrow.Author.Tests.{eq-eqb, eqb-true, lt-ltb, ltb-true}
 use Rattle.core_words.proofs.ChangeLaws.{only-none, only-then, only-then-put}
-use Rattle.core_components.specs.Tops.{AllowsMerge, CanFind, CanMergePath, CanMergeUp, FindPath, FollowsParents, Found, MergedPath, MergedUp, MergedUpAt, OnlyTops, SameTree, SearchOrder, SeenTop, Stable, Tops}
+use Rattle.core_components.specs.Tops.{AllowsMerge, CanFind, CanMergePath, CanMergeUp, FindPath, FollowsParents, Found, MergedPath}
+use Rattle.core_components.specs.Tops.{MergedUp, MergedUpAt, OnlyTops, SameTree, SearchOrder, SeenTop, Stable, Tops}
 use Rattle.core_words.proofs.FieldLaws.{update-at, update-other, update-same}
-use Rattle.core_words.specs.Fields.{Put, node, update}
+use Rattle.core_words.specs.Fields.{PARENT, POSITION, ROOT, TOP, Put, node, update}
 
 pub merged-up : (n : ℕ) (pos par t t₁ : ℕ → ℕ) (a q : ℕ) → a < n → FindPath n pos t t₁ (par a) q → t₁ q ≡ q → t a ≡ a → pos (par a) < pos a → MergedUp n pos par t (update t₁ a q) a q
 merged-up n pos par t t₁ a q l w tq ta up = record {
@@ -38,10 +39,10 @@ merged-up n pos par t t₁ a q l w tq ta up = record {
     other e = let z : pos q ≡ pos a = ap pos e in omega (arith, w .low)
 
 -- the same at the words
-pub merged-up-at : {n a q p : ℕ} {w w₁ w₂ : List ℕ} → CanMergeUp n w a → p ≡ node 5 w a → Found n w p q w₁ → Put 6 a q w₁ w₂ → MergedUpAt n w a q w₂
+pub merged-up-at : {n a q p : ℕ} {w w₁ w₂ : List ℕ} → CanMergeUp n w a → p ≡ node PARENT w a → Found n w p q w₁ → Put TOP a q w₁ w₂ → MergedUpAt n w a q w₂
 merged-up-at {n} {a} {q} {p} {w} {w₁} {w₂} r e f k = record {
   rest = only-then-put refl (r .fit) (f .rest) k;
-  is = rw (k .here) (merged-up n (node 4 w) (node 5 w) (node 6 w) (node 6 w₁) a q (r .fit) (rw e at (f .path)) (f .top) (r .top) (r .up));
+  is = rw (k .here) (merged-up n (node POSITION w) (node PARENT w) (node TOP w) (node TOP w₁) a q (r .fit) (rw e at (f .path)) (f .top) (r .top) (r .up));
 }
 
 pub record PathStep (n : ℕ) (pos par root : ℕ → ℕ) (x y : ℕ) (t₀ t : ℕ → ℕ) (a b : ℕ) : Type 0 where
@@ -126,9 +127,9 @@ module _ (n : ℕ) (pos par root : ℕ → ℕ) (o : SearchOrder n pos par root)
 pub record PathLoop (n x y : ℕ) (w₀ : List ℕ) (a b : ℕ) (w : List ℕ) : Type 0 where
   pub rest : OnlyTops n w₀ w
   pub room : 16 * n ≤ length w
-  pub go : PathStep n (node 4 w₀) (node 5 w₀) (node 12 w₀) x y (node 6 w₀) (node 6 w) a b
+  pub go : PathStep n (node POSITION w₀) (node PARENT w₀) (node ROOT w₀) x y (node TOP w₀) (node TOP w) a b
 
-pub loop-none : {n a b : ℕ} {w : List ℕ} → CanMergePath n w → SeenTop n w a → SeenTop n w b → node 12 w a ≡ node 12 w b → PathLoop n a b w a b w
+pub loop-none : {n a b : ℕ} {w : List ℕ} → CanMergePath n w → SeenTop n w a → SeenTop n w b → node ROOT w a ≡ node ROOT w b → PathLoop n a b w a b w
 loop-none {n} {a} {b} {w} r s s′ e = record {
   rest = only-none n w;
   room = r .room;
@@ -151,16 +152,16 @@ module _ {n x y a b : ℕ} {w₀ w : List ℕ} (r : CanMergePath n w₀) (m : Pa
   loop-flip : PathLoop n x y w₀ b a w
   loop-flip = record { rest = m .rest; room = m .room; go = step-flip n _ _ _ (r .order) x y _ _ a b (m .go) }
 
-  e4 : node 4 w ≡ node 4 w₀
-  e4 = m .rest .nodes 4 (omega arith) refl
+  e4 : node POSITION w ≡ node POSITION w₀
+  e4 = m .rest .nodes POSITION (omega arith) refl
 
-  e5 : node 5 w ≡ node 5 w₀
-  e5 = m .rest .nodes 5 (omega arith) refl
+  e5 : node PARENT w ≡ node PARENT w₀
+  e5 = m .rest .nodes PARENT (omega arith) refl
 
-  loop-later : (a ≡ b → ⊥) → node 4 w b ≤ node 4 w a → node 4 w₀ b < node 4 w₀ a
+  loop-later : (a ≡ b → ⊥) → node POSITION w b ≤ node POSITION w a → node POSITION w₀ b < node POSITION w₀ a
   loop-later ne l = later n _ _ _ (r .order) x y _ _ a b (m .go) ne (rw e4 at l)
 
-  pub loop-can : (a ≡ b → ⊥) → node 4 w b ≤ node 4 w a → CanMergeUp n w a
+  pub loop-can : (a ≡ b → ⊥) → node POSITION w b ≤ node POSITION w a → CanMergeUp n w a
   loop-can ne l =
       let h = later-parent n _ _ _ (r .order) x y _ _ a b (m .go) (loop-later ne l) in
       record {
@@ -173,9 +174,9 @@ module _ {n x y a b : ℕ} {w₀ w : List ℕ} (r : CanMergePath n w₀) (m : Pa
         top = m .go .top;
       }
 
-  pub loop-more : (a ≡ b → ⊥) → node 4 w b ≤ node 4 w a → {q : ℕ} {w′ : List ℕ} → MergedUpAt n w a q w′ → PathLoop n x y w₀ q b w′ × (node 4 w₀ q < node 4 w₀ a)
+  pub loop-more : (a ≡ b → ⊥) → node POSITION w b ≤ node POSITION w a → {q : ℕ} {w′ : List ℕ} → MergedUpAt n w a q w′ → PathLoop n x y w₀ q b w′ × (node POSITION w₀ q < node POSITION w₀ a)
   loop-more ne l {q} {w′} k =
-      let i : MergedUp n (node 4 w₀) (node 5 w₀) (node 6 w) (node 6 w′) a q = rw (e4, e5) at (k .is) in (
+      let i : MergedUp n (node POSITION w₀) (node PARENT w₀) (node TOP w) (node TOP w′) a q = rw (e4, e5) at (k .is) in (
         record {
           rest = only-then (m .rest) (k .rest);
           room = rw (k .rest .same) (m .room);
@@ -185,10 +186,10 @@ module _ {n x y a b : ℕ} {w₀ w : List ℕ} (r : CanMergePath n w₀) (m : Pa
       )
 
 module _ {n x y a b : ℕ} {w₀ w : List ℕ} (r : CanMergePath n w₀) (m : PathLoop n x y w₀ a b w) where
-  pub loop-can′ : (a ≡ b → ⊥) → node 4 w a ≤ node 4 w b → CanMergeUp n w b
+  pub loop-can′ : (a ≡ b → ⊥) → node POSITION w a ≤ node POSITION w b → CanMergeUp n w b
   loop-can′ ne l = loop-can r (loop-flip r m) (λ e. ne (sym e)) l
 
-  pub loop-more′ : (a ≡ b → ⊥) → node 4 w a ≤ node 4 w b → {q : ℕ} {w′ : List ℕ} → MergedUpAt n w b q w′ → PathLoop n x y w₀ a q w′ × (node 4 w₀ q < node 4 w₀ b)
+  pub loop-more′ : (a ≡ b → ⊥) → node POSITION w a ≤ node POSITION w b → {q : ℕ} {w′ : List ℕ} → MergedUpAt n w b q w′ → PathLoop n x y w₀ a q w′ × (node POSITION w₀ q < node POSITION w₀ b)
   loop-more′ ne l k = let h = loop-more r (loop-flip r m) (λ e. ne (sym e)) l k in (loop-flip r (h .0), h .1)
 
   pub loop-done : a ≡ b → MergedPath n w₀ x y w
@@ -201,16 +202,16 @@ module _ {n x y a b : ℕ} {w₀ w : List ℕ} (r : CanMergePath n w₀) (m : Pa
   }
 
 module _ {n v r : ℕ} {w w₁ : List ℕ} (g : CanMergePath n w) (f : Found n w v r w₁) where
-  s4 : node 4 w₁ ≡ node 4 w
-  s4 = f .rest .nodes 4 (omega arith) refl
+  s4 : node POSITION w₁ ≡ node POSITION w
+  s4 = f .rest .nodes POSITION (omega arith) refl
 
-  s5 : node 5 w₁ ≡ node 5 w
-  s5 = f .rest .nodes 5 (omega arith) refl
+  s5 : node PARENT w₁ ≡ node PARENT w
+  s5 = f .rest .nodes PARENT (omega arith) refl
 
-  s12 : node 12 w₁ ≡ node 12 w
-  s12 = f .rest .nodes 12 (omega arith) refl
+  s12 : node ROOT w₁ ≡ node ROOT w
+  s12 = f .rest .nodes ROOT (omega arith) refl
 
-  stable : (D : ℕ → Bool) → FollowsParents n (node 5 w) (node 6 w₁) D → Stable n (node 6 w) D
+  stable : (D : ℕ → Bool) → FollowsParents n (node PARENT w) (node TOP w₁) D → Stable n (node TOP w) D
   stable D h = g .full D (λ u i ne. h u i (λ e. ne (f .path .back u i e)))
 
   pub ready-after : CanMergePath n w₁
@@ -222,17 +223,20 @@ module _ {n v r : ℕ} {w w₁ : List ℕ} (g : CanMergePath n w) (f : Found n w
     full = λ D h. f .path .keep D (stable D (rw s5 at h)) .0;
   }
 
-  at-r : (D : ℕ → Bool) → FollowsParents n (node 5 w) (node 6 w) D → D r ≡ D v
+  at-r : (D : ℕ → Bool) → FollowsParents n (node PARENT w) (node TOP w) D → D r ≡ D v
   at-r D h = f .path .keep D (g .full D h) .1
 
-  pub top-after : 0 < node 4 w v → SeenTop n w₁ r × (node 12 w₁ r ≡ node 12 w v)
+  pub top-after : 0 < node POSITION w v → SeenTop n w₁ r × (node ROOT w₁ r ≡ node ROOT w v)
   top-after l = (
     record {
       fit = f .path .fit;
-      seen = rw s4 (ltb-true 0 (node 4 w r) (at-r (λ u. ltb 0 (node 4 w u)) (seen-follows n _ _ _ (g .order) 0 0 (node 6 w) (node 6 w) (g .tops)) ∙ lt-ltb 0 (node 4 w v) l));
+      seen = rw s4 (ltb-true 0 (node POSITION w r)
+          (at-r (λ u. ltb 0 (node POSITION w u)) (seen-follows n _ _ _ (g .order) 0 0 (node TOP w) (node TOP w) (g .tops)) ∙ lt-ltb 0 (node POSITION w v) l));
       top = f .top;
     },
-    rw s12 (eqb-true (node 12 w r) (node 12 w v) (at-r (λ u. eqb (node 12 w u) (node 12 w v)) (tree-follows n _ _ _ (g .order) 0 0 (node 6 w) (node 6 w) (g .tops) (node 12 w v)) ∙ eq-eqb (node 12 w v) (node 12 w v) refl)),
+    rw s12 (eqb-true (node ROOT w r) (node ROOT w v)
+        (at-r (λ u. eqb (node ROOT w u) (node ROOT w v)) (tree-follows n _ _ _ (g .order) 0 0 (node TOP w) (node TOP w) (g .tops) (node ROOT w v))
+        ∙ eq-eqb (node ROOT w v) (node ROOT w v) refl)),
   )
 
   pub top-still : {a : ℕ} → SeenTop n w a → SeenTop n w₁ a
@@ -245,11 +249,11 @@ module _ {n v r : ℕ} {w w₁ : List ℕ} (g : CanMergePath n w) (f : Found n w
     back = λ u i e. f .path .back u i (j .back u i e);
     full = λ D h.
         let k = j .full D (rw s5 h) in
-        let c : FollowsParents n (node 5 w) (node 6 w) D = λ u i ne. h u i (λ e. ne (f .path .back u i (j .back u i e))) in
+        let c : FollowsParents n (node PARENT w) (node TOP w) D = λ u i ne. h u i (λ e. ne (f .path .back u i (j .back u i e))) in
         (k .0, sym (at-r D c) ∙ k .1);
     keep = λ D h s.
         let k = f .path .keep D s in
-        let l : AllowsMerge n (node 4 w) (node 5 w) (node 12 w) r y D = λ a b i m p q e z. h a b i m p q e (λ x. z (k .1 ∙ x)) in
+        let l : AllowsMerge n (node POSITION w) (node PARENT w) (node ROOT w) r y D = λ a b i m p q e z. h a b i m p q e (λ x. z (k .1 ∙ x)) in
         j .keep D (rw (s4, s5, s12) l) (k .0);
   }
 
@@ -267,10 +271,10 @@ module _ {n x y a : ℕ} {w w₁ : List ℕ} (g : CanMergePath n w) (p : SameTre
   second = record { fit = p .fit′; room = ready-after g f .room; tops = ready-after g f .tops }
 
   module _ {b : ℕ} {w₂ : List ℕ} (f′ : Found n w₁ y b w₂) where
-    y-seen : 0 < node 4 w₁ y
+    y-seen : 0 < node POSITION w₁ y
     y-seen = rw (s4 g f) (p .seen′)
 
-    pub to-tops : CanMergePath n w₂ × SeenTop n w₂ a × SeenTop n w₂ b × (node 12 w₂ a ≡ node 12 w₂ b)
+    pub to-tops : CanMergePath n w₂ × SeenTop n w₂ a × SeenTop n w₂ b × (node ROOT w₂ a ≡ node ROOT w₂ b)
     to-tops =
         let g′ = ready-after g f in
         let s = top-after g f (p .seen) in

@@ -8,7 +8,7 @@ use mathlib.Core.Logic.{_⊎_}
 use mathlib.Core.Path.{_≡_}
 use lib.ListN.{length}
 use Rattle.core_words.specs.Changes.{OnlyFields}
-use Rattle.core_words.specs.Fields.{node}
+use Rattle.core_words.specs.Fields.{ORDER, PARENT, POSITION, ROOT, TOP, node}
 
 -- a top is its own; any other node goes to an earlier one
 pub record Tops (n : ℕ) (pos t : ℕ → ℕ) : Type 0 where
@@ -30,17 +30,17 @@ pub record FindPath (n : ℕ) (pos t t′ : ℕ → ℕ) (v r : ℕ) : Type 0 wh
 
 -- only the tops change
 abbrev pub OnlyTops : ℕ → List ℕ → List ℕ → Type 0
-OnlyTops n a b = OnlyFields (6 ∷ []) n a b
+OnlyTops n a b = OnlyFields (TOP ∷ []) n a b
 
 pub record CanFind (n : ℕ) (w : List ℕ) (v : ℕ) : Type 0 where
   pub fit : v < n
   pub room : 16 * n ≤ length w
-  pub tops : Tops n (node 4 w) (node 6 w)
+  pub tops : Tops n (node POSITION w) (node TOP w)
 
 pub record Found (n : ℕ) (w : List ℕ) (v r : ℕ) (w′ : List ℕ) : Type 0 where
   pub rest : OnlyTops n w w′
-  pub path : FindPath n (node 4 w) (node 6 w) (node 6 w′) v r
-  pub top : node 6 w′ r ≡ r
+  pub path : FindPath n (node POSITION w) (node TOP w) (node TOP w′) v r
+  pub top : node TOP w′ r ≡ r
 
 -- the top a is merged into q, its parent's top
 pub record MergedUp (n : ℕ) (pos par t t′ : ℕ → ℕ) (a q : ℕ) : Type 0 where
@@ -57,14 +57,14 @@ pub record CanMergeUp (n : ℕ) (w : List ℕ) (a : ℕ) : Type 0 where
   pub few : n ≤ 65536
   pub fit : a < n
   pub room : 16 * n ≤ length w
-  pub tops : Tops n (node 4 w) (node 6 w)
-  pub fit′ : node 5 w a < n
-  pub up : node 4 w (node 5 w a) < node 4 w a
-  pub top : node 6 w a ≡ a
+  pub tops : Tops n (node POSITION w) (node TOP w)
+  pub fit′ : node PARENT w a < n
+  pub up : node POSITION w (node PARENT w a) < node POSITION w a
+  pub top : node TOP w a ≡ a
 
 pub record MergedUpAt (n : ℕ) (w : List ℕ) (a q : ℕ) (w′ : List ℕ) : Type 0 where
   pub rest : OnlyTops n w w′
-  pub is : MergedUp n (node 4 w) (node 5 w) (node 6 w) (node 6 w′) a q
+  pub is : MergedUp n (node POSITION w) (node PARENT w) (node TOP w) (node TOP w′) a q
 
 -- what merging needs of the forest: a parent comes earlier in the order and has the same root
 pub record SearchOrder (n : ℕ) (pos par root : ℕ → ℕ) : Type 0 where
@@ -83,49 +83,49 @@ AllowsMerge n pos par root x y D = (a b : ℕ) → a < n → b < n → 0 < pos b
 pub record CanMergePath (n : ℕ) (w : List ℕ) : Type 0 where
   pub few : n ≤ 65536
   pub room : 16 * n ≤ length w
-  pub tops : Tops n (node 4 w) (node 6 w)
-  pub order : SearchOrder n (node 4 w) (node 5 w) (node 12 w)
-  pub full : (D : ℕ → Bool) → FollowsParents n (node 5 w) (node 6 w) D → Stable n (node 6 w) D
+  pub tops : Tops n (node POSITION w) (node TOP w)
+  pub order : SearchOrder n (node POSITION w) (node PARENT w) (node ROOT w)
+  pub full : (D : ℕ → Bool) → FollowsParents n (node PARENT w) (node TOP w) D → Stable n (node TOP w) D
 
 -- a top that was seen
 pub record SeenTop (n : ℕ) (w : List ℕ) (a : ℕ) : Type 0 where
   pub fit : a < n
-  pub seen : 0 < node 4 w a
-  pub top : node 6 w a ≡ a
+  pub seen : 0 < node POSITION w a
+  pub top : node TOP w a ≡ a
 
 -- two seen nodes of a tree
 pub record SameTree (n : ℕ) (w : List ℕ) (x y : ℕ) : Type 0 where
   pub fit : x < n
   pub fit′ : y < n
-  pub seen : 0 < node 4 w x
-  pub seen′ : 0 < node 4 w y
-  pub same : node 12 w x ≡ node 12 w y
+  pub seen : 0 < node POSITION w x
+  pub seen′ : 0 < node POSITION w y
+  pub same : node ROOT w x ≡ node ROOT w y
 
 -- the tree path from x to y is merged
 pub record MergedPath (n : ℕ) (w : List ℕ) (x y : ℕ) (w′ : List ℕ) : Type 0 where
   pub rest : OnlyTops n w w′
-  pub tops : Tops n (node 4 w) (node 6 w′)
-  pub back : (u : ℕ) → u < n → node 6 w′ u ≡ u → node 6 w u ≡ u
-  pub full : (D : ℕ → Bool) → FollowsParents n (node 5 w) (node 6 w′) D → Stable n (node 6 w′) D × (D x ≡ D y)
-  pub keep : (D : ℕ → Bool) → AllowsMerge n (node 4 w) (node 5 w) (node 12 w) x y D → Stable n (node 6 w) D → Stable n (node 6 w′) D
+  pub tops : Tops n (node POSITION w) (node TOP w′)
+  pub back : (u : ℕ) → u < n → node TOP w′ u ≡ u → node TOP w u ≡ u
+  pub full : (D : ℕ → Bool) → FollowsParents n (node PARENT w) (node TOP w′) D → Stable n (node TOP w′) D × (D x ≡ D y)
+  pub keep : (D : ℕ → Bool) → AllowsMerge n (node POSITION w) (node PARENT w) (node ROOT w) x y D → Stable n (node TOP w) D → Stable n (node TOP w′) D
 
 -- the first i nodes are their own tops
 pub record OwnTops (n i : ℕ) (a b : List ℕ) : Type 0 where
   pub rest : OnlyTops n a b
-  pub self : (u : ℕ) → u < i → node 6 b u ≡ u
+  pub self : (u : ℕ) → u < i → node TOP b u ≡ u
 
 pub record CanCompress (n seen : ℕ) (w : List ℕ) : Type 0 where
   pub few : n ≤ 65536
   pub room : 16 * n ≤ length w
   pub less : seen ≤ n
-  pub tops : Tops n (node 4 w) (node 6 w)
-  pub place : (i : ℕ) → i < seen → (node 3 w i < n) × (node 4 w (node 3 w i) ≡ i + 1)
-  pub place-of : (u : ℕ) → u < n → 0 < node 4 w u → (node 4 w u ≤ seen) × (node 3 w (node 4 w u - 1) ≡ u)
+  pub tops : Tops n (node POSITION w) (node TOP w)
+  pub place : (i : ℕ) → i < seen → (node ORDER w i < n) × (node POSITION w (node ORDER w i) ≡ i + 1)
+  pub place-of : (u : ℕ) → u < n → 0 < node POSITION w u → (node POSITION w u ≤ seen) × (node ORDER w (node POSITION w u - 1) ≡ u)
 
 -- the same tops, and the first i nodes of the order go straight to theirs
 pub record Compressed (n i : ℕ) (a b : List ℕ) : Type 0 where
   pub rest : OnlyTops n a b
-  pub tops : Tops n (node 4 a) (node 6 b)
-  pub back : (u : ℕ) → u < n → node 6 b u ≡ u → node 6 a u ≡ u
-  pub keep : (D : ℕ → Bool) → Stable n (node 6 a) D → Stable n (node 6 b) D
-  pub flat : (u : ℕ) → u < n → node 4 a u ≤ i → node 6 b (node 6 b u) ≡ node 6 b u
+  pub tops : Tops n (node POSITION a) (node TOP b)
+  pub back : (u : ℕ) → u < n → node TOP b u ≡ u → node TOP a u ≡ u
+  pub keep : (D : ℕ → Bool) → Stable n (node TOP a) D → Stable n (node TOP b) D
+  pub flat : (u : ℕ) → u < n → node POSITION a u ≤ i → node TOP b (node TOP b u) ≡ node TOP b u

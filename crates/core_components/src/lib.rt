@@ -1,11 +1,11 @@
+use core_words::*;
 ghost use mathlib.Core.Path.{_≡_};
-ghost use Prim.Native.Nat.{ℕ, _+_, _*_, _<_, _≤_};
+ghost use Prim.Native.Nat.{_+_, _*_, _<_, _≤_};
 ghost use lib.ListN.{length};
-ghost use Rattle.core_words.specs.Fields.{node, Put};
-ghost use Rattle.core_forest.specs.Search.{BetweenTrees};
+ghost use Rattle.core_words.specs.Fields.{ROOT, TOP, Put, node};
 ghost use Rattle.core_components.specs.Tops.{CanFind, Found, CanMergeUp, MergedUpAt, CanMergePath, SeenTop, SameTree, MergedPath, OwnTops, CanCompress, Compressed};
 ghost use Rattle.core_components.specs.Merging.{CanMergeEdge, EdgeMerged, CanMerge, EdgesMerged};
-ghost use Rattle.core_components.specs.Components.{Components};
+ghost use Rattle.core_components.specs.Components.{CanMergeComponents, Components};
 
 // The top of v; the path to it is halved on the way.
 fn find(work: &mut [u32], n: usize, v: usize) -> usize
@@ -13,12 +13,12 @@ fn find(work: &mut [u32], n: usize, v: usize) -> usize
     ensures { λ r. ⌜ Found n (now (work .entry)) v r (now (work .exit)) ⌝ }
 {
     let mut v = v;
-    let mut u = core_words::get(work, v, 6);
+    let mut u = core_words::get(work, v, TOP);
     while u != v {
-        let t = core_words::get(work, u, 6);
-        core_words::put(work, v, 6, t);
+        let t = core_words::get(work, u, TOP);
+        core_words::put(work, v, TOP, t);
         v = t;
-        u = core_words::get(work, v, 6);
+        u = core_words::get(work, v, TOP);
     }
     v
 }
@@ -28,22 +28,22 @@ fn merge_parent(work: &mut [u32], n: usize, a: usize) -> usize
     requires { ⌜ CanMergeUp n (now work) a ⌝ }
     ensures { λ r. ⌜ MergedUpAt n (now (work .entry)) a r (now (work .exit)) ⌝ }
 {
-    let p = core_words::get(work, a, 5);
+    let p = core_words::get(work, a, PARENT);
     let q = find(work, n, p);
-    core_words::put(work, a, 6, q);
+    core_words::put(work, a, TOP, q);
     q
 }
 
 // Merges all tops on the tree path from the top a to the top b: the later of the two goes up until they are one.
 fn merge_tops(work: &mut [u32], n: usize, a: usize, b: usize)
-    requires { ⌜ CanMergePath n (now work) × SeenTop n (now work) a × SeenTop n (now work) b × (node 12 (now work) a ≡ node 12 (now work) b) ⌝ }
+    requires { ⌜ CanMergePath n (now work) × SeenTop n (now work) a × SeenTop n (now work) b × (node ROOT (now work) a ≡ node ROOT (now work) b) ⌝ }
     ensures { λ _. ⌜ MergedPath n (now (work .entry)) a b (now (work .exit)) ⌝ }
 {
     let mut a = a;
     let mut b = b;
     while a != b {
-        let pa = core_words::get(work, a, 4);
-        let pb = core_words::get(work, b, 4);
+        let pa = core_words::get(work, a, POSITION);
+        let pb = core_words::get(work, b, POSITION);
         if pa < pb {
             b = merge_parent(work, n, b);
         } else {
@@ -67,17 +67,17 @@ fn merge_edge(work: &mut [u32], n: usize, m: usize, e: usize)
     requires { ⌜ CanMergeEdge n m e (now work) ⌝ }
     ensures { λ _. ⌜ EdgeMerged n e (now (work .entry)) (now (work .exit)) ⌝ }
 {
-    let x = core_words::get_half(work, n, 2 * e, 0);
-    let y = core_words::get_half(work, n, 2 * e + 1, 0);
-    let p = core_words::get(work, x, 4);
+    let x = core_words::get_half(work, n, 2 * e, TO);
+    let y = core_words::get_half(work, n, 2 * e + 1, TO);
+    let p = core_words::get(work, x, POSITION);
     if p == 0 {
         return;
     }
-    let s = core_words::get(work, x, 13);
+    let s = core_words::get(work, x, EDGE);
     if s == e + 1 {
         return;
     }
-    let t = core_words::get(work, y, 13);
+    let t = core_words::get(work, y, EDGE);
     if t == e + 1 {
         return;
     }
@@ -100,18 +100,18 @@ fn start_tops(work: &mut [u32], n: usize)
     ensures { λ _. ⌜ OwnTops n n (now (work .entry)) (now (work .exit)) ⌝ }
 {
     for v in 0..n {
-        core_words::put(work, v, 6, v);
+        core_words::put(work, v, TOP, v);
     }
 }
 
 // The top of v is final where the top of v's top is.
 fn compress(work: &mut [u32], n: usize, v: usize)
     requires { ⌜ CanFind n (now work) v ⌝ }
-    ensures { λ _. ⌜ Put 6 v (node 6 (now (work .entry)) (node 6 (now (work .entry)) v)) (now (work .entry)) (now (work .exit)) ⌝ }
+    ensures { λ _. ⌜ Put TOP v (node TOP (now (work .entry)) (node TOP (now (work .entry)) v)) (now (work .entry)) (now (work .exit)) ⌝ }
 {
-    let t = core_words::get(work, v, 6);
-    let u = core_words::get(work, t, 6);
-    core_words::put(work, v, 6, u);
+    let t = core_words::get(work, v, TOP);
+    let u = core_words::get(work, t, TOP);
+    core_words::put(work, v, TOP, u);
 }
 
 // The tops of the first seen nodes of the order are made final: in order, so that the top of a node's top is final already.
@@ -120,19 +120,17 @@ fn compress_all(work: &mut [u32], n: usize, seen: usize)
     ensures { λ _. ⌜ Compressed n seen (now (work .entry)) (now (work .exit)) ⌝ }
 {
     for i in 0..seen {
-        let v = core_words::get(work, i, 3);
+        let v = core_words::get(work, i, ORDER);
         compress(work, n, v);
     }
 }
 
-// Internal: the 2-edge-connected components of all that the active nodes reach, each by its top; how many nodes these are.
-pub fn find_components(work: &mut [u32], n: usize, m: usize, k: usize) -> usize
-    requires { ⌜ BetweenTrees n m k (now work) 0 0 ⌝ }
-    ensures { λ s. ⌜ Components n m k (now (work .entry)) (now (work .exit)) s ⌝ }
+// Internal: merges the 2-edge-connected components of the forest's seen nodes: the top of a node is then the same for all of its component, and no other has it.
+pub fn merge_components(work: &mut [u32], n: usize, m: usize, seen: usize)
+    requires { ⌜ CanMergeComponents n m seen (now work) ⌝ }
+    ensures { λ _. ⌜ Components n m (now (work .entry)) (now (work .exit)) ⌝ }
 {
-    let seen = core_forest::spanning_forest(work, n, m, k);
     start_tops(work, n);
     merge_edges(work, n, m);
     compress_all(work, n, seen);
-    seen
 }

@@ -11,7 +11,7 @@ use Rattle.core_forest.proofs.HalfEdges.{half-cases, twin-back, twin-ev
 use Rattle.core_forest.specs.AdjacencyLists.{AdjacencyLists, CanLink, LastFrom, Linking, origin, twin}
 use Rattle.theory_graph.proofs.Booleans.{onBool}
 use Rattle.core_words.proofs.FieldLaws.{update-at, update-other}
-use Rattle.core_words.specs.Fields.{Put, PutHalf, half, node, update}
+use Rattle.core_words.specs.Fields.{HEAD, NEXT, TO, Put, PutHalf, half, node, update}
 
 last-here : (out : ℕ → ℕ) (v i : ℕ) → out i ≡ v → LastFrom out v (i + 1) (i + 1)
 last-here out v i e = record { below = omega arith; at = λ _. let q : i + 1 - 1 ≡ i = omega arith in ap out q ∙ e; gap = λ h l k _. omega arith }
@@ -23,38 +23,38 @@ last-more out u i c ne l = record {
   gap = λ h a b e. onBool (eqb h i) (λ q. ne (ap out (sym (eqb-true h i q)) ∙ e)) (λ q. let z : ¬ (h ≡ i) = eqb-false h i q in l .gap h a (omega arith) e);
 }
 
-module _ {n m h v : ℕ} {w : List ℕ} (k : Linking n m w w h) (l : h < 2 * m) (ev : v ≡ origin (half n 0 w) h) where
+module _ {n m h v : ℕ} {w : List ℕ} (k : Linking n m w w h) (l : h < 2 * m) (ev : v ≡ origin (half n TO w) h) where
   pub v-fits : v < n
-  v-fits = let b = twin-back (half n 0 w) m h l in rw (ev, ← b .1) (k .ends (twin h) (b .0))
+  v-fits = let b = twin-back (half n TO w) m h l in rw (ev, ← b .1) (k .ends (twin h) (b .0))
 
-  pub half-linked : {x : ℕ} {w₁ w₂ : List ℕ} → x ≡ node 2 w v → PutHalf n 1 h x w w₁ → Put 2 v (h + 1) w₁ w₂ → Linking n m w w₂ (h + 1)
+  pub half-linked : {x : ℕ} {w₁ w₂ : List ℕ} → x ≡ node HEAD w v → PutHalf n NEXT h x w w₁ → Put HEAD v (h + 1) w₁ w₂ → Linking n m w w₂ (h + 1)
   half-linked {x} {w₁} {w₂} ex p q = record {
     few = k .few;
     much = k .much;
     room = rw (q .same, p .same) (k .room);
     ends = rw tos (k .ends);
     links = record {
-      heads = rw (tos, q .here) (update-at (λ u y. u < n → LastFrom to u (h + 1) y) (node 2 w₁) v (h + 1)
+      heads = rw (tos, q .here) (update-at (λ u y. u < n → LastFrom to u (h + 1) y) (node HEAD w₁) v (h + 1)
           (λ _. last-here to v h (sym ev))
-          (λ u ne i. rw (p .nodes 2 (omega arith) u i) (last-more to u h (node 2 w u) (λ e. ne (sym e ∙ sym ev)) (k .links .heads u i))));
-      nexts = rw (tos, nexts) (update-at (λ j y. j < h + 1 → LastFrom to (to j) j y) (half n 1 w) h x
+          (λ u ne i. rw (p .nodes HEAD (omega arith) u i) (last-more to u h (node HEAD w u) (λ e. ne (sym e ∙ sym ev)) (k .links .heads u i))));
+      nexts = rw (tos, nexts) (update-at (λ j y. j < h + 1 → LastFrom to (to j) j y) (half n NEXT w) h x
           (λ _. rw (← ev, ex) (k .links .heads v v-fits))
           (λ j ne i. k .links .nexts j (omega arith)));
     };
     same = q .same ∙ p .same;
     tos = tos;
-    past = λ j i. ap (λ f. f j) nexts ∙ update-other (half n 1 w) h x j (λ e. omega arith);
+    past = λ j i. ap (λ f. f j) nexts ∙ update-other (half n NEXT w) h x j (λ e. omega arith);
     nodes = λ j i ne u b. ap (λ f. f u) (q .else j i ne) ∙ p .nodes j i u b;
   }
     where
       to : ℕ → ℕ
-      to = origin (half n 0 w)
+      to = origin (half n TO w)
 
-      tos : half n 0 w₂ ≡ half n 0 w
-      tos = q .halves n v-fits 0 ∙ p .else 0 (omega arith) (λ e. omega arith)
+      tos : half n TO w₂ ≡ half n TO w
+      tos = q .halves n v-fits TO ∙ p .else TO (omega arith) (λ e. omega arith)
 
-      nexts : half n 1 w₂ ≡ update (half n 1 w) h x
-      nexts = q .halves n v-fits 1 ∙ p .here
+      nexts : half n NEXT w₂ ≡ update (half n NEXT w) h x
+      nexts = q .halves n v-fits NEXT ∙ p .here
 
 pub linking-none : {n m : ℕ} {w : List ℕ} → CanLink n m w → Linking n m w w 0
 linking-none u = record {
@@ -93,9 +93,9 @@ pub even-leaves : (to : ℕ → ℕ) (e y : ℕ) → y ≡ to (2 * e + 1) → y 
 unfolding origin
 even-leaves to e y q = q ∙ sym (ap to (twin-even e))
 
-pub odd-leaves : {n m i : ℕ} {a w : List ℕ} → Linking n m a w i → (e x : ℕ) → x ≡ half n 0 a (2 * e) → x ≡ origin (half n 0 w) (2 * e + 1)
+pub odd-leaves : {n m i : ℕ} {a w : List ℕ} → Linking n m a w i → (e x : ℕ) → x ≡ half n TO a (2 * e) → x ≡ origin (half n TO w) (2 * e + 1)
 unfolding origin
-odd-leaves {n} {w = w} k e x q = q ∙ sym (ap (λ f. f (2 * e)) (k .tos)) ∙ sym (ap (half n 0 w) (twin-odd e))
+odd-leaves {n} {w = w} k e x q = q ∙ sym (ap (λ f. f (2 * e)) (k .tos)) ∙ sym (ap (half n TO w) (twin-odd e))
 
 -- both half-edges of edge e
 pub edge-linked : {n m : ℕ} (e : ℕ) {w₀ w w₁ w₂ : List ℕ} → Linking n m w₀ w (2 * e) → Linking n m w w₁ (2 * e + 1) → Linking n m w₁ w₂ (2 * e + 1 + 1) → Linking n m w₀ w₂ (2 * (e + 1))

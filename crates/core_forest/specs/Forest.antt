@@ -6,7 +6,7 @@ use mathlib.Core.List.{List, [], _∷_}
 use mathlib.Core.Logic.{_⊎_}
 use mathlib.Core.Path.{_≡_}
 use Rattle.theory_graph.specs.Graph.{Edge}
-use Rattle.core_words.specs.Fields.{half, node}
+use Rattle.core_words.specs.Fields.{EDGE, PARENT, POSITION, ROOT, TO, half, node}
 
 -- edge e joins to (2 e) and to (2 e + 1); the order of the list does not matter
 abbrev pub edgesBelow : (ℕ → ℕ) → ℕ → List Edge
@@ -42,4 +42,4 @@ pub record Forest (n m : ℕ) (to pos par te root : ℕ → ℕ) : Type 0 where
 
 -- the forest in the words
 abbrev pub ForestAt : ℕ → ℕ → List ℕ → Type 0
-ForestAt n m w = Forest n m (half n 0 w) (node 4 w) (node 5 w) (node 13 w) (node 12 w)
+ForestAt n m w = Forest n m (half n TO w) (node POSITION w) (node PARENT w) (node EDGE w) (node ROOT w)

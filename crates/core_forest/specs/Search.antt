@@ -12,7 +12,7 @@ use lib.ListN.{length}
 use Rattle.core_forest.specs.AdjacencyLists.{AdjacencyLists, origin}
 use Rattle.core_forest.specs.Forest.{HasParent, Joins, Root}
 use Rattle.core_words.specs.Changes.{OnlyFields}
-use Rattle.core_words.specs.Fields.{half, node, update}
+use Rattle.core_words.specs.Fields.{ACTIVE, EDGE, MARK, ORDER, PARENT, POSITION, ROOT, TO, half, node, update}
 
 pub record CanAppend (n : ℕ) (w : List ℕ) (seen v p t r : ℕ) : Type 0 where
   pub few : n ≤ 65536
@@ -23,17 +23,20 @@ pub record CanAppend (n : ℕ) (w : List ℕ) (seen v p t r : ℕ) : Type 0 wher
   pub fit-t : t ≤ 65536
   pub fit-r : r < n
 
--- only the search's own fields change: the order, the position, the parent, the root and the tree edge
+-- the fields that the search changes
+abbrev pub searchFields : List ℕ
+searchFields = ORDER ∷ POSITION ∷ PARENT ∷ ROOT ∷ EDGE ∷ []
+
 abbrev pub Searched : ℕ → List ℕ → List ℕ → Type 0
-Searched n a b = OnlyFields (3 ∷ 4 ∷ 5 ∷ 12 ∷ 13 ∷ []) n a b
+Searched n a b = OnlyFields searchFields n a b
 
 pub record Appended (n seen v p t r : ℕ) (a b : List ℕ) : Type 0 where
   pub rest : Searched n a b
-  pub ord : node 3 b ≡ update (node 3 a) seen v
-  pub pos : node 4 b ≡ update (node 4 a) v (seen + 1)
-  pub par : node 5 b ≡ update (node 5 a) v p
-  pub te : node 13 b ≡ update (node 13 a) v t
-  pub root : node 12 b ≡ update (node 12 a) v r
+  pub ord : node ORDER b ≡ update (node ORDER a) seen v
+  pub pos : node POSITION b ≡ update (node POSITION a) v (seen + 1)
+  pub par : node PARENT b ≡ update (node PARENT a) v p
+  pub te : node EDGE b ≡ update (node EDGE a) v t
+  pub root : node ROOT b ≡ update (node ROOT a) v r
 
 -- at how many of the first n places p is not 0
 unfoldable pub countNonzero : (ℕ → ℕ) → ℕ → ℕ
@@ -53,7 +56,7 @@ pub record Search (n m : ℕ) (mark to ord pos par te root : ℕ → ℕ) (done 
   pub out : (h : ℕ) → h < 2 * m → 0 < pos (origin to h) → pos (origin to h) ≤ done → (0 < pos (to h)) × (root (to h) ≡ root (origin to h))
 
 abbrev pub SearchAt : ℕ → ℕ → List ℕ → ℕ → ℕ → ℕ → Type 0
-SearchAt n m w = Search n m (node 0 w) (half n 0 w) (node 3 w) (node 4 w) (node 5 w) (node 13 w) (node 12 w)
+SearchAt n m w = Search n m (node MARK w) (half n TO w) (node ORDER w) (node POSITION w) (node PARENT w) (node EDGE w) (node ROOT w)
 
 -- the tree edge of a new node v to its parent p
 pub record TreeEdge (n m : ℕ) (to pos root : ℕ → ℕ) (v p t r : ℕ) : Type 0 where
@@ -71,14 +74,14 @@ pub record Scanning (n m : ℕ) (w : List ℕ) (done seen r v k : ℕ) : Type 0 
   pub search : SearchAt n m w done seen r
   pub fit : v < n
   pub fit-r : r < n
-  pub mark : 0 < node 0 w r
-  pub at : node 4 w v ≡ done + 1
-  pub part : (h : ℕ) → k ≤ h → h < 2 * m → origin (half n 0 w) h ≡ v → (0 < node 4 w (half n 0 w h)) × (node 12 w (half n 0 w h) ≡ r)
+  pub mark : 0 < node MARK w r
+  pub at : node POSITION w v ≡ done + 1
+  pub part : (h : ℕ) → k ≤ h → h < 2 * m → origin (half n TO w) h ≡ v → (0 < node POSITION w (half n TO w h)) × (node ROOT w (half n TO w h) ≡ r)
 
 -- what the search keeps: the other fields, the half-edges, and that a node was seen
 pub record SearchKeeps (n : ℕ) (a b : List ℕ) : Type 0 where
   pub rest : Searched n a b
-  pub more : (u : ℕ) → u < n → 0 < node 4 a u → 0 < node 4 b u
+  pub more : (u : ℕ) → u < n → 0 < node POSITION a u → 0 < node POSITION b u
 
 abbrev pub Visited : ℕ → ℕ → List ℕ → List ℕ → ℕ → ℕ → ℕ → ℕ → ℕ → Type 0
 Visited n m w w′ done seen r v h = SearchKeeps n w w′ × Scanning n m w′ done seen r v h
@@ -86,14 +89,14 @@ Visited n m w w′ done seen r v h = SearchKeeps n w w′ × Scanning n m w′ d
 pub record CanVisit (n m : ℕ) (w : List ℕ) (done seen r v h : ℕ) : Type 0 where
   pub scan : Scanning n m w done seen r v (h + 1)
   pub less : h < 2 * m
-  pub leaves : origin (half n 0 w) h ≡ v
+  pub leaves : origin (half n TO w) h ≡ v
 
 -- the tree of r is searched
 pub record Growing (n m : ℕ) (w : List ℕ) (done seen r : ℕ) : Type 0 where
   pub lists : AdjacencyLists n m w
   pub search : SearchAt n m w done seen r
   pub fit-r : r < n
-  pub mark : 0 < node 0 w r
+  pub mark : 0 < node MARK w r
 
 pub record Grown (n m : ℕ) (w w′ : List ℕ) (done seen r : ℕ) : Type 0 where
   pub keeps : SearchKeeps n w w′
@@ -102,7 +105,7 @@ pub record Grown (n m : ℕ) (w w′ : List ℕ) (done seen r : ℕ) : Type 0 wh
 -- between two trees: the first j active nodes are seen
 pub record BetweenTrees (n m k : ℕ) (w : List ℕ) (seen j : ℕ) : Type 0 where
   pub lists : AdjacencyLists n m w
-  pub active : (i : ℕ) → i < k → (node 1 w i < n) × (0 < node 0 w (node 1 w i))
+  pub active : (i : ℕ) → i < k → (node ACTIVE w i < n) × (0 < node MARK w (node ACTIVE w i))
   pub all : k ≤ n
   pub search : SearchAt n m w seen seen 0
-  pub have : (i : ℕ) → i < j → 0 < node 4 w (node 1 w i)
+  pub have : (i : ℕ) → i < j → 0 < node POSITION w (node ACTIVE w i)

@@ -1,18 +1,19 @@
+use core_words::*;
 ghost use mathlib.Core.Path.{_≡_};
-ghost use Prim.Native.Nat.{ℕ, _+_, _*_, _<_, _≤_};
-ghost use Rattle.core_words.specs.Fields.{half};
+ghost use Prim.Native.Nat.{_+_, _*_, _<_};
+ghost use Rattle.core_words.specs.Fields.{TO, half};
 ghost use Rattle.core_forest.specs.AdjacencyLists.{origin, AdjacencyLists, CanLink, Linking};
 ghost use Rattle.core_forest.specs.Forest.{ForestAt};
 ghost use Rattle.core_forest.specs.Search.{CanAppend, Appended, CanVisit, Visited, Growing, Grown, SearchKeeps, BetweenTrees};
 
 // Half-edge h, which leaves v, becomes the first of v's list.
 fn link_half(work: &mut [u32], n: usize, m: usize, h: usize, v: usize)
-    requires { ⌜ Linking n m (now work) (now work) h × (h < 2 * m) × (v ≡ origin (half n 0 (now work)) h) ⌝ }
+    requires { ⌜ Linking n m (now work) (now work) h × (h < 2 * m) × (v ≡ origin (half n TO (now work)) h) ⌝ }
     ensures { λ _. ⌜ Linking n m (now (work .entry)) (now (work .exit)) (h + 1) ⌝ }
 {
-    let x = core_words::get(work, v, 2);
-    core_words::put_half(work, n, h, 1, x);
-    core_words::put(work, v, 2, h + 1);
+    let x = core_words::get(work, v, HEAD);
+    core_words::put_half(work, n, h, NEXT, x);
+    core_words::put(work, v, HEAD, h + 1);
 }
 
 // Internal: makes the adjacency list of each node. In ascending order, so that a half-edge is followed by the largest smaller one at its node.
@@ -21,8 +22,8 @@ pub fn link_edges(work: &mut [u32], n: usize, m: usize)
     ensures { λ _. ⌜ Linking n m (now (work .entry)) (now (work .exit)) (2 * m) × AdjacencyLists n m (now (work .exit)) ⌝ }
 {
     for e in 0..m {
-        let x = core_words::get_half(work, n, 2 * e, 0);
-        let y = core_words::get_half(work, n, 2 * e + 1, 0);
+        let x = core_words::get_half(work, n, 2 * e, TO);
+        let y = core_words::get_half(work, n, 2 * e + 1, TO);
         link_half(work, n, m, 2 * e, y);
         link_half(work, n, m, 2 * e + 1, x);
     }
@@ -33,11 +34,11 @@ fn append_node(work: &mut [u32], n: usize, seen: usize, w: usize, p: usize, t: u
     requires { ⌜ CanAppend n (now work) seen w p t r ⌝ }
     ensures { λ _. ⌜ Appended n seen w p t r (now (work .entry)) (now (work .exit)) ⌝ }
 {
-    core_words::put(work, seen, 3, w);
-    core_words::put(work, w, 4, seen + 1);
-    core_words::put(work, w, 5, p);
-    core_words::put(work, w, 13, t);
-    core_words::put(work, w, 12, r);
+    core_words::put(work, seen, ORDER, w);
+    core_words::put(work, w, POSITION, seen + 1);
+    core_words::put(work, w, PARENT, p);
+    core_words::put(work, w, EDGE, t);
+    core_words::put(work, w, ROOT, r);
 }
 
 // The far end of half-edge h out of v, the node at place done, is seen now; the new count of seen nodes.
@@ -54,8 +55,8 @@ fn visit_half(
     requires { ⌜ CanVisit n m (now work) done seen r v h ⌝ }
     ensures { λ s. ⌜ Visited n m (now (work .entry)) (now (work .exit)) done s r v h ⌝ }
 {
-    let x = core_words::get_half(work, n, h, 0);
-    let p = core_words::get(work, x, 4);
+    let x = core_words::get_half(work, n, h, TO);
+    let p = core_words::get(work, x, POSITION);
     if p == 0 {
         append_node(work, n, seen, x, v, h / 2 + 1, r);
         return seen + 1;
@@ -68,12 +69,12 @@ fn scan_node(work: &mut [u32], n: usize, m: usize, done: usize, seen: usize, r: 
     requires { ⌜ Growing n m (now work) done seen r × (done < seen) ⌝ }
     ensures { λ s. ⌜ Grown n m (now (work .entry)) (now (work .exit)) (done + 1) s r ⌝ }
 {
-    let v = core_words::get(work, done, 3);
+    let v = core_words::get(work, done, ORDER);
     let mut seen = seen;
-    let mut cur = core_words::get(work, v, 2);
+    let mut cur = core_words::get(work, v, HEAD);
     while cur != 0 {
         seen = visit_half(work, n, m, done, seen, r, v, cur - 1);
-        cur = core_words::get_half(work, n, cur - 1, 1);
+        cur = core_words::get_half(work, n, cur - 1, NEXT);
     }
     seen
 }
@@ -97,8 +98,8 @@ fn start_tree(work: &mut [u32], n: usize, m: usize, k: usize, seen: usize, j: us
     requires { ⌜ BetweenTrees n m k (now work) seen j × (j < k) ⌝ }
     ensures { λ s. ⌜ SearchKeeps n (now (work .entry)) (now (work .exit)) × BetweenTrees n m k (now (work .exit)) s (j + 1) ⌝ }
 {
-    let r = core_words::get(work, j, 1);
-    let p = core_words::get(work, r, 4);
+    let r = core_words::get(work, j, ACTIVE);
+    let p = core_words::get(work, r, POSITION);
     if p == 0 {
         append_node(work, n, seen, r, r, 0, r);
         return grow_tree(work, n, m, seen, seen + 1, r);

@@ -1,4 +1,4 @@
--- Laws of loading: the different entries of a list that grows by one entry, marks cleared, a node entered as active, and an edge stored.
+-- Laws of the parts of loading: the different entries of a list that grows by one entry, marks cleared, a node entered as active, and an edge stored.
 -- Assumes nothing.
 use Prim.Native.Nat.{_%_, _*_, _+_, _-_, _/_, _<_, _≤_, suc, zero, ℕ}
 use mathlib.Core.Bool.{Bool, _||_, cond, false, not, or-true, true}
@@ -10,12 +10,13 @@ use native.Mathlib.Omega.{arith}
 use borrow.Author.Tests.{eq-eqb, eqb-false, eqb-true, ne-eqb}
 use Rattle.theory_graph.proofs.ActiveLists.{in-firsts}
 use Rattle.theory_graph.proofs.Booleans.{contradict, onBool}
-use Rattle.theory_graph.proofs.Lists.{All, Pairwise, all-filter, filter-all, filter-length, firsts-in, firsts-pairwise, mem-member, member-mem, pairwise-filter, table-all, table-in, table-length, table-mem}
+use Rattle.theory_graph.proofs.Lists.{All, Pairwise, all-filter, filter-all, filter-length, firsts-in, firsts-pairwise}
+use Rattle.theory_graph.proofs.Lists.{mem-member, member-mem, pairwise-filter, table-all, table-in, table-length, table-mem}
 use Rattle.theory_graph.proofs.TableLaws.{table-equal, table-more}
 use Rattle.theory_graph.specs.Lists.{filter, firsts, member, table}
 use Rattle.core_loading.specs.Loading.{Entered, Entering, Past, PutEdge, Unmarked}
 use Rattle.core_words.proofs.FieldLaws.{update-at, update-other, update-same}
-use Rattle.core_words.specs.Fields.{Put, PutHalf, half, node, update}
+use Rattle.core_words.specs.Fields.{ACTIVE, MARK, TO, Put, PutHalf, half, node, update}
 
 -- ---- the different entries of a list
 filter-append : (p : ℕ → Bool) (xs ys : List ℕ) → filter p (xs ++ ys) ≡ filter p xs ++ filter p ys
@@ -63,7 +64,8 @@ distinct-most (suc n) xs p a =
       arith,
       filter-length f xs,
       few (filter f xs) (pairwise-filter eqb f xs p) (filter-all f xs),
-      distinct-most n (filter (λ x. not (f x)) xs) (pairwise-filter eqb (λ x. not (f x)) xs p) (less (filter (λ x. not (f x)) xs) (all-filter (λ x. x < suc n) (λ x. not (f x)) xs a) (filter-all (λ x. not (f x)) xs)),
+      distinct-most n (filter (λ x. not (f x)) xs) (pairwise-filter eqb (λ x. not (f x)) xs p)
+          (less (filter (λ x. not (f x)) xs) (all-filter (λ x. x < suc n) (λ x. not (f x)) xs a) (filter-all (λ x. not (f x)) xs)),
     )
   where
     few : (l : List ℕ) → Pairwise eqb l → All (λ x. eqb x n ≡ true) l → length l ≤ 1
@@ -97,7 +99,8 @@ module _ {n d v : ℕ} {S : List ℕ} {mark act : ℕ → ℕ} (g : Entered n S 
   mark-member : v < n → 0 < mark v → member S v ≡ true
   mark-member l p =
       let (i, k, e) = g .marks v l p in
-      mem-member v S (firsts-in eqb v S (subst (λ (l : List ℕ). List·Memᴰ v l) (g .active) (subst (λ (u : ℕ). List·Memᴰ u (table act 0 d)) e (table-in act 0 d i (omega arith) (omega arith)))))
+      mem-member v S (firsts-in eqb v S (subst (λ (l : List ℕ). List·Memᴰ v l) (g .active)
+      (subst (λ (u : ℕ). List·Memᴰ u (table act 0 d)) e (table-in act 0 d i (omega arith) (omega arith)))))
 
   member-mark : List·Memᴰ v S → (i : ℕ) × (i < d) × (v ≡ act i)
   member-mark m =
@@ -168,28 +171,28 @@ pub record Clearing (n v : ℕ) (a b : List ℕ) : Type 0 where
 pub clearing-none : (n : ℕ) (a : List ℕ) → Clearing n 0 a a
 clearing-none n a = record { low = omega arith; same = refl; past = λ i l. refl; none = λ u l. absurd (omega arith) }
 
-pub clearing-more : {n v : ℕ} {a b c : List ℕ} → Clearing n v a b → v < n → Put 0 v 0 b c → Clearing n (v + 1) a c
+pub clearing-more : {n v : ℕ} {a b c : List ℕ} → Clearing n v a b → v < n → Put MARK v 0 b c → Clearing n (v + 1) a c
 clearing-more {n} {v} {a} {b} {c} k l p = record {
   low = omega arith;
   same = p .same ∙ k .same;
   past = λ i u. halves-past n b c (λ j. p .halves n l j) i u ∙ k .past i u;
-  none = rw (p .here) (update-at (λ u x. u < v + 1 → x ≡ 0) (node 0 b) v 0 (λ _. refl) (λ u ne h. k .none u (omega arith)));
+  none = rw (p .here) (update-at (λ u x. u < v + 1 → x ≡ 0) (node MARK b) v 0 (λ _. refl) (λ u ne h. k .none u (omega arith)));
 }
 
 -- a node that has its mark already
-pub entering-again : {n d v : ℕ} {a : List ℕ} → v < n → 0 < node 0 a v → Entering n d v a a d
+pub entering-again : {n d v : ℕ} {a : List ℕ} → v < n → 0 < node MARK a v → Entering n d v a a d
 entering-again l p = record { same = refl; past = λ i k. refl; more = λ S g. entered-again g l p }
 
-pub entering-room : {n d v : ℕ} (a : List ℕ) → v < n → node 0 a v ≡ 0 → (S : List ℕ) × Entered n S d (node 0 a) (node 1 a) → d < n
+pub entering-room : {n d v : ℕ} (a : List ℕ) → v < n → node MARK a v ≡ 0 → (S : List ℕ) × Entered n S d (node MARK a) (node ACTIVE a) → d < n
 entering-room a l z (S, g) = entered-room g l z
 
-pub entering-new : {n d v : ℕ} {a b c : List ℕ} → v < n → node 0 a v ≡ 0 → d < n → Put 1 d v a b → Put 0 v (d + 1) b c → Entering n d v a c (d + 1)
+pub entering-new : {n d v : ℕ} {a b c : List ℕ} → v < n → node MARK a v ≡ 0 → d < n → Put ACTIVE d v a b → Put MARK v (d + 1) b c → Entering n d v a c (d + 1)
 entering-new {n} {d} {v} {a} {b} {c} l z k p q = record {
   same = q .same ∙ p .same;
   past = halves-past n a c (λ j. q .halves n l j ∙ p .halves n k j);
   more = λ S g.
-      let mark : node 0 c ≡ update (node 0 a) v (d + 1) = q .here ∙ ap (λ (f : ℕ → ℕ). update f v (d + 1)) (p .else 0 (omega arith) (λ e. omega arith)) in
-      let act : node 1 c ≡ update (node 1 a) d v = q .else 1 (omega arith) (λ e. omega arith) ∙ p .here in
+      let mark : node MARK c ≡ update (node MARK a) v (d + 1) = q .here ∙ ap (λ (f : ℕ → ℕ). update f v (d + 1)) (p .else MARK (omega arith) (λ e. omega arith)) in
+      let act : node ACTIVE c ≡ update (node ACTIVE a) d v = q .else ACTIVE (omega arith) (λ e. omega arith) ∙ p .here in
       rw (mark, act) (entered-new g l z);
 }
 
@@ -201,19 +204,19 @@ halves-kept n m a b f i l =
     let e : 16 * n + 2 * ((i - 16 * n) / 2) + (i - 16 * n) % 2 ≡ i = omega arith in
     ap (λ j. getD b j 0) (sym e) ∙ f ((i - 16 * n) % 2) ((i - 16 * n) / 2) (omega arith) (omega arith) ∙ ap (λ j. getD a j 0) e
 
-pub put-edge : (n j a b : ℕ) {w w₁ w₂ : List ℕ} → PutHalf n 0 (2 * j) a w w₁ → PutHalf n 0 (2 * j + 1) b w₁ w₂ → PutEdge n j a b w w₂
+pub put-edge : (n j a b : ℕ) {w w₁ w₂ : List ℕ} → PutHalf n TO (2 * j) a w w₁ → PutHalf n TO (2 * j + 1) b w₁ w₂ → PutEdge n j a b w w₂
 put-edge n j a b {w} {w₁} {w₂} p q =
     record {
       same = q .same ∙ p .same;
       past = λ i l. halves-kept n (j + 1) w w₂ other i (omega arith);
-      first = ap (λ f. f (2 * j)) (q .here) ∙ update-other (half n 0 w₁) (2 * j + 1) b (2 * j) (λ e. omega arith) ∙ ap (λ f. f (2 * j)) (p .here) ∙ update-same (half n 0 w) (2 * j) a;
-      second = ap (λ f. f (2 * j + 1)) (q .here) ∙ update-same (half n 0 w₁) (2 * j + 1) b;
+      first = ap (λ f. f (2 * j)) (q .here) ∙ update-other (half n TO w₁) (2 * j + 1) b (2 * j) (λ e. omega arith) ∙ ap (λ f. f (2 * j)) (p .here) ∙ update-same (half n TO w) (2 * j) a;
+      second = ap (λ f. f (2 * j + 1)) (q .here) ∙ update-same (half n TO w₁) (2 * j + 1) b;
       else = λ h l. far h (λ e. omega arith) (λ e. omega arith);
       nodes = λ i l v u. q .nodes i l v u ∙ p .nodes i l v u;
     }
   where
-    far : (h : ℕ) → ¬ (h ≡ 2 * j) → ¬ (h ≡ 2 * j + 1) → half n 0 w₂ h ≡ half n 0 w h
-    far h k l = ap (λ f. f h) (q .here) ∙ update-other (half n 0 w₁) (2 * j + 1) b h l ∙ ap (λ f. f h) (p .here) ∙ update-other (half n 0 w) (2 * j) a h k
+    far : (h : ℕ) → ¬ (h ≡ 2 * j) → ¬ (h ≡ 2 * j + 1) → half n TO w₂ h ≡ half n TO w h
+    far h k l = ap (λ f. f h) (q .here) ∙ update-other (half n TO w₁) (2 * j + 1) b h l ∙ ap (λ f. f h) (p .here) ∙ update-other (half n TO w) (2 * j) a h k
 
     other : (k h : ℕ) → k < 2 → 2 * (j + 1) ≤ h → half n k w₂ h ≡ half n k w h
     other k h i l = onBool (eqb k 0)

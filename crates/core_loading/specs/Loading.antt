@@ -1,4 +1,4 @@
--- What loading does to the words: marks cleared, a node entered as active, where it is not yet, and an edge stored.
+-- The parts of loading a graph into the words: marks cleared, a node entered as active, where it is not yet, and an edge stored.
 -- Assumes nothing: these are definitions.
 use Prim.Native.Nat.{_*_, _+_, _<_, _≤_, ℕ}
 use mathlib.Core.List.{List, [], _++_, _∷_}
@@ -6,7 +6,7 @@ use mathlib.Core.Path.{_≡_}
 use lib.Dec.{eqb}
 use lib.ListN.{getD, length}
 use Rattle.theory_graph.specs.Lists.{firsts, table}
-use Rattle.core_words.specs.Fields.{half, node}
+use Rattle.core_words.specs.Fields.{ACTIVE, MARK, TO, half, node}
 
 -- from the words a to b every entry from i on stays
 abbrev pub Past : ℕ → List ℕ → List ℕ → Type 0
@@ -14,7 +14,7 @@ Past i a b = (j : ℕ) → i ≤ j → getD b j 0 ≡ getD a j 0
 
 -- no node is marked
 abbrev pub Unmarked : ℕ → List ℕ → Type 0
-Unmarked n w = (v : ℕ) → v < n → node 0 w v ≡ 0
+Unmarked n w = (v : ℕ) → v < n → node MARK w v ≡ 0
 
 -- from a to b the marks of n nodes are cleared
 pub record Cleared (n : ℕ) (a b : List ℕ) : Type 0 where
@@ -33,13 +33,13 @@ pub record Entered (n : ℕ) (S : List ℕ) (d : ℕ) (mark act : ℕ → ℕ) :
 pub record Entering (n d v : ℕ) (a b : List ℕ) (r : ℕ) : Type 0 where
   pub same : length b ≡ length a
   pub past : Past (16 * n) a b
-  pub more : (S : List ℕ) → Entered n S d (node 0 a) (node 1 a) → Entered n (S ++ (v ∷ [])) r (node 0 b) (node 1 b)
+  pub more : (S : List ℕ) → Entered n S d (node MARK a) (node ACTIVE a) → Entered n (S ++ (v ∷ [])) r (node MARK b) (node ACTIVE b)
 
 -- from w to z edge j is stored, with the ends a and b
 pub record PutEdge (n j a b : ℕ) (w z : List ℕ) : Type 0 where
   pub same : length z ≡ length w
   pub past : Past (16 * n + 4 * j + 4) w z
-  pub first : half n 0 z (2 * j) ≡ a
-  pub second : half n 0 z (2 * j + 1) ≡ b
-  pub else : (h : ℕ) → h < 2 * j → half n 0 z h ≡ half n 0 w h
+  pub first : half n TO z (2 * j) ≡ a
+  pub second : half n TO z (2 * j + 1) ≡ b
+  pub else : (h : ℕ) → h < 2 * j → half n TO z h ≡ half n TO w h
   pub nodes : (i : ℕ) → i < 16 → (v : ℕ) → v < n → node i z v ≡ node i w v

@@ -1,32 +1,33 @@
 // Marks cleared, and one active node and one edge put into the words that the contraction takes, for the public call and for the replay's step alike.
+use core_words::*;
 ghost use mathlib.Core.List.{List};
 ghost use Prim.Native.Nat.{ℕ, _+_, _*_, _<_, _≤_};
 ghost use lib.ListN.{length};
-ghost use Rattle.core_words.specs.Fields.{node};
+ghost use Rattle.core_words.specs.Fields.{ACTIVE, MARK, node};
 ghost use Rattle.core_loading.specs.Loading.{Cleared, Entered, Entering, PutEdge};
 
-// Internal: clears the marks of n nodes, field 0.
+// Internal: clears the marks of n nodes.
 pub fn clear_marks(work: &mut [u32], n: usize)
     requires { ⌜ (16 * n ≤ length (now work)) × (n ≤ 65536) ⌝ }
     ensures { λ _. ⌜ Cleared n (now (work .entry)) (now (work .exit)) ⌝ }
 {
     // The nodes below v have no mark.
     for v in 0..n {
-        core_words::put(work, v, 0, 0);
+        core_words::put(work, v, MARK, 0);
     }
 }
 
 // Internal: enters v, where it is not entered yet; the new count of different active nodes.
 pub fn enter(work: &mut [u32], n: usize, d: usize, v: usize) -> usize
-    requires { ⌜ (n ≤ 65536) × (16 * n ≤ length (now work)) × (v < n) × ((S : List ℕ) × Entered n S d (node 0 (now work)) (node 1 (now work))) ⌝ }
+    requires { ⌜ (n ≤ 65536) × (16 * n ≤ length (now work)) × (v < n) × ((S : List ℕ) × Entered n S d (node MARK (now work)) (node ACTIVE (now work))) ⌝ }
     ensures { λ r. ⌜ Entering n d v (now (work .entry)) (now (work .exit)) r ⌝ }
 {
-    let mark = core_words::get(work, v, 0);
+    let mark = core_words::get(work, v, MARK);
     if mark != 0 {
         return d;
     }
-    core_words::put(work, d, 1, v);
-    core_words::put(work, v, 0, d + 1);
+    core_words::put(work, d, ACTIVE, v);
+    core_words::put(work, v, MARK, d + 1);
     d + 1
 }
 
@@ -35,6 +36,6 @@ pub fn put_edge(work: &mut [u32], n: usize, j: usize, a: usize, b: usize)
     requires { ⌜ (16 * n + 4 * j + 4 ≤ length (now work)) × (a < 65536) × (b < 65536) × (n ≤ 65536) × (j < 32768) ⌝ }
     ensures { λ _. ⌜ PutEdge n j a b (now (work .entry)) (now (work .exit)) ⌝ }
 {
-    core_words::put_half(work, n, 2 * j, 0, a);
-    core_words::put_half(work, n, 2 * j + 1, 0, b);
+    core_words::put_half(work, n, 2 * j, TO, a);
+    core_words::put_half(work, n, 2 * j + 1, TO, b);
 }

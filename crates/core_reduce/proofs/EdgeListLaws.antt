@@ -78,7 +78,8 @@ module _ {P : ℕ → ℕ → Type 0} {ea eb : ℕ → ℕ} {m s f : ℕ} (l : L
         (λ q. let e = eqb-true j m q in rw (e, update-same ea m s, update-same eb m t, oa i (omega arith), ob i (omega arith)) (up-to (ea i) (eb i) (l .real i (omega arith) .1)))
         (λ q. let ne : ¬ (j ≡ m) = eqb-false j m q in rw (oa j (omega arith), ob j (omega arith), oa i (omega arith), ob i (omega arith)) (l .rise i j a (omega arith)));
     real = λ i a. onBool (eqb i m)
-        (λ q. let e = eqb-true i m q in rw (e, update-same ea m s, update-same eb m t) (let k = p .at (omega arith) in let z : t + 1 - 1 ≡ t = omega arith in (rw z at (k .1), inr (refl, omega arith))))
+        (λ q. let e = eqb-true i m q in rw (e, update-same ea m s, update-same eb m t)
+        (let k = p .at (omega arith) in let z : t + 1 - 1 ≡ t = omega arith in (rw z at (k .1), inr (refl, omega arith))))
         (λ q. let ne : ¬ (i ≡ m) = eqb-false i m q in let k = l .real i (omega arith) in
         rw (oa i (omega arith), ob i (omega arith)) (k .0, ⊎-elim (λ x. inl x) (λ x. inr (x .0, omega (arith, x .1, p .at (omega arith) .0))) (k .1)));
     all = λ x y c. ⊎-elim

@@ -1,36 +1,36 @@
 -- What the contraction on words takes and gives. n nodes, m edges by their half-edges, k different active nodes.
--- Before: field 0 of half-edge 2e is one end of edge e and that of 2e + 1 the other; field 1 of node i is the i-th active node, and field 0 of an active node
--- is one more than its place among them, 0 of any other node. After: field 0 of an active node is its new number, and fields 4 and 5 of node j are the ends of the j-th edge out.
+-- Before: TO of half-edge 2e is one end of edge e and that of 2e + 1 the other; ACTIVE of i is the i-th active node, and MARK of an active node
+-- is one more than its place among them, 0 of any other node. After: MAPPED of an active node is its new number, and LOWER and UPPER of j are the ends of the j-th edge out.
 -- Assumes nothing: these are definitions.
-use Prim.Native.Nat.{ℕ, zero, suc, _+_, _*_, _≤_, _<_}
+use Prim.Native.Nat.{ℕ, _+_, _*_, _≤_, _<_}
 use mathlib.Core.Path.{_≡_}
-use mathlib.Core.List.{List, [], _∷_}
+use mathlib.Core.List.{List}
 use lib.ListN.{length, getD}
 use Rattle.theory_graph.specs.Lists.{table}
 use Rattle.theory_graph.specs.Graph.{Edge}
 use Rattle.theory_graph.specs.SmallGraph.{IsSmallGraph, Canonical}
-use Rattle.core_words.specs.Fields.{node, half}
+use Rattle.core_words.specs.Fields.{ACTIVE, LOWER, MAPPED, MARK, TO, UPPER, half, node}
 
 -- the edges and the active nodes in the words
 abbrev pub edgesIn : ℕ → ℕ → List ℕ → List Edge
-edgesIn n m w = table (λ e. (half n 0 w (2 * e), half n 0 w (2 * e + 1))) 0 m
+edgesIn n m w = table (λ e. (half n TO w (2 * e), half n TO w (2 * e + 1))) 0 m
 
 abbrev pub activeIn : ℕ → List ℕ → List ℕ
-activeIn k w = table (node 1 w) 0 k
+activeIn k w = table (node ACTIVE w) 0 k
 
 -- the edges out
 abbrev pub edgesOut : ℕ → List ℕ → List Edge
-edgesOut e w = table (λ j. (node 4 w j, node 5 w j)) 0 e
+edgesOut e w = table (λ j. (node LOWER w j, node UPPER w j)) 0 e
 
 pub record Loaded (n m k : ℕ) (w : List ℕ) : Type 0 where
   pub few : n ≤ 65536
   pub much : m ≤ 32768
   pub room : 16 * n + 4 * m ≤ length w
   pub less : k ≤ n
-  pub ends : (h : ℕ) → h < 2 * m → half n 0 w h < n
-  pub active : (i : ℕ) → i < k → node 1 w i < n
-  pub marked : (i : ℕ) → i < k → node 0 w (node 1 w i) ≡ i + 1
-  pub marks : (v : ℕ) → v < n → 0 < node 0 w v → (i : ℕ) × (i < k) × (node 1 w i ≡ v)
+  pub ends : (h : ℕ) → h < 2 * m → half n TO w h < n
+  pub active : (i : ℕ) → i < k → node ACTIVE w i < n
+  pub marked : (i : ℕ) → i < k → node MARK w (node ACTIVE w i) ≡ i + 1
+  pub marks : (v : ℕ) → v < n → 0 < node MARK w v → (i : ℕ) × (i < k) × (node ACTIVE w i ≡ v)
 
 -- from the words a to b: a small graph of h nodes and e edges, numbered as document 01 says
 pub record Reduced (n m k : ℕ) (a b : List ℕ) (h e : ℕ) : Type 0 where
@@ -41,4 +41,4 @@ pub record Reduced (n m k : ℕ) (a b : List ℕ) (h e : ℕ) : Type 0 where
   pub σ : ℕ → ℕ
   pub small : IsSmallGraph (edgesIn n m a) (activeIn k a) h (edgesOut e b) ρ σ
   pub canonical : Canonical (edgesIn n m a) (activeIn k a) h ρ σ
-  pub numbers : (i : ℕ) → i < k → node 0 b (node 1 a i) ≡ σ (node 1 a i)
+  pub numbers : (i : ℕ) → i < k → node MAPPED b (node ACTIVE a i) ≡ σ (node ACTIVE a i)

@@ -1,5 +1,5 @@
 -- The edges between each number and its parent number, listed in ascending order. `up x` is 0, or one more than the parent number of x.
--- Fields: 9 is `up`; 2 the head and 8 the next of the lists of larger children; 4 and 5 the ends of the edges as they are written.
+-- ABOVE is `up`; CHILD the head and SIBLING the next of the lists of larger children; LOWER and UPPER the ends of the edges as they are written.
 -- Assumes nothing: these are definitions.
 use Prim.Native.Nat.{_*_, _+_, _-_, _<_, _≤_, ℕ}
 use mathlib.Core.List.{List, List·Memᴰ, [], _∷_}
@@ -10,7 +10,7 @@ use Rattle.theory_graph.specs.SmallGraph.{Ascends, EdgeLess}
 use Rattle.theory_graph.specs.Graph.{Edge}
 use Rattle.theory_graph.specs.Lists.{table}
 use Rattle.core_words.specs.Changes.{OnlyFields}
-use Rattle.core_words.specs.Fields.{node}
+use Rattle.core_words.specs.Fields.{ABOVE, CHILD, LOWER, SIBLING, UPPER, node}
 
 -- s is the parent of y, and smaller
 abbrev pub LargerChild : ℕ → (ℕ → ℕ) → ℕ → ℕ → Type 0
@@ -39,7 +39,7 @@ abbrev pub IfAbove : ℕ → ℕ → ℕ → Type 0
 IfAbove u f r = ((f < u) × (r ≡ u)) ⊎ ((u ≤ f) × (r ≡ 0))
 
 abbrev pub NextChild : List ℕ → ℕ → ℕ → ℕ → Type 0
-NextChild w c t r = ((c ≡ t) × (r ≡ node 8 w (t - 1))) ⊎ ((c ≡ t → ⊥) × (r ≡ c))
+NextChild w c t r = ((c ≡ t) × (r ≡ node SIBLING w (t - 1))) ⊎ ((c ≡ t → ⊥) × (r ≡ c))
 
 -- the numbers from i on are in the lists of their parents, where these are smaller; each list ascends
 pub record ChildLists (h i : ℕ) (up head next : ℕ → ℕ) : Type 0 where
@@ -56,27 +56,31 @@ pub record ListedPairs (P : ℕ → ℕ → Type 0) (ea eb : ℕ → ℕ) (m s f
 abbrev pub edgeTable : (ℕ → ℕ) → (ℕ → ℕ) → ℕ → ℕ → List Edge
 edgeTable ea eb i k = table (λ j. (ea j, eb j)) i k
 
+-- the fields that listing changes
+abbrev pub listFields : List ℕ
+listFields = CHILD ∷ LOWER ∷ UPPER ∷ SIBLING ∷ []
+
 pub record CanList (n h : ℕ) (w : List ℕ) : Type 0 where
   pub few : n ≤ 65536
   pub room : 16 * n ≤ length w
   pub less : h ≤ n
-  pub fits : (x : ℕ) → x < h → node 9 w x ≤ h
+  pub fits : (x : ℕ) → x < h → node ABOVE w x ≤ h
 
 pub record Pushing (n h : ℕ) (a w : List ℕ) (i : ℕ) : Type 0 where
   pub ready : CanList n h w
-  pub rest : OnlyFields (2 ∷ 4 ∷ 5 ∷ 8 ∷ []) n a w
-  pub lists : ChildLists h i (node 9 w) (node 2 w) (node 8 w)
+  pub rest : OnlyFields listFields n a w
+  pub lists : ChildLists h i (node ABOVE w) (node CHILD w) (node SIBLING w)
 
 pub record Writing (n h : ℕ) (a w : List ℕ) (m s f : ℕ) : Type 0 where
   pub ready : CanList n h w
-  pub rest : OnlyFields (2 ∷ 4 ∷ 5 ∷ 8 ∷ []) n a w
-  pub lists : ChildLists h 0 (node 9 w) (node 2 w) (node 8 w)
-  pub listed : ListedPairs (EdgePair h (node 9 w)) (node 4 w) (node 5 w) m s f
+  pub rest : OnlyFields listFields n a w
+  pub lists : ChildLists h 0 (node ABOVE w) (node CHILD w) (node SIBLING w)
+  pub listed : ListedPairs (EdgePair h (node ABOVE w)) (node LOWER w) (node UPPER w) m s f
 
 -- the m edges written are those of the numbers and their parents, ascending
 pub record EdgesListed (n h : ℕ) (a w : List ℕ) (m : ℕ) : Type 0 where
-  pub rest : OnlyFields (2 ∷ 4 ∷ 5 ∷ 8 ∷ []) n a w
+  pub rest : OnlyFields listFields n a w
   pub most : m ≤ h
-  pub ascends : Ascends (edgeTable (node 4 w) (node 5 w) 0 m)
-  pub is : (x y : ℕ) → List·Memᴰ (x, y) (edgeTable (node 4 w) (node 5 w) 0 m) → EdgePair h (node 9 a) x y
-  pub all : (x y : ℕ) → EdgePair h (node 9 a) x y → List·Memᴰ (x, y) (edgeTable (node 4 w) (node 5 w) 0 m)
+  pub ascends : Ascends (edgeTable (node LOWER w) (node UPPER w) 0 m)
+  pub is : (x y : ℕ) → List·Memᴰ (x, y) (edgeTable (node LOWER w) (node UPPER w) 0 m) → EdgePair h (node ABOVE a) x y
+  pub all : (x y : ℕ) → EdgePair h (node ABOVE a) x y → List·Memᴰ (x, y) (edgeTable (node LOWER w) (node UPPER w) 0 m)

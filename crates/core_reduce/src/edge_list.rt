@@ -1,11 +1,11 @@
 // The edges between each number and its parent number, written in ascending order without a sort: each number is put into the list of its parent where that is smaller,
 // from the last number down, so that each list ascends; then for each number its list is written, with its own parent merged in where that is larger.
-ghost use mathlib.Core.Path.{_≡_};
+use core_words::*;
 ghost use mathlib.Core.List.{[], _∷_};
-ghost use Prim.Native.Nat.{ℕ, _+_, _-_, _*_, _<_, _≤_};
+ghost use Prim.Native.Nat.{_+_, _-_, _*_, _<_, _≤_};
 ghost use lib.ListN.{length};
-ghost use Rattle.core_words.specs.Fields.{node};
-ghost use Rattle.core_reduce.specs.Clearing.{Cleared};
+ghost use Rattle.core_words.specs.Fields.{ABOVE, CHILD, node};
+ghost use Rattle.core_reduce.specs.Clearing.{ClearedNodes};
 ghost use Rattle.core_reduce.specs.EdgeList.{EdgePair, FirstFrom, LeastNonzero, IfAbove, NextChild, CanList, Pushing, Writing, EdgesListed};
 
 // The smaller of those that are not 0, or 0.
@@ -40,7 +40,7 @@ fn next_child(work: &[u32], c: usize, t: usize) -> usize
     ensures { λ r. ⌜ NextChild (now (work .entry)) c t r ⌝ }
 {
     if c == t {
-        return core_words::get(work, t - 1, 8);
+        return core_words::get(work, t - 1, SIBLING);
     }
     c
 }
@@ -48,10 +48,10 @@ fn next_child(work: &[u32], c: usize, t: usize) -> usize
 // The h numbers have empty lists.
 fn clear_lists(work: &mut [u32], n: usize, h: usize)
     requires { ⌜ CanList n h (now work) ⌝ }
-    ensures { λ _. ⌜ Cleared (2 ∷ []) n h (now (work .entry)) (now (work .exit)) ⌝ }
+    ensures { λ _. ⌜ ClearedNodes (CHILD ∷ []) n h (now (work .entry)) (now (work .exit)) ⌝ }
 {
     for s in 0..h {
-        core_words::put(work, s, 2, 0);
+        core_words::put(work, s, CHILD, 0);
     }
 }
 
@@ -60,16 +60,16 @@ fn push_child(work: &mut [u32], n: usize, h: usize, x: usize)
     requires { ⌜ Pushing n h (now work) (now work) (x + 1) × (x < h) ⌝ }
     ensures { λ _. ⌜ Pushing n h (now (work .entry)) (now (work .exit)) x ⌝ }
 {
-    let u = core_words::get(work, x, 9);
+    let u = core_words::get(work, x, ABOVE);
     if u == 0 {
         return;
     }
     if x < u {
         return;
     }
-    let c = core_words::get(work, u - 1, 2);
-    core_words::put(work, x, 8, c);
-    core_words::put(work, u - 1, 2, x + 1);
+    let c = core_words::get(work, u - 1, CHILD);
+    core_words::put(work, x, SIBLING, c);
+    core_words::put(work, u - 1, CHILD, x + 1);
 }
 
 // Puts each number into the list of its parent, where that is smaller.
@@ -86,11 +86,11 @@ fn push_children(work: &mut [u32], n: usize, h: usize)
 
 // Writes the edge of s and t - 1 as the m-th.
 fn write_edge(work: &mut [u32], n: usize, h: usize, m: usize, s: usize, f: usize, t: usize)
-    requires { ⌜ Writing n h (now work) (now work) m s f × (s < h) × FirstFrom (EdgePair h (node 9 (now work)) s) f t × (0 < t) ⌝ }
+    requires { ⌜ Writing n h (now work) (now work) m s f × (s < h) × FirstFrom (EdgePair h (node ABOVE (now work)) s) f t × (0 < t) ⌝ }
     ensures { λ _. ⌜ Writing n h (now (work .entry)) (now (work .exit)) (m + 1) s t ⌝ }
 {
-    core_words::put(work, m, 4, s);
-    core_words::put(work, m, 5, t - 1);
+    core_words::put(work, m, LOWER, s);
+    core_words::put(work, m, UPPER, t - 1);
 }
 
 // Writes the edges whose smaller end is s after the first m; the new count.
@@ -98,8 +98,8 @@ fn write_row(work: &mut [u32], n: usize, h: usize, s: usize, m: usize) -> usize
     requires { ⌜ Writing n h (now work) (now work) m s (s + 1) × (s < h) ⌝ }
     ensures { λ r. ⌜ Writing n h (now (work .entry)) (now (work .exit)) r (s + 1) (s + 1 + 1) ⌝ }
 {
-    let u = core_words::get(work, s, 9);
-    let mut c = core_words::get(work, s, 2);
+    let u = core_words::get(work, s, ABOVE);
+    let mut c = core_words::get(work, s, CHILD);
     let mut f = s + 1;
     let mut m = m;
     let o = if_above(u, f);
@@ -127,7 +127,7 @@ fn write_rows(work: &mut [u32], n: usize, h: usize) -> usize
     m
 }
 
-// Lists the edges of the h numbers in ascending order: fields 4 and 5 from node 0 on. Their count.
+// Lists the edges of the h numbers in ascending order, in LOWER and UPPER from node 0 on. Their count.
 pub(crate) fn list_edges(work: &mut [u32], n: usize, h: usize) -> usize
     requires { ⌜ CanList n h (now work) ⌝ }
     ensures { λ r. ⌜ EdgesListed n h (now (work .entry)) (now (work .exit)) r ⌝ }

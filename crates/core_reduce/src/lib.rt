@@ -2,31 +2,31 @@
 //
 // | field | of | what | later |
 // |---|---|---|---|
-// | 0 | a node | 1 + its place among the active nodes, 0 for none (in) | the number of its class, at an active node (out) |
-// | 1 | i | the i-th active node (in) | |
-// | 2 | a node | head of its adjacency list | head of a number's list of larger children |
-// | 3 | i | the i-th node of the search | |
-// | 4 | a node | 1 + its place in the search, 0 unseen | edge i: smaller end (out) |
-// | 5 | a node | its parent in the forest | edge i: larger end (out) |
-// | 6 | a node | the top of its class | |
-// | 7 | a top | 1 + an active node at or below its class, 0 for none | 1 + number of the nearest kept class at or above |
-// | 8 | a top | 1 + the last branch reported to its class | next in a list of larger children |
-// | 9 | a top | 1 + another branch | 1 + number of the nearest kept class above number i |
-// | 10 | a top | 1 + the number of its class, 0 for none | |
-// | 11 | i | a node of the class with the number i | |
-// | 12 | a node | the root of its tree | |
-// | 13 | a node | 1 + its tree edge, 0 at a root | |
+// | MARK | a node | 1 + its place among the active nodes, 0 for none (in) | MAPPED: the number of its class, at an active node (out) |
+// | ACTIVE | i | the i-th active node (in) | |
+// | HEAD | a node | head of its adjacency list | CHILD of a number: head of its list of larger children |
+// | ORDER | i | the i-th node of the search | |
+// | POSITION | a node | 1 + its place in the search, 0 unseen | LOWER of i: smaller end of the i-th edge (out) |
+// | PARENT | a node | its parent in the forest | UPPER of i: larger end of the i-th edge (out) |
+// | TOP | a node | the top of its class | |
+// | LIVE | a top | 1 + an active node at or below its class, 0 for none | NEAREST: 1 + the number of the nearest kept class at or above |
+// | BRANCH | a top | 1 + the last branch reported to its class | SIBLING of a number: next in a list of larger children |
+// | OTHER | a top | 1 + another branch | ABOVE of a number: 1 + the number of the nearest kept class above |
+// | NUMBER | a top | 1 + the number of its class, 0 for none | |
+// | MEMBER | a number | a node of its class | |
+// | ROOT | a node | the root of its tree | |
+// | EDGE | a node | 1 + its tree edge, 0 at a root | |
 //
-// Fields 14 and 15 are free. Fields 2, 4, 7, 8, 9 and 10 start at 0. Field 0 of a half-edge is the far end, field 1 the next at its node.
+// HEAD, POSITION, LIVE, BRANCH, OTHER and NUMBER start at 0. TO of a half-edge is its far end, NEXT the next at the same node.
 mod edge_list;
 
+use core_words::*;
 ghost use mathlib.Core.Path.{_≡_};
-ghost use mathlib.Core.List.{[], _∷_};
-ghost use Prim.Native.Nat.{ℕ, _+_, _-_, _*_, _<_, _≤_};
+ghost use Prim.Native.Nat.{_-_, _*_, _<_, _≤_};
 ghost use lib.ListN.{length};
-ghost use Rattle.core_words.specs.Fields.{node};
+ghost use Rattle.core_words.specs.Fields.{NUMBER, TOP, node};
 ghost use Rattle.core_branches.specs.Classes.{HasNumber};
-ghost use Rattle.core_reduce.specs.Clearing.{ClearedNode, Cleared};
+ghost use Rattle.core_reduce.specs.Clearing.{ClearedNode, ClearedNodes, startFields};
 ghost use Rattle.core_reduce.specs.Numbers.{CanWrite, WritingNumbers};
 ghost use Rattle.core_reduce.specs.Core.{Loaded, Reduced};
 
@@ -39,20 +39,20 @@ pub struct Counts {
 // Node v has no list, no place in the search, no branch and no number.
 fn clear_node(work: &mut [u32], n: usize, v: usize)
     requires { ⌜ (16 * n ≤ length (now work)) × (n ≤ 65536) × (v < n) ⌝ }
-    ensures { λ _. ⌜ ClearedNode (10 ∷ 9 ∷ 8 ∷ 7 ∷ 4 ∷ 2 ∷ []) n v (now (work .entry)) (now (work .exit)) ⌝ }
+    ensures { λ _. ⌜ ClearedNode startFields n v (now (work .entry)) (now (work .exit)) ⌝ }
 {
-    core_words::put(work, v, 2, 0);
-    core_words::put(work, v, 4, 0);
-    core_words::put(work, v, 7, 0);
-    core_words::put(work, v, 8, 0);
-    core_words::put(work, v, 9, 0);
-    core_words::put(work, v, 10, 0);
+    core_words::put(work, v, HEAD, 0);
+    core_words::put(work, v, POSITION, 0);
+    core_words::put(work, v, LIVE, 0);
+    core_words::put(work, v, BRANCH, 0);
+    core_words::put(work, v, OTHER, 0);
+    core_words::put(work, v, NUMBER, 0);
 }
 
 // Clears the fields that start at 0.
 fn clear_nodes(work: &mut [u32], n: usize)
     requires { ⌜ (16 * n ≤ length (now work)) × (n ≤ 65536) ⌝ }
-    ensures { λ _. ⌜ Cleared (10 ∷ 9 ∷ 8 ∷ 7 ∷ 4 ∷ 2 ∷ []) n n (now (work .entry)) (now (work .exit)) ⌝ }
+    ensures { λ _. ⌜ ClearedNodes startFields n n (now (work .entry)) (now (work .exit)) ⌝ }
 {
     for v in 0..n {
         clear_node(work, n, v);
@@ -62,33 +62,34 @@ fn clear_nodes(work: &mut [u32], n: usize)
 // The number of v's class.
 fn class_number(work: &[u32], n: usize, v: usize) -> usize
     requires { ⌜ HasNumber n (now work) v ⌝ }
-    ensures { λ r. ⌜ (r ≡ node 10 (now (work .entry)) (node 6 (now (work .entry)) v) - 1) × (r < 4294967296) ⌝ }
+    ensures { λ r. ⌜ (r ≡ node NUMBER (now (work .entry)) (node TOP (now (work .entry)) v) - 1) × (r < 4294967296) ⌝ }
 {
-    let t = core_words::get(work, v, 6);
-    let x = core_words::get(work, t, 10);
+    let t = core_words::get(work, v, TOP);
+    let x = core_words::get(work, t, NUMBER);
     x - 1
 }
 
-// Field 0 of each active node becomes the number of its class.
+// MAPPED of each active node becomes the number of its class.
 fn write_numbers(work: &mut [u32], n: usize, k: usize)
     requires { ⌜ CanWrite n k (now work) ⌝ }
     ensures { λ _. ⌜ WritingNumbers n (now (work .entry)) k (now (work .exit)) ⌝ }
 {
     for i in 0..k {
-        let v = core_words::get(work, i, 1);
+        let v = core_words::get(work, i, ACTIVE);
         let x = class_number(work, n, v);
-        core_words::put(work, v, 0, x);
+        core_words::put(work, v, MAPPED, x);
     }
 }
 
-// Internal: contracts the m edges between n nodes to the k different active nodes that are loaded in the words.
+// Internal: contracts the m edges between n nodes to the k different active nodes that stand in the words.
 pub fn reduce(work: &mut [u32], n: usize, m: usize, k: usize) -> Counts
     requires { ⌜ Loaded n m k (now work) ⌝ }
     ensures { λ r. ⌜ Reduced n m k (now (work .entry)) (now (work .exit)) (r .nodes) (r .edges) ⌝ }
 {
     clear_nodes(work, n);
     core_forest::link_edges(work, n, m);
-    let seen = core_components::find_components(work, n, m, k);
+    let seen = core_forest::spanning_forest(work, n, m, k);
+    core_components::merge_components(work, n, m, seen);
     let nodes = core_branches::number_classes(work, n, m, k, seen);
     let edges = edge_list::list_edges(work, n, nodes);
     write_numbers(work, n, k);

@@ -8,6 +8,100 @@ use mathlib.Core.Path.{_≡_}
 use lib.Dec.{eqb}
 use lib.ListN.{getD, length}
 
+-- Fields of a node. Some have a second use, with a name of its own; 14 and 15 are free.
+-- 1 + the place of a node among the active nodes, 0 for none (in)
+abbrev pub MARK : ℕ
+MARK = 0
+
+-- the number of an active node's class (out)
+abbrev pub MAPPED : ℕ
+MAPPED = 0
+
+-- at i: the i-th active node (in)
+abbrev pub ACTIVE : ℕ
+ACTIVE = 1
+
+-- 1 + the first half-edge of a node's adjacency list, 0 for none
+abbrev pub HEAD : ℕ
+HEAD = 2
+
+-- at a number: 1 + the first of its larger children, 0 for none
+abbrev pub CHILD : ℕ
+CHILD = 2
+
+-- at i: the i-th node of the search
+abbrev pub ORDER : ℕ
+ORDER = 3
+
+-- 1 + the place of a node in the search, 0 unseen
+abbrev pub POSITION : ℕ
+POSITION = 4
+
+-- at j: the smaller end of the j-th edge (out)
+abbrev pub LOWER : ℕ
+LOWER = 4
+
+-- the parent of a node in the forest
+abbrev pub PARENT : ℕ
+PARENT = 5
+
+-- at j: the larger end of the j-th edge (out)
+abbrev pub UPPER : ℕ
+UPPER = 5
+
+-- the top of a node's class
+abbrev pub TOP : ℕ
+TOP = 6
+
+-- at a top: 1 + an active node at or below its class, 0 for none
+abbrev pub LIVE : ℕ
+LIVE = 7
+
+-- at a top: 1 + the number of the nearest kept class at or above
+abbrev pub NEAREST : ℕ
+NEAREST = 7
+
+-- at a top: 1 + the last branch that was reported to its class, 0 for none
+abbrev pub BRANCH : ℕ
+BRANCH = 8
+
+-- at a number: 1 + the next in a list of larger children, 0 for none
+abbrev pub SIBLING : ℕ
+SIBLING = 8
+
+-- at a top: 1 + another branch, 0 for none
+abbrev pub OTHER : ℕ
+OTHER = 9
+
+-- at a number: 1 + the number of the nearest kept class above, 0 for none
+abbrev pub ABOVE : ℕ
+ABOVE = 9
+
+-- at a top: 1 + the number of its class, 0 for none
+abbrev pub NUMBER : ℕ
+NUMBER = 10
+
+-- at a number: a node of its class
+abbrev pub MEMBER : ℕ
+MEMBER = 11
+
+-- the root of a node's tree
+abbrev pub ROOT : ℕ
+ROOT = 12
+
+-- 1 + the edge of a node to its parent, 0 at a root
+abbrev pub EDGE : ℕ
+EDGE = 13
+
+-- Fields of a half-edge.
+-- the far end of a half-edge (in)
+abbrev pub TO : ℕ
+TO = 0
+
+-- 1 + the next half-edge at the same node, 0 for none
+abbrev pub NEXT : ℕ
+NEXT = 1
+
 unfoldable pub node : ℕ → List ℕ → ℕ → ℕ
 node k w v = getD w (16 * v + k) 0
 

@@ -1,8 +1,56 @@
 ghost use mathlib.Core.Path.{_≡_};
-ghost use Prim.Native.Nat.{ℕ, _+_, _*_, _<_, _≤_};
-ghost use lib.ListN.{length, getD, set, replicate};
+ghost use Prim.Native.Nat.{_+_, _*_, _<_, _≤_};
+ghost use lib.ListN.{length, replicate};
 ghost use Rattle.theory_graph.specs.Lists.{over};
 ghost use Rattle.core_words.specs.Fields.{node, half, Put, PutHalf};
+
+// Fields of a node. Some have a second use, with a name of its own; 14 and 15 are free.
+pub const MARK: usize = 0;
+
+pub const MAPPED: usize = 0;
+
+pub const ACTIVE: usize = 1;
+
+pub const HEAD: usize = 2;
+
+pub const CHILD: usize = 2;
+
+pub const ORDER: usize = 3;
+
+pub const POSITION: usize = 4;
+
+pub const LOWER: usize = 4;
+
+pub const PARENT: usize = 5;
+
+pub const UPPER: usize = 5;
+
+pub const TOP: usize = 6;
+
+pub const LIVE: usize = 7;
+
+pub const NEAREST: usize = 7;
+
+pub const BRANCH: usize = 8;
+
+pub const SIBLING: usize = 8;
+
+pub const OTHER: usize = 9;
+
+pub const ABOVE: usize = 9;
+
+pub const NUMBER: usize = 10;
+
+pub const MEMBER: usize = 11;
+
+pub const ROOT: usize = 12;
+
+pub const EDGE: usize = 13;
+
+// Fields of a half-edge.
+pub const TO: usize = 0;
+
+pub const NEXT: usize = 1;
 
 // Internal: field k of node v.
 pub fn get(work: &[u32], v: usize, k: usize) -> usize

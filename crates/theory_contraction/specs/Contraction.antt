@@ -8,7 +8,7 @@ use lib.ListN.{length, getD, take, replicate}
 use Rattle.theory_graph.specs.Lists.{pairs, over}
 use Rattle.theory_graph.specs.Graph.{Edge}
 use Rattle.theory_graph.specs.Contraction.{Contracted, contract}
-use Rattle.call_sizes.specs.Refusal.{Row, row, Refusal, badEnds, firstFault, seek}
+use Rattle.call_sizes.specs.Refusal.{Row, row, Refusal, badEnds, firstFault, seek, shortRows}
 use Rattle.call_sizes.specs.Sizes.{sizeFaults}
 
 -- the sizes and the tables that are lent
@@ -45,17 +45,21 @@ entries l = take (l .k) (l .active)
 abbrev pub badEntry : ℕ → List ℕ → ℕ → Bool
 badEntry n active i = leb n (getD active i 0)
 
--- refusal 2: a table is shorter than its least length
-abbrev pub shortTables : Lent → List Row
-shortTables l =
-    row (ltb (length (l .from)) (l .m)) 2 0
-    ∷ row (ltb (length (l .to)) (l .m)) 2 0
-    ∷ row (ltb (length (l .active)) (l .k)) 2 0
-    ∷ row (ltb (length (l .map)) (l .k)) 2 0
-    ∷ row (ltb (length (l .outFrom)) (2 * l .k)) 2 0
-    ∷ row (ltb (length (l .outTo)) (2 * l .k)) 2 0
-    ∷ row (ltb (length (l .work)) (required (l .n) (l .m))) 2 0
+-- each table's length, and the least that it must have
+abbrev pub tableLengths : Lent → List (ℕ × ℕ)
+tableLengths l =
+    (length (l .from), l .m)
+    ∷ (length (l .to), l .m)
+    ∷ (length (l .active), l .k)
+    ∷ (length (l .map), l .k)
+    ∷ (length (l .outFrom), 2 * l .k)
+    ∷ (length (l .outTo), 2 * l .k)
+    ∷ (length (l .work), required (l .n) (l .m))
     ∷ []
+
+-- refusal 2
+abbrev pub shortTables : Lent → List Row
+shortTables l = shortRows (tableLengths l)
 
 -- 1, 2, then 4 at the first edge with an end not below n, then 8 at the first active entry not below n
 unfoldable pub faults : Lent → List Row

@@ -1,3 +1,5 @@
+-- `first_bad_ends` meets its contract. The loop's invariant: no segment or edge before s has a bad end.
+-- Assumes nothing.
 use Prim.Native.Nat.{_-_, _≤_}
 use mathlib.Core.Path.{_∙_, _≡_, sym}
 use native.Mathlib.Omega.{arith}
@@ -16,41 +18,41 @@ abbrev μ-loop : tie.MeasureT-loop
 loop-holds : tie.Need-loop-holds Inv-loop μ-loop
 loop-holds c = (omega arith, seek-start (badEnds (c .args .n) (c .args .from .now) (c .args .to .now)) (c .args .m))
 
-mul-if1 : tie.Need-mul-if1 Inv-loop μ-loop
-mul-if1 c = search needs
-
-shared-slice-read-if1 : tie.Need-shared-slice-read-if1 Inv-loop μ-loop
-shared-slice-read-if1 c = search needs
-
 cast-if1 : tie.Need-cast-if1 Inv-loop μ-loop
 cast-if1 c = omega (arith, c .shared-slice-known .given (c .before .before .loop .s))
 
 returns : tie.Need-returns Inv-loop μ-loop
-returns c = let a = c .before .before .before .before .args in
-    sym (c .before .before .before .loop .inv .1 ∙ seek-here (badEnds (a .n) (a .from .now) (a .to .now)) (c .before .before .before .loop .s) (a .m) (omega arith) (bad-from (a .n) (a .from .now) (a .to .now) (c .before .before .before .loop .s) (c .if1 .taken)))
-
-mul-if2 : tie.Need-mul-if2 Inv-loop μ-loop
-mul-if2 c = search needs
-
-shared-slice-read-if2 : tie.Need-shared-slice-read-if2 Inv-loop μ-loop
-shared-slice-read-if2 c = search needs
+returns c =
+    let at-loop = c .before .before .before in
+    let start = at-loop .before in
+    let a = start .args in
+    sym (at-loop .loop .inv .1 ∙ seek-here (badEnds (a .n) (a .from .now) (a .to .now)) (at-loop .loop .s) (a .m) (omega arith)
+    (bad-from (a .n) (a .from .now) (a .to .now) (at-loop .loop .s) (c .if1 .taken)))
 
 cast-if2 : tie.Need-cast-if2 Inv-loop μ-loop
-cast-if2 c = omega (arith, c .shared-slice-known2 .given (c .before .before .before .before .loop .s))
+cast-if2 c =
+    let at-loop = c .before .before .before .before in
+    omega (arith, c .shared-slice-known2 .given (at-loop .loop .s))
 
 returns-2 : tie.Need-returns-2 Inv-loop μ-loop
-returns-2 c = let a = c .before .before .before .before .before .before .args in
-    sym (c .before .before .before .before .before .loop .inv .1 ∙ seek-here (badEnds (a .n) (a .from .now) (a .to .now)) (c .before .before .before .before .before .loop .s) (a .m) (omega arith) (bad-to (a .n) (a .from .now) (a .to .now) (c .before .before .before .before .before .loop .s) (c .before .before .if1 .left) (c .if2 .taken)))
-
-add-s : tie.Need-add-s Inv-loop μ-loop
-add-s c = search needs
-
-loop-less : tie.Need-loop-less Inv-loop μ-loop
-loop-less c = search needs
+returns-2 c =
+    let at-if1 = c .before .before in
+    let at-loop = at-if1 .before .before .before in
+    let start = at-loop .before in
+    let a = start .args in
+    sym (at-loop .loop .inv .1 ∙ seek-here (badEnds (a .n) (a .from .now) (a .to .now)) (at-loop .loop .s) (a .m) (omega arith)
+    (bad-to (a .n) (a .from .now) (a .to .now) (at-loop .loop .s) (at-if1 .if1 .left) (c .if2 .taken)))
 
 loop-again : tie.Need-loop-again Inv-loop μ-loop
-loop-again c = let a = c .before .before .before .before .before .before .args in
-    (omega arith, c .before .before .before .before .before .loop .inv .1 ∙ seek-more (badEnds (a .n) (a .from .now) (a .to .now)) (c .before .before .before .before .before .loop .s) (a .m) (omega arith) (good-ends (a .n) (a .from .now) (a .to .now) (c .before .before .before .before .before .loop .s) (c .before .before .if1 .left) (c .if2 .left)))
+loop-again c =
+    let at-if1 = c .before .before in
+    let at-loop = at-if1 .before .before .before in
+    let start = at-loop .before in
+    let a = start .args in (
+      omega arith,
+      at-loop .loop .inv .1 ∙ seek-more (badEnds (a .n) (a .from .now) (a .to .now)) (at-loop .loop .s) (a .m) (omega arith)
+          (good-ends (a .n) (a .from .now) (a .to .now) (at-loop .loop .s) (at-if1 .if1 .left) (c .if2 .left)),
+    )
 
 returns-3 : tie.Need-returns-3 Inv-loop μ-loop
 returns-3 c = let a = c .before .before .args in
@@ -63,15 +65,15 @@ first-bad-ends-spec =
     Inv-loop
     μ-loop
     loop-holds
-    mul-if1
-    shared-slice-read-if1
+    (λ c. search needs)
+    (λ c. search needs)
     cast-if1
     returns
-    mul-if2
-    shared-slice-read-if2
+    (λ c. search needs)
+    (λ c. search needs)
     cast-if2
     returns-2
-    add-s
-    loop-less
+    (λ c. search needs)
+    (λ c. search needs)
     loop-again
     returns-3)

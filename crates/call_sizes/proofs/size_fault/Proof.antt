@@ -1,3 +1,5 @@
+-- `size_fault` meets its contract.
+-- Assumes nothing.
 use mathlib.Core.Path.{_∙_, ap, sym}
 use borrow.Author.Needs.{needs}
 use Rattle.call_sizes.proofs.size_fault.Statement.{statement}
@@ -12,15 +14,6 @@ coded o = (o .code, o .place)
 abbrev reply : SizesReply → Refusal
 reply r = coded (sizesOutcome r)
 
-check-requires : tie.Need-check-requires
-check-requires c κs = search needs
-
-enum-told : tie.Need-enum-told
-enum-told c = search needs
-
-enum-known-sizes : tie.Need-enum-known-sizes
-enum-known-sizes c = search needs
-
 returns : tie.Need-returns
 returns c = ap reply (sym (c .enum-told .given .1)) ∙ ap coded (c .before .before .check .ensures)
 
@@ -28,4 +21,4 @@ returns-2 : tie.Need-returns-2
 returns-2 c = ap reply (sym (c .before .sizes .given .1)) ∙ ap coded (c .before .before .before .check .ensures)
 
 pub size-fault-spec : {M : Type 1} → statement M
-size-fault-spec = tie.close (tie.spec check-requires enum-told enum-known-sizes returns returns-2)
+size-fault-spec = tie.close (tie.spec (λ c κs. search needs) (λ c. search needs) (λ c. search needs) returns returns-2)

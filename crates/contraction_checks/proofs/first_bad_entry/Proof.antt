@@ -1,3 +1,5 @@
+-- `first_bad_entry` meets its contract. The loop's invariant: no entry before i is bad.
+-- Assumes nothing.
 use Prim.Native.Nat.{_-_, _≤_}
 use mathlib.Core.Path.{_∙_, _≡_, sym}
 use lib.ListN.{getD}
@@ -19,28 +21,26 @@ abbrev μ-loop : tie.MeasureT-loop
 loop-holds : tie.Need-loop-holds Inv-loop μ-loop
 loop-holds c = (omega arith, seek-start (badEntry (c .args .n) (c .args .active .now)) (c .args .k))
 
-mul-if1 : tie.Need-mul-if1 Inv-loop μ-loop
-mul-if1 c = search needs
-
-shared-slice-read-if1 : tie.Need-shared-slice-read-if1 Inv-loop μ-loop
-shared-slice-read-if1 c = search needs
-
 cast-if1 : tie.Need-cast-if1 Inv-loop μ-loop
 cast-if1 c = omega (arith, c .shared-slice-known .given (c .before .before .loop .i))
 
 returns : tie.Need-returns Inv-loop μ-loop
-returns c = let a = c .before .before .before .before .args in
-    sym (c .before .before .before .loop .inv .1 ∙ seek-here (badEntry (a .n) (a .active .now)) (c .before .before .before .loop .i) (a .k) (omega arith) (le-leb (a .n) (getD (a .active .now) (c .before .before .before .loop .i) 0) (c .if1 .taken)))
-
-add-i : tie.Need-add-i Inv-loop μ-loop
-add-i c = search needs
-
-loop-less : tie.Need-loop-less Inv-loop μ-loop
-loop-less c = search needs
+returns c =
+    let at-loop = c .before .before .before in
+    let start = at-loop .before in
+    let a = start .args in
+    sym (at-loop .loop .inv .1 ∙ seek-here (badEntry (a .n) (a .active .now)) (at-loop .loop .i) (a .k) (omega arith)
+    (le-leb (a .n) (getD (a .active .now) (at-loop .loop .i) 0) (c .if1 .taken)))
 
 loop-again : tie.Need-loop-again Inv-loop μ-loop
-loop-again c = let a = c .before .before .before .before .args in
-    (omega arith, c .before .before .before .loop .inv .1 ∙ seek-more (badEntry (a .n) (a .active .now)) (c .before .before .before .loop .i) (a .k) (omega arith) (lt-leb (a .n) (getD (a .active .now) (c .before .before .before .loop .i) 0) (c .if1 .left)))
+loop-again c =
+    let at-loop = c .before .before .before in
+    let start = at-loop .before in
+    let a = start .args in (
+      omega arith,
+      at-loop .loop .inv .1 ∙ seek-more (badEntry (a .n) (a .active .now)) (at-loop .loop .i) (a .k) (omega arith)
+          (lt-leb (a .n) (getD (a .active .now) (at-loop .loop .i) 0) (c .if1 .left)),
+    )
 
 returns-2 : tie.Need-returns-2 Inv-loop μ-loop
 returns-2 c = let a = c .before .before .args in
@@ -53,11 +53,11 @@ first-bad-entry-spec =
     Inv-loop
     μ-loop
     loop-holds
-    mul-if1
-    shared-slice-read-if1
+    (λ c. search needs)
+    (λ c. search needs)
     cast-if1
     returns
-    add-i
-    loop-less
+    (λ c. search needs)
+    (λ c. search needs)
     loop-again
     returns-2)

@@ -1,3 +1,5 @@
+-- `enter_active` meets its contract. The loop's invariant: the first i entries are entered.
+-- Assumes nothing.
 use Prim.Native.Nat.{_-_, _≤_, ℕ}
 use mathlib.Core.Path.{_∙_, _≡_, ap}
 use lib.ListN.{take}
@@ -19,33 +21,32 @@ abbrev μ-loop : tie.MeasureT-loop
 loop-holds : tie.Need-loop-holds Inv-loop μ-loop
 loop-holds c = (omega arith, entries-none _ (c .before .before .pre .4))
 
-mul-v : tie.Need-mul-v Inv-loop μ-loop
-mul-v c = search needs
-
-shared-slice-read-v : tie.Need-shared-slice-read-v Inv-loop μ-loop
-shared-slice-read-v c = search needs
-
 cast-v : tie.Need-cast-v Inv-loop μ-loop
 cast-v c = omega (arith, c .shared-slice-known2 .given (c .before .before .loop .i))
 
 enter-requires : tie.Need-enter-requires Inv-loop μ-loop
-enter-requires c κs = (c .before .before .before .before .before .before .pre .0, omega (arith, c .before .before .before .before .before .before .pre .1, c .before .before .before .loop .inv .1 .same), c .before .before .before .before .before .before .pre .3 (c .before .before .before .loop .i) (omega arith), (_, c .before .before .before .loop .inv .1 .entered))
-
-add-i : tie.Need-add-i Inv-loop μ-loop
-add-i c = search needs
-
-loop-less : tie.Need-loop-less Inv-loop μ-loop
-loop-less c = search needs
+enter-requires c κs =
+    let at-loop = c .before .before .before in
+    let start = at-loop .before .before .before in
+    (start .pre .0, omega (arith, start .pre .1, at-loop .loop .inv .1 .same), start .pre .3 (at-loop .loop .i) (omega arith), (_, at-loop .loop .inv .1 .entered))
 
 loop-again : tie.Need-loop-again Inv-loop μ-loop
-loop-again c = let s = c .before .before .before .before .before .before .before .before .before .args .active .now in let i = c .before .before .before .before .before .before .loop .i in
-    (omega arith, entries-more (ap (λ (j : ℕ). take j s) (add-one i) ∙ take-suc s i 0 (omega arith)) (c .before .before .before .before .before .before .loop .inv .1) (c .before .before .enter .ensures))
+loop-again c =
+    let at-enter = c .before .before in
+    let at-loop = at-enter .before .before .before .before in
+    let start = at-loop .before .before .before in
+    let s = start .args .active .now in
+    let i = at-loop .loop .i in
+    (omega arith, entries-more (ap (λ (j : ℕ). take j s) (add-one i) ∙ take-suc s i 0 (omega arith)) (at-loop .loop .inv .1) (at-enter .enter .ensures))
 
 same-length : tie.Need-same-length Inv-loop μ-loop
 same-length c = c .before .loop .inv .1 .same
 
 returns : tie.Need-returns Inv-loop μ-loop
-returns c = let e : c .before .loop .i ≡ c .before .before .before .before .args .k = omega arith in rw e at (c .before .loop .inv .1)
+returns c =
+    let start = c .before .before .before .before in
+    let e : c .before .loop .i ≡ start .args .k = omega arith in
+    rw e at (c .before .loop .inv .1)
 
 pub enter-active-spec : {M : Type 1} → statement M
 enter-active-spec =
@@ -54,12 +55,12 @@ enter-active-spec =
     Inv-loop
     μ-loop
     loop-holds
-    mul-v
-    shared-slice-read-v
+    (λ c. search needs)
+    (λ c. search needs)
     cast-v
     enter-requires
-    add-i
-    loop-less
+    (λ c. search needs)
+    (λ c. search needs)
     loop-again
     same-length
     returns)

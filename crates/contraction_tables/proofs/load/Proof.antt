@@ -1,31 +1,33 @@
+-- `load` meets its contract.
+-- Assumes nothing.
 use native.Mathlib.Omega.{arith}
 use borrow.Author.Needs.{needs}
 use Rattle.contraction_tables.proofs.TransferLaws.{prepared}
 use Rattle.contraction_tables.proofs.load.Statement.{statement}
 use Rattle.contraction_tables.proofs.load.Tie as tie
 
-clear-marks-requires : tie.Need-clear-marks-requires
-clear-marks-requires c κs = search needs
-
 enter-active-requires : tie.Need-enter-active-requires
-enter-active-requires c κs = let p = c .before .before .before .before .before .before .before .before .before .pre in let z = c .before .before .before .clear-marks .ensures in
+enter-active-requires c κs =
+    let at-clear-marks = c .before .before .before in
+    let start = at-clear-marks .before .before .before .before .before .before in
+    let p = start .pre in
+    let z = at-clear-marks .clear-marks .ensures in
     (p .few, omega (arith, p .room, z .same), p .active-length, p .entries, z .unmarked)
 
-load-edges-requires : tie.Need-load-edges-requires
-load-edges-requires c κs = search needs
-
-same-length : tie.Need-same-length
-same-length c = search needs
-
 returns : tie.Need-returns
-returns c = prepared (c .before .before .before .before .before .before .before .before .before .before .before .before .before .before .before .before .pre) (c .before .before .before .before .before .before .before .before .before .before .clear-marks .ensures) (c .before .before .before .before .before .before .enter-active .ensures) (c .before .before .load-edges .ensures)
+returns c =
+    let at-put-edges = c .before .before in
+    let at-enter-active = at-put-edges .before .before .before .before in
+    let at-clear-marks = at-enter-active .before .before .before .before in
+    let start = at-clear-marks .before .before .before .before .before .before in
+    prepared (start .pre) (at-clear-marks .clear-marks .ensures) (at-enter-active .enter-active .ensures) (at-put-edges .put-edges .ensures)
 
 pub load-spec : {M : Type 1} → statement M
 load-spec =
     tie.close
     (tie.spec
-    clear-marks-requires
+    (λ c κs. search needs)
     enter-active-requires
-    load-edges-requires
-    same-length
+    (λ c κs. search needs)
+    (λ c. search needs)
     returns)

@@ -1,4 +1,4 @@
--- `branches::count_branches` meets its contract. The loop's invariant: those after place i have reported.
+-- `count_branches` meets its contract. The loop's invariant: those after place i have reported.
 -- Assumes nothing.
 use Prim.Native.Nat.{_-_, _≤_}
 use mathlib.Core.Path.{_≡_}
@@ -18,20 +18,32 @@ abbrev μ-loop : tie.MeasureT-loop
 loop-holds : tie.Need-loop-holds Inv-loop μ-loop
 loop-holds c = (omega arith, counting-none (c .before .pre))
 
-sub-i : tie.Need-sub-i Inv-loop μ-loop
-sub-i c = search needs
-
 get-requires : tie.Need-get-requires Inv-loop μ-loop
-get-requires c κs = let s = c .before .before .loop .inv .1 .rest .same in omega (arith, c .before .before .before .before .pre .room, c .before .before .before .before .pre .tree .less)
+get-requires c κs =
+    let at-loop = c .before .before in
+    let start = at-loop .before .before in
+    let s = at-loop .loop .inv .1 .rest .same in
+    omega (arith, start .pre .room, start .pre .tree .less)
 
 report-branch-requires : tie.Need-report-branch-requires Inv-loop μ-loop
-report-branch-requires c κs = counting-can (c .before .before .before .before .loop .i - 1) (c .before .before .before .before .before .before .pre) (counting-down (c .before .before .before .loop-test .taken) (c .before .before .before .before .loop .inv .1)) (omega (arith, c .before .before .before .loop-test .taken)) (c .before .get .ensures .0)
-
-loop-less : tie.Need-loop-less Inv-loop μ-loop
-loop-less c = omega arith
+report-branch-requires c κs =
+    let at-loop-test = c .before .before .before in
+    let at-loop = at-loop-test .before in
+    let start = at-loop .before .before in
+    counting-can (at-loop .loop .i - 1) (start .pre) (counting-down (at-loop-test .loop-test .taken) (at-loop .loop .inv .1))
+    (omega (arith, at-loop-test .loop-test .taken)) (c .before .get .ensures .0)
 
 loop-again : tie.Need-loop-again Inv-loop μ-loop
-loop-again c = (omega arith, counting-more (c .before .before .before .before .before .before .before .loop .i - 1) (c .before .before .before .before .before .before .before .before .before .pre) (counting-down (c .before .before .before .before .before .before .loop-test .taken) (c .before .before .before .before .before .before .before .loop .inv .1)) (omega (arith, c .before .before .before .before .before .before .loop-test .taken)) (c .before .before .before .before .get .ensures .0) (c .before .before .report-branch .ensures))
+loop-again c =
+    let at-report-branch = c .before .before in
+    let at-get = at-report-branch .before .before in
+    let at-loop-test = at-get .before .before in
+    let at-loop = at-loop-test .before in
+    let start = at-loop .before .before in (
+      omega arith,
+      counting-more (at-loop .loop .i - 1) (start .pre) (counting-down (at-loop-test .loop-test .taken) (at-loop .loop .inv .1))
+          (omega (arith, at-loop-test .loop-test .taken)) (at-get .get .ensures .0) (at-report-branch .report-branch .ensures),
+    )
 
 same-length : tie.Need-same-length Inv-loop μ-loop
 same-length c = c .before .loop .inv .1 .rest .same
@@ -46,10 +58,10 @@ count-branches-spec =
     Inv-loop
     μ-loop
     loop-holds
-    sub-i
+    (λ c. search needs)
     get-requires
     report-branch-requires
-    loop-less
+    (λ c. omega arith)
     loop-again
     same-length
     returns)

@@ -1,4 +1,4 @@
--- `branches::nearest_kept` meets its contract. The loop's invariant: the first i nodes of the order have theirs.
+-- `nearest_kept` meets its contract. The loop's invariant: the first i nodes of the order have theirs.
 -- Assumes nothing.
 use Prim.Native.Nat.{_-_, _≤_}
 use mathlib.Core.Path.{_≡_}
@@ -18,19 +18,30 @@ loop-holds : tie.Need-loop-holds Inv-loop μ-loop
 loop-holds c = (omega arith, nearest-none (c .before .pre))
 
 get-requires : tie.Need-get-requires Inv-loop μ-loop
-get-requires c κs = let s = c .before .before .loop .inv .1 .rest .same in omega (arith, c .before .before .before .before .pre .room, c .before .before .before .before .pre .tree .less)
+get-requires c κs =
+    let at-loop = c .before .before in
+    let start = at-loop .before .before in
+    let s = at-loop .loop .inv .1 .rest .same in
+    omega (arith, start .pre .room, start .pre .tree .less)
 
 nearest-at-requires : tie.Need-nearest-at-requires Inv-loop μ-loop
-nearest-at-requires c κs = nearest-can (c .before .before .before .before .before .before .pre) (c .before .before .before .before .loop .inv .1) (omega arith) (c .before .get .ensures .0)
+nearest-at-requires c κs =
+    let at-loop = c .before .before .before .before in
+    let start = at-loop .before .before in
+    nearest-can (start .pre) (at-loop .loop .inv .1) (omega arith) (c .before .get .ensures .0)
 
 add-i : tie.Need-add-i Inv-loop μ-loop
-add-i c = omega (arith, c .before .before .before .before .before .before .before .before .before .pre .few, c .before .before .before .before .before .before .before .before .before .pre .tree .less)
-
-loop-less : tie.Need-loop-less Inv-loop μ-loop
-loop-less c = omega arith
+add-i c =
+    let start = c .before .before .before .before .before .before .before .before .before in
+    omega (arith, start .pre .few, start .pre .tree .less)
 
 loop-again : tie.Need-loop-again Inv-loop μ-loop
-loop-again c = (omega arith, nearest-more (c .before .before .before .before .before .before .before .before .before .pre) (c .before .before .before .before .before .before .before .loop .inv .1) (omega arith) (c .before .before .before .before .get .ensures .0) (c .before .before .nearest-at .ensures))
+loop-again c =
+    let at-nearest-at = c .before .before in
+    let at-get = at-nearest-at .before .before in
+    let at-loop = at-get .before .before .before in
+    let start = at-loop .before .before in
+    (omega arith, nearest-more (start .pre) (at-loop .loop .inv .1) (omega arith) (at-get .get .ensures .0) (at-nearest-at .nearest-at .ensures))
 
 same-length : tie.Need-same-length Inv-loop μ-loop
 same-length c = c .before .loop .inv .1 .rest .same
@@ -48,7 +59,7 @@ nearest-kept-spec =
     get-requires
     nearest-at-requires
     add-i
-    loop-less
+    (λ c. omega arith)
     loop-again
     same-length
     returns)

@@ -1,4 +1,4 @@
--- `branches::number_active` meets its contract.
+-- `number_active` meets its contract.
 -- Assumes nothing.
 use mathlib.Core.Logic.{inl}
 use mathlib.Core.Path.{refl}
@@ -8,47 +8,49 @@ use Rattle.core_branches.proofs.NumberLaws.{active-assigned, can-assign
 use Rattle.core_branches.proofs.number_active.Statement.{statement}
 use Rattle.core_branches.proofs.number_active.Tie as tie
 
-get-requires : tie.Need-get-requires
-get-requires c κs = search needs
-
-get-requires-2 : tie.Need-get-requires-2
-get-requires-2 c κs = search needs
-
-same-length : tie.Need-same-length
-same-length c = search needs
-
 returns : tie.Need-returns
-returns c = inl (refl, refl, has-number (c .before .before .before .before .before .before .pre) (c .before .before .before .get .ensures .0) (c .before .get2 .ensures .0) (c .if1 .taken))
+returns c =
+    let at-get = c .before .before .before in
+    let start = at-get .before .before .before in
+    inl (refl, refl, has-number (start .pre) (at-get .get .ensures .0) (c .before .get2 .ensures .0) (c .if1 .taken))
 
 assign-number-requires : tie.Need-assign-number-requires
-assign-number-requires c κs = can-assign (c .before .before .before .before .before .before .before .pre) (c .before .before .before .before .get .ensures .0) (c .before .before .get2 .ensures .0) (omega arith)
-
-add-put : tie.Need-add-put
-add-put c = search needs
-
-put-requires : tie.Need-put-requires
-put-requires c κs = search needs
+assign-number-requires c κs =
+    let at-get2 = c .before .before in
+    let at-get = at-get2 .before .before in
+    let start = at-get .before .before .before in
+    can-assign (start .pre) (at-get .get .ensures .0) (at-get2 .get2 .ensures .0) (omega arith)
 
 add-result : tie.Need-add-result
-add-result c = let l = room-more (c .before .before .before .before .before .before .before .before .before .before .before .before .before .before .pre) (c .before .before .before .before .before .before .before .before .before .before .before .get .ensures .0) (c .before .before .before .before .before .before .before .before .before .get2 .ensures .0) (omega arith) in omega (arith, c .before .before .before .before .before .before .before .before .before .before .before .before .before .before .pre .few)
-
-same-length-2 : tie.Need-same-length-2
-same-length-2 c = search needs
+add-result c =
+    let at-if1 = c .before .before .before .before .before .before .before .before in
+    let at-get2 = at-if1 .before in
+    let at-get = at-get2 .before .before in
+    let start = at-get .before .before .before in
+    let l = room-more (start .pre) (at-get .get .ensures .0) (at-get2 .get2 .ensures .0) (omega (arith, at-if1 .if1 .left)) in
+    omega (arith, start .pre .few)
 
 returns-2 : tie.Need-returns-2
-returns-2 c = active-assigned (c .before .before .before .before .before .before .before .before .before .before .before .before .before .before .pre) (c .before .before .before .before .before .before .before .before .before .before .before .get .ensures .0) (c .before .before .before .before .before .before .before .before .before .get2 .ensures .0) (omega arith) (c .before .before .before .before .before .before .assign-number .ensures) (c .before .before .put .ensures)
+returns-2 c =
+    let at-put = c .before .before in
+    let at-assign-number = at-put .before .before .before .before in
+    let at-get2 = at-assign-number .before .before .before in
+    let at-get = at-get2 .before .before in
+    let start = at-get .before .before .before in
+    active-assigned (start .pre) (at-get .get .ensures .0) (at-get2 .get2 .ensures .0) (omega arith) (at-assign-number .assign-number .ensures)
+    (at-put .put .ensures)
 
 pub number-active-spec : {M : Type 1} → statement M
 number-active-spec =
     tie.close
     (tie.spec
-    get-requires
-    get-requires-2
-    same-length
+    (λ c κs. search needs)
+    (λ c κs. search needs)
+    (λ c. search needs)
     returns
     assign-number-requires
-    add-put
-    put-requires
+    (λ c. search needs)
+    (λ c κs. search needs)
     add-result
-    same-length-2
+    (λ c. search needs)
     returns-2)

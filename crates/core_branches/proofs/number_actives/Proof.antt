@@ -1,4 +1,4 @@
--- `branches::number_actives` meets its contract. The loop's invariant: the classes of the first i active nodes have their numbers.
+-- `number_actives` meets its contract. The loop's invariant: the classes of the first i active nodes have their numbers.
 -- Assumes nothing.
 use Prim.Native.Nat.{_-_, _≤_}
 use mathlib.Core.Path.{_≡_}
@@ -18,19 +18,30 @@ loop-holds : tie.Need-loop-holds Inv-loop μ-loop
 loop-holds c = (omega arith, actives-none (c .before .pre))
 
 get-requires : tie.Need-get-requires Inv-loop μ-loop
-get-requires c κs = let s = c .before .before .loop .inv .1 .rest .same in omega (arith, c .before .before .before .before .pre .room, c .before .before .before .before .pre .less)
+get-requires c κs =
+    let at-loop = c .before .before in
+    let start = at-loop .before .before in
+    let s = at-loop .loop .inv .1 .rest .same in
+    omega (arith, start .pre .room, start .pre .less)
 
 number-active-requires : tie.Need-number-active-requires Inv-loop μ-loop
-number-active-requires c κs = actives-can (c .before .before .before .before .before .before .pre) (c .before .before .before .before .loop .inv .1) (omega arith) (c .before .get .ensures .0)
+number-active-requires c κs =
+    let at-loop = c .before .before .before .before in
+    let start = at-loop .before .before in
+    actives-can (start .pre) (at-loop .loop .inv .1) (omega arith) (c .before .get .ensures .0)
 
 add-i : tie.Need-add-i Inv-loop μ-loop
-add-i c = omega (arith, c .before .before .before .before .before .before .before .before .before .pre .few, c .before .before .before .before .before .before .before .before .before .pre .less)
-
-loop-less : tie.Need-loop-less Inv-loop μ-loop
-loop-less c = omega arith
+add-i c =
+    let start = c .before .before .before .before .before .before .before .before .before in
+    omega (arith, start .pre .few, start .pre .less)
 
 loop-again : tie.Need-loop-again Inv-loop μ-loop
-loop-again c = (omega arith, actives-more (c .before .before .before .before .before .before .before .before .before .pre) (c .before .before .before .before .before .before .before .loop .inv .1) (omega arith) (c .before .before .before .before .get .ensures .0) (c .before .before .number-active .ensures))
+loop-again c =
+    let at-number-active = c .before .before in
+    let at-get = at-number-active .before .before in
+    let at-loop = at-get .before .before .before in
+    let start = at-loop .before .before in
+    (omega arith, actives-more (start .pre) (at-loop .loop .inv .1) (omega arith) (at-get .get .ensures .0) (at-number-active .number-active .ensures))
 
 same-length : tie.Need-same-length Inv-loop μ-loop
 same-length c = c .before .loop .inv .1 .rest .same
@@ -48,7 +59,7 @@ number-actives-spec =
     get-requires
     number-active-requires
     add-i
-    loop-less
+    (λ c. omega arith)
     loop-again
     same-length
     returns)

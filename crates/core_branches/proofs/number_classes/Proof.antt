@@ -1,4 +1,4 @@
--- `branches::number_classes` meets its contract.
+-- `number_classes` meets its contract.
 -- Assumes nothing.
 use borrow.Author.Needs.{needs}
 use Rattle.core_branches.proofs.ClassLaws.{can-count, can-nearest, can-number-actives, can-number-others, can-parents, class-numbers}
@@ -9,22 +9,47 @@ number-actives-requires : tie.Need-number-actives-requires
 number-actives-requires c κs = can-number-actives (c .before .before .pre)
 
 count-branches-requires : tie.Need-count-branches-requires
-count-branches-requires c κs = can-count (c .before .before .before .before .before .before .pre) (c .before .before .before .number-actives .ensures)
+count-branches-requires c κs =
+    let at-number-actives = c .before .before .before in
+    let start = at-number-actives .before .before .before in
+    can-count (start .pre) (at-number-actives .number-actives .ensures)
 
 number-others-requires : tie.Need-number-others-requires
-number-others-requires c κs = can-number-others (c .before .before .before .before .before .before .before .before .before .before .pre) (c .before .before .before .before .before .before .before .number-actives .ensures) (c .before .before .before .count-branches .ensures)
+number-others-requires c κs =
+    let at-count-branches = c .before .before .before in
+    let at-number-actives = at-count-branches .before .before .before .before in
+    let start = at-number-actives .before .before .before in
+    can-number-others (start .pre) (at-number-actives .number-actives .ensures) (at-count-branches .count-branches .ensures)
 
 nearest-kept-requires : tie.Need-nearest-kept-requires
-nearest-kept-requires c κs = can-nearest (c .before .before .before .before .before .before .before .before .before .before .before .before .before .before .pre) (c .before .before .before .before .before .before .before .before .before .before .before .number-actives .ensures) (c .before .before .before .before .before .before .before .count-branches .ensures) (c .before .before .before .number-others .ensures)
+nearest-kept-requires c κs =
+    let at-number-others = c .before .before .before in
+    let at-count-branches = at-number-others .before .before .before .before in
+    let at-number-actives = at-count-branches .before .before .before .before in
+    let start = at-number-actives .before .before .before in
+    can-nearest (start .pre) (at-number-actives .number-actives .ensures) (at-count-branches .count-branches .ensures)
+    (at-number-others .number-others .ensures)
 
 parent-numbers-requires : tie.Need-parent-numbers-requires
-parent-numbers-requires c κs = can-parents (c .before .before .before .before .before .before .before .before .before .before .before .before .before .before .before .before .before .before .pre) (c .before .before .before .before .before .before .before .before .before .before .before .before .before .before .before .number-actives .ensures) (c .before .before .before .before .before .before .before .before .before .before .before .count-branches .ensures) (c .before .before .before .before .before .before .before .number-others .ensures) (c .before .before .before .nearest-kept .ensures)
-
-same-length : tie.Need-same-length
-same-length c = search needs
+parent-numbers-requires c κs =
+    let at-nearest-kept = c .before .before .before in
+    let at-number-others = at-nearest-kept .before .before .before .before in
+    let at-count-branches = at-number-others .before .before .before .before in
+    let at-number-actives = at-count-branches .before .before .before .before in
+    let start = at-number-actives .before .before .before in
+    can-parents (start .pre) (at-number-actives .number-actives .ensures) (at-count-branches .count-branches .ensures)
+    (at-number-others .number-others .ensures) (at-nearest-kept .nearest-kept .ensures)
 
 returns : tie.Need-returns
-returns c = class-numbers (c .before .before .before .before .before .before .before .before .before .before .before .before .before .before .before .before .before .before .before .before .before .pre) (c .before .before .before .before .before .before .before .before .before .before .before .before .before .before .before .before .before .before .number-actives .ensures) (c .before .before .before .before .before .before .before .before .before .before .before .before .before .before .count-branches .ensures) (c .before .before .before .before .before .before .before .before .before .before .number-others .ensures) (c .before .before .before .before .before .before .nearest-kept .ensures) (c .before .before .parent-numbers .ensures)
+returns c =
+    let at-parent-numbers = c .before .before in
+    let at-nearest-kept = at-parent-numbers .before .before .before .before in
+    let at-number-others = at-nearest-kept .before .before .before .before in
+    let at-count-branches = at-number-others .before .before .before .before in
+    let at-number-actives = at-count-branches .before .before .before .before in
+    let start = at-number-actives .before .before .before in
+    class-numbers (start .pre) (at-number-actives .number-actives .ensures) (at-count-branches .count-branches .ensures)
+    (at-number-others .number-others .ensures) (at-nearest-kept .nearest-kept .ensures) (at-parent-numbers .parent-numbers .ensures)
 
 pub number-classes-spec : {M : Type 1} → statement M
 number-classes-spec =
@@ -35,5 +60,5 @@ number-classes-spec =
     number-others-requires
     nearest-kept-requires
     parent-numbers-requires
-    same-length
+    (λ c. search needs)
     returns)

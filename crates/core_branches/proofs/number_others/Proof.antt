@@ -1,4 +1,4 @@
--- `branches::number_others` meets its contract. The loop's invariant: the kept classes with a node below v have their numbers.
+-- `number_others` meets its contract. The loop's invariant: the kept classes with a node below v have their numbers.
 -- Assumes nothing.
 use Prim.Native.Nat.{_-_, _≤_}
 use mathlib.Core.Path.{_≡_}
@@ -18,16 +18,22 @@ loop-holds : tie.Need-loop-holds Inv-loop μ-loop
 loop-holds c = (omega arith, others-none (c .before .pre))
 
 number-other-requires : tie.Need-number-other-requires Inv-loop μ-loop
-number-other-requires c κs = others-can (c .before .before .before .before .pre) (c .before .before .loop .inv .1) (omega arith)
+number-other-requires c κs =
+    let at-loop = c .before .before in
+    let start = at-loop .before .before in
+    others-can (start .pre) (at-loop .loop .inv .1) (omega arith)
 
 add-v : tie.Need-add-v Inv-loop μ-loop
-add-v c = omega (arith, c .before .before .before .before .before .before .before .pre .few)
-
-loop-less : tie.Need-loop-less Inv-loop μ-loop
-loop-less c = omega arith
+add-v c =
+    let start = c .before .before .before .before .before .before .before in
+    omega (arith, start .pre .few)
 
 loop-again : tie.Need-loop-again Inv-loop μ-loop
-loop-again c = (omega arith, others-more (c .before .before .before .before .before .before .before .pre) (c .before .before .before .before .before .loop .inv .1) (omega arith) (c .before .before .number-other .ensures))
+loop-again c =
+    let at-number-other = c .before .before in
+    let at-loop = at-number-other .before .before .before in
+    let start = at-loop .before .before in
+    (omega arith, others-more (start .pre) (at-loop .loop .inv .1) (omega arith) (at-number-other .number-other .ensures))
 
 same-length : tie.Need-same-length Inv-loop μ-loop
 same-length c = c .before .loop .inv .1 .rest .same
@@ -44,7 +50,7 @@ number-others-spec =
     loop-holds
     number-other-requires
     add-v
-    loop-less
+    (λ c. omega arith)
     loop-again
     same-length
     returns)

@@ -1,4 +1,4 @@
--- `branches::parent_numbers` meets its contract. The loop's invariant: the first x numbers have theirs.
+-- `parent_numbers` meets its contract. The loop's invariant: the first x numbers have theirs.
 -- Assumes nothing.
 use Prim.Native.Nat.{_-_, _≤_}
 use mathlib.Core.Path.{_≡_}
@@ -18,16 +18,22 @@ loop-holds : tie.Need-loop-holds Inv-loop μ-loop
 loop-holds c = (omega arith, parents-none (c .before .pre))
 
 parent-number-requires : tie.Need-parent-number-requires Inv-loop μ-loop
-parent-number-requires c κs = parents-can (c .before .before .before .before .pre) (c .before .before .loop .inv .1) (omega arith)
+parent-number-requires c κs =
+    let at-loop = c .before .before in
+    let start = at-loop .before .before in
+    parents-can (start .pre) (at-loop .loop .inv .1) (omega arith)
 
 add-x : tie.Need-add-x Inv-loop μ-loop
-add-x c = omega (arith, c .before .before .before .before .before .before .before .pre .few, c .before .before .before .before .before .before .before .pre .less)
-
-loop-less : tie.Need-loop-less Inv-loop μ-loop
-loop-less c = omega arith
+add-x c =
+    let start = c .before .before .before .before .before .before .before in
+    omega (arith, start .pre .few, start .pre .less)
 
 loop-again : tie.Need-loop-again Inv-loop μ-loop
-loop-again c = (omega arith, parents-more (c .before .before .before .before .before .before .before .pre) (c .before .before .before .before .before .loop .inv .1) (omega arith) (c .before .before .parent-number .ensures))
+loop-again c =
+    let at-parent-number = c .before .before in
+    let at-loop = at-parent-number .before .before .before in
+    let start = at-loop .before .before in
+    (omega arith, parents-more (start .pre) (at-loop .loop .inv .1) (omega arith) (at-parent-number .parent-number .ensures))
 
 same-length : tie.Need-same-length Inv-loop μ-loop
 same-length c = c .before .loop .inv .1 .rest .same
@@ -44,7 +50,7 @@ parent-numbers-spec =
     loop-holds
     parent-number-requires
     add-x
-    loop-less
+    (λ c. omega arith)
     loop-again
     same-length
     returns)

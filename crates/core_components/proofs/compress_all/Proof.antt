@@ -1,4 +1,4 @@
--- `components::compress_all` meets its contract. The loop's invariant: the first i nodes of the order go straight to their tops.
+-- `compress_all` meets its contract. The loop's invariant: the first i nodes of the order go straight to their tops.
 -- Assumes nothing.
 use Prim.Native.Nat.{_-_, _≤_}
 use mathlib.Core.Path.{_≡_}
@@ -18,19 +18,25 @@ loop-holds : tie.Need-loop-holds Inv-loop μ-loop
 loop-holds c = (omega arith, compressed-none (c .before .pre))
 
 get-requires : tie.Need-get-requires Inv-loop μ-loop
-get-requires c κs = let s = c .before .before .loop .inv .1 .rest .same in omega (arith, c .before .before .before .before .pre .room, c .before .before .before .before .pre .less)
+get-requires c κs =
+    let at-loop = c .before .before in
+    let start = at-loop .before .before in
+    let s = at-loop .loop .inv .1 .rest .same in
+    omega (arith, start .pre .room, start .pre .less)
 
 compress-requires : tie.Need-compress-requires Inv-loop μ-loop
-compress-requires c κs = compressed-can (c .before .before .before .before .before .before .pre) (c .before .before .before .before .loop .inv .1) (omega arith) (c .before .get .ensures .0)
-
-add-i : tie.Need-add-i Inv-loop μ-loop
-add-i c = omega arith
-
-loop-less : tie.Need-loop-less Inv-loop μ-loop
-loop-less c = omega arith
+compress-requires c κs =
+    let at-loop = c .before .before .before .before in
+    let start = at-loop .before .before in
+    compressed-can (start .pre) (at-loop .loop .inv .1) (omega arith) (c .before .get .ensures .0)
 
 loop-again : tie.Need-loop-again Inv-loop μ-loop
-loop-again c = (omega arith, compressed-more (c .before .before .before .before .before .before .before .before .before .pre) (c .before .before .before .before .before .before .before .loop .inv .1) (omega arith) (c .before .before .before .before .get .ensures .0) (c .before .before .compress .ensures))
+loop-again c =
+    let at-compress = c .before .before in
+    let at-get = at-compress .before .before in
+    let at-loop = at-get .before .before .before in
+    let start = at-loop .before .before in
+    (omega arith, compressed-more (start .pre) (at-loop .loop .inv .1) (omega arith) (at-get .get .ensures .0) (at-compress .compress .ensures))
 
 same-length : tie.Need-same-length Inv-loop μ-loop
 same-length c = c .before .loop .inv .1 .rest .same
@@ -47,8 +53,8 @@ compress-all-spec =
     loop-holds
     get-requires
     compress-requires
-    add-i
-    loop-less
+    (λ c. omega arith)
+    (λ c. omega arith)
     loop-again
     same-length
     returns)

@@ -1,4 +1,4 @@
--- `components::merge_edges` meets its contract. The loop's invariant: the first e edges are merged.
+-- `merge_edges` meets its contract. The loop's invariant: the first e edges are merged.
 -- Assumes nothing.
 use Prim.Native.Nat.{_-_, _≤_}
 use mathlib.Core.Path.{_≡_}
@@ -18,16 +18,17 @@ loop-holds : tie.Need-loop-holds Inv-loop μ-loop
 loop-holds c = (omega arith, merged-none (c .before .pre))
 
 merge-edge-requires : tie.Need-merge-edge-requires Inv-loop μ-loop
-merge-edge-requires c κs = merged-can (c .before .before .before .before .pre) (c .before .before .loop .inv .1) (omega arith)
-
-add-e : tie.Need-add-e Inv-loop μ-loop
-add-e c = omega arith
-
-loop-less : tie.Need-loop-less Inv-loop μ-loop
-loop-less c = omega arith
+merge-edge-requires c κs =
+    let at-loop = c .before .before in
+    let start = at-loop .before .before in
+    merged-can (start .pre) (at-loop .loop .inv .1) (omega arith)
 
 loop-again : tie.Need-loop-again Inv-loop μ-loop
-loop-again c = (omega arith, merged-more (c .before .before .before .before .before .before .before .pre) (c .before .before .before .before .before .loop .inv .1) (omega arith) (c .before .before .merge-edge .ensures))
+loop-again c =
+    let at-merge-edge = c .before .before in
+    let at-loop = at-merge-edge .before .before .before in
+    let start = at-loop .before .before in
+    (omega arith, merged-more (start .pre) (at-loop .loop .inv .1) (omega arith) (at-merge-edge .merge-edge .ensures))
 
 same-length : tie.Need-same-length Inv-loop μ-loop
 same-length c = c .before .loop .inv .1 .rest .same
@@ -43,8 +44,8 @@ merge-edges-spec =
     μ-loop
     loop-holds
     merge-edge-requires
-    add-e
-    loop-less
+    (λ c. omega arith)
+    (λ c. omega arith)
     loop-again
     same-length
     returns)

@@ -1,4 +1,4 @@
--- `components::start_tops` meets its contract. The loop's invariant: the first v nodes are their own tops.
+-- `start_tops` meets its contract. The loop's invariant: the first v nodes are their own tops.
 -- Assumes nothing.
 use Prim.Native.Nat.{_-_, _≤_}
 use mathlib.Core.Path.{_≡_}
@@ -20,14 +20,11 @@ loop-holds c = (omega arith, own-none _ _)
 put-requires : tie.Need-put-requires Inv-loop μ-loop
 put-requires c κs = let s = c .before .before .loop .inv .1 .rest .same in (omega arith, omega arith, omega arith)
 
-add-v : tie.Need-add-v Inv-loop μ-loop
-add-v c = omega arith
-
-loop-less : tie.Need-loop-less Inv-loop μ-loop
-loop-less c = omega arith
-
 loop-again : tie.Need-loop-again Inv-loop μ-loop
-loop-again c = (omega arith, own-more (omega arith) (c .before .before .before .before .before .loop .inv .1) (c .before .before .put .ensures))
+loop-again c =
+    let at-put = c .before .before in
+    let at-loop = at-put .before .before .before in
+    (omega arith, own-more (omega arith) (at-loop .loop .inv .1) (at-put .put .ensures))
 
 same-length : tie.Need-same-length Inv-loop μ-loop
 same-length c = c .before .loop .inv .1 .rest .same
@@ -43,8 +40,8 @@ start-tops-spec =
     μ-loop
     loop-holds
     put-requires
-    add-v
-    loop-less
+    (λ c. omega arith)
+    (λ c. omega arith)
     loop-again
     same-length
     returns)

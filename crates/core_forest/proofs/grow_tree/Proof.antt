@@ -1,4 +1,4 @@
--- `forest::grow_tree` meets its contract. The loop's invariant: the search of the tree of r goes on, with `done` nodes finished.
+-- `grow_tree` meets its contract. The loop's invariant: the search of the tree of r goes on, with `done` nodes finished.
 -- Assumes nothing.
 use Prim.Native.Nat.{_-_}
 use mathlib.Core.Path.{_≡_}
@@ -18,16 +18,27 @@ loop-holds : tie.Need-loop-holds Inv-loop μ-loop
 loop-holds c = grown-none (c .before .pre)
 
 scan-node-requires : tie.Need-scan-node-requires Inv-loop μ-loop
-scan-node-requires c κs = (growing-still (c .before .before .before .before .pre) (c .before .before .loop .inv), omega arith)
+scan-node-requires c κs =
+    let at-loop = c .before .before in
+    let start = at-loop .before .before in
+    (growing-still (start .pre) (at-loop .loop .inv), omega arith)
 
 add-done : tie.Need-add-done Inv-loop μ-loop
-add-done c = omega (arith, grown-less (c .before .before .before .before .before .loop .inv), c .before .before .before .before .before .before .before .pre .lists .few)
+add-done c =
+    let at-loop = c .before .before .before .before .before in
+    let start = at-loop .before .before in
+    omega (arith, grown-less (at-loop .loop .inv), start .pre .lists .few)
 
 loop-less : tie.Need-loop-less Inv-loop μ-loop
-loop-less c = omega (arith, grown-less (c .before .before .before .before .before .loop .inv))
+loop-less c =
+    let at-loop = c .before .before .before .before .before in
+    omega (arith, grown-less (at-loop .loop .inv))
 
 loop-again : tie.Need-loop-again Inv-loop μ-loop
-loop-again c = grown-then (c .before .before .before .before .before .loop .inv) (c .before .before .scan-node .ensures)
+loop-again c =
+    let at-scan-node = c .before .before in
+    let at-loop = at-scan-node .before .before .before in
+    grown-then (at-loop .loop .inv) (at-scan-node .scan-node .ensures)
 
 same-length : tie.Need-same-length Inv-loop μ-loop
 same-length c = c .before .loop .inv .keeps .rest .same

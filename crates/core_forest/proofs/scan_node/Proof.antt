@@ -1,4 +1,4 @@
--- `forest::scan_node` meets its contract. The loop's invariant: the half-edges of v from `cur` on have been followed, and `cur` is the next in v's list.
+-- `scan_node` meets its contract. The loop's invariant: the half-edges of v from `cur` on have been followed, and `cur` is the next in v's list.
 -- Assumes nothing.
 use mathlib.Core.Path.{refl}
 use native.Mathlib.Omega.{arith}
@@ -17,28 +17,40 @@ get-requires : tie.Need-get-requires Inv-loop μ-loop
 get-requires c κs = omega (arith, seen-less (c .before .before .pre .0 .search))
 
 get-requires-2 : tie.Need-get-requires-2 Inv-loop μ-loop
-get-requires-2 c κs = let v = scan-none (c .before .before .before .before .pre .0) (c .before .before .before .before .pre .1) (c .before .get .ensures .0) refl in omega (arith, v .scan .fit)
+get-requires-2 c κs =
+    let start = c .before .before .before .before in
+    let v = scan-none (start .pre .0) (start .pre .1) (c .before .get .ensures .0) refl in
+    omega (arith, v .scan .fit)
 
 loop-holds : tie.Need-loop-holds Inv-loop μ-loop
-loop-holds c = scan-none (c .before .before .before .before .before .pre .0) (c .before .before .before .before .before .pre .1) (c .before .before .get .ensures .0) (c .get2 .ensures .0)
-
-sub-visit-half : tie.Need-sub-visit-half Inv-loop μ-loop
-sub-visit-half c = search needs
+loop-holds c =
+    let at-get = c .before .before in
+    let start = at-get .before .before .before in
+    scan-none (start .pre .0) (start .pre .1) (at-get .get .ensures .0) (c .get2 .ensures .0)
 
 visit-half-requires : tie.Need-visit-half-requires Inv-loop μ-loop
 visit-half-requires c κs = scan-can (c .before .before .loop .inv) (c .before .loop-test .taken)
 
-sub-get-half : tie.Need-sub-get-half Inv-loop μ-loop
-sub-get-half c = search needs
-
 get-half-requires : tie.Need-get-half-requires Inv-loop μ-loop
-get-half-requires c κs = let g = c .before .before .before .visit-half .ensures .1 .lists in omega (arith, g .room, c .before .before .before .before .before .before .loop .inv .low)
+get-half-requires c κs =
+    let at-visit-half = c .before .before .before in
+    let at-loop = at-visit-half .before .before .before in
+    let g = at-visit-half .visit-half .ensures .1 .lists in
+    omega (arith, g .room, at-loop .loop .inv .low)
 
 loop-less : tie.Need-loop-less Inv-loop μ-loop
-loop-less c = scan-more (c .before .before .before .before .before .before .before .loop .inv) (c .before .before .before .before .before .before .loop-test .taken) (c .before .before .before .before .visit-half .ensures) (c .get-half .ensures .0) .1
+loop-less c =
+    let at-visit-half = c .before .before .before .before in
+    let at-loop-test = at-visit-half .before .before in
+    let at-loop = at-loop-test .before in
+    scan-more (at-loop .loop .inv) (at-loop-test .loop-test .taken) (at-visit-half .visit-half .ensures) (c .get-half .ensures .0) .1
 
 loop-again : tie.Need-loop-again Inv-loop μ-loop
-loop-again c = scan-more (c .before .before .before .before .before .before .before .loop .inv) (c .before .before .before .before .before .before .loop-test .taken) (c .before .before .before .before .visit-half .ensures) (c .get-half .ensures .0) .0
+loop-again c =
+    let at-visit-half = c .before .before .before .before in
+    let at-loop-test = at-visit-half .before .before in
+    let at-loop = at-loop-test .before in
+    scan-more (at-loop .loop .inv) (at-loop-test .loop-test .taken) (at-visit-half .visit-half .ensures) (c .get-half .ensures .0) .0
 
 same-length : tie.Need-same-length Inv-loop μ-loop
 same-length c = c .before .loop .inv .keeps .rest .same
@@ -55,9 +67,9 @@ scan-node-spec =
     get-requires
     get-requires-2
     loop-holds
-    sub-visit-half
+    (λ c. search needs)
     visit-half-requires
-    sub-get-half
+    (λ c. search needs)
     get-half-requires
     loop-less
     loop-again

@@ -1,4 +1,4 @@
--- `forest::spanning_forest` meets its contract. The loop's invariant: the first j active nodes are seen.
+-- `spanning_forest` meets its contract. The loop's invariant: the first j active nodes are seen.
 -- Assumes nothing.
 use Prim.Native.Nat.{_-_, _≤_}
 use mathlib.Core.Path.{_≡_}
@@ -20,14 +20,11 @@ loop-holds c = (omega arith, keeps-none _ _, c .before .pre)
 start-tree-requires : tie.Need-start-tree-requires Inv-loop μ-loop
 start-tree-requires c κs = (c .before .before .loop .inv .2, omega arith)
 
-add-j : tie.Need-add-j Inv-loop μ-loop
-add-j c = omega arith
-
-loop-less : tie.Need-loop-less Inv-loop μ-loop
-loop-less c = omega arith
-
 loop-again : tie.Need-loop-again Inv-loop μ-loop
-loop-again c = (omega arith, keeps-then (c .before .before .before .before .before .loop .inv .1) (c .before .before .start-tree .ensures .0), c .before .before .start-tree .ensures .1)
+loop-again c =
+    let at-start-tree = c .before .before in
+    let at-loop = at-start-tree .before .before .before in
+    (omega arith, keeps-then (at-loop .loop .inv .1) (at-start-tree .start-tree .ensures .0), at-start-tree .start-tree .ensures .1)
 
 same-length : tie.Need-same-length Inv-loop μ-loop
 same-length c = c .before .loop .inv .1 .rest .same
@@ -45,8 +42,8 @@ spanning-forest-spec =
     μ-loop
     loop-holds
     start-tree-requires
-    add-j
-    loop-less
+    (λ c. omega arith)
+    (λ c. omega arith)
     loop-again
     same-length
     returns)

@@ -1,3 +1,5 @@
+-- `clear_marks` meets its contract. The loop's invariant: the first v nodes have no mark.
+-- Assumes nothing.
 use Prim.Native.Nat.{_-_}
 use native.Mathlib.Omega.{arith}
 use Rattle.core_loading.proofs.LoadingLaws.{Clearing, clearing-more, clearing-none}
@@ -16,14 +18,11 @@ loop-holds c = clearing-none _ _
 put-requires : tie.Need-put-requires Inv-loop μ-loop
 put-requires c κs = omega (arith, c .before .before .loop .inv .same)
 
-add-v : tie.Need-add-v Inv-loop μ-loop
-add-v c = omega arith
-
-loop-less : tie.Need-loop-less Inv-loop μ-loop
-loop-less c = omega arith
-
 loop-again : tie.Need-loop-again Inv-loop μ-loop
-loop-again c = clearing-more (c .before .before .before .before .before .loop .inv) (omega arith) (c .before .before .put .ensures)
+loop-again c =
+    let at-put = c .before .before in
+    let at-loop = at-put .before .before .before in
+    clearing-more (at-loop .loop .inv) (omega arith) (at-put .put .ensures)
 
 same-length : tie.Need-same-length Inv-loop μ-loop
 same-length c = c .before .loop .inv .same
@@ -39,8 +38,8 @@ clear-marks-spec =
     μ-loop
     loop-holds
     put-requires
-    add-v
-    loop-less
+    (λ c. omega arith)
+    (λ c. omega arith)
     loop-again
     same-length
     returns)

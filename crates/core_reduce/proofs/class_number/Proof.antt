@@ -1,4 +1,4 @@
--- `core::class_number` meets its contract.
+-- `class_number` meets its contract.
 -- Assumes nothing.
 use mathlib.Core.Path.{ap}
 use Prim.Native.Nat.{_-_}
@@ -8,17 +8,13 @@ use borrow.Author.Needs.{needs}
 use Rattle.core_reduce.proofs.class_number.Statement.{statement}
 use Rattle.core_reduce.proofs.class_number.Tie as tie
 
-get-requires : tie.Need-get-requires
-get-requires c κs = search needs
-
-get-requires-2 : tie.Need-get-requires-2
-get-requires-2 c κs = search needs
-
 sub-result : tie.Need-sub-result
 sub-result c = omega (arith, number-is (c .before .before .before .pre) (c .before .get .ensures .0) (c .get2 .ensures .0) .1)
 
 returns : tie.Need-returns
-returns c = (ap (λ i. i - 1) (number-is (c .before .before .before .pre) (c .before .get .ensures .0) (c .get2 .ensures .0) .0), omega (arith, c .get2 .ensures .1))
+returns c =
+    let start = c .before .before .before in
+    (ap (λ i. i - 1) (number-is (start .pre) (c .before .get .ensures .0) (c .get2 .ensures .0) .0), omega (arith, c .get2 .ensures .1))
 
 pub class-number-spec : {M : Type 1} → statement M
-class-number-spec = tie.close (tie.spec get-requires get-requires-2 sub-result returns)
+class-number-spec = tie.close (tie.spec (λ c κs. search needs) (λ c κs. search needs) sub-result returns)

@@ -1,4 +1,4 @@
--- `core::clear_node` meets its contract.
+-- `clear_node` meets its contract.
 -- Assumes nothing.
 use Rattle.core_reduce.proofs.ClearLaws.{clear-none, clear-put}
 use mathlib.Core.Path.{refl}
@@ -6,39 +6,32 @@ use borrow.Author.Needs.{needs}
 use Rattle.core_reduce.proofs.clear_node.Statement.{statement}
 use Rattle.core_reduce.proofs.clear_node.Tie as tie
 
-put-requires : tie.Need-put-requires
-put-requires c κs = search needs
-
-put-requires-2 : tie.Need-put-requires-2
-put-requires-2 c κs = search needs
-
-put-requires-3 : tie.Need-put-requires-3
-put-requires-3 c κs = search needs
-
-put-requires-4 : tie.Need-put-requires-4
-put-requires-4 c κs = search needs
-
-put-requires-5 : tie.Need-put-requires-5
-put-requires-5 c κs = search needs
-
-put-requires-6 : tie.Need-put-requires-6
-put-requires-6 c κs = search needs
-
-same-length : tie.Need-same-length
-same-length c = search needs
-
 returns : tie.Need-returns
-returns c = clear-put refl (c .before .before .before .before .before .before .before .before .before .before .before .before .before .before .before .before .before .before .before .before .before .before .before .before .before .pre .2) (clear-put refl (c .before .before .before .before .before .before .before .before .before .before .before .before .before .before .before .before .before .before .before .before .before .before .before .before .before .pre .2) (clear-put refl (c .before .before .before .before .before .before .before .before .before .before .before .before .before .before .before .before .before .before .before .before .before .before .before .before .before .pre .2) (clear-put refl (c .before .before .before .before .before .before .before .before .before .before .before .before .before .before .before .before .before .before .before .before .before .before .before .before .before .pre .2) (clear-put refl (c .before .before .before .before .before .before .before .before .before .before .before .before .before .before .before .before .before .before .before .before .before .before .before .before .before .pre .2) (clear-put refl (c .before .before .before .before .before .before .before .before .before .before .before .before .before .before .before .before .before .before .before .before .before .before .before .before .before .pre .2) (clear-none _ _) (c .before .before .before .before .before .before .before .before .before .before .before .before .before .before .before .before .before .before .before .before .before .before .put .ensures)) (c .before .before .before .before .before .before .before .before .before .before .before .before .before .before .before .before .before .before .put2 .ensures)) (c .before .before .before .before .before .before .before .before .before .before .before .before .before .before .put3 .ensures)) (c .before .before .before .before .before .before .before .before .before .before .put4 .ensures)) (c .before .before .before .before .before .before .put5 .ensures)) (c .before .before .put6 .ensures)
+returns c =
+    let at-put6 = c .before .before in
+    let at-put5 = at-put6 .before .before .before .before in
+    let at-put4 = at-put5 .before .before .before .before in
+    let at-put3 = at-put4 .before .before .before .before in
+    let at-put2 = at-put3 .before .before .before .before in
+    let at-put = at-put2 .before .before .before .before in
+    let start = at-put .before .before .before in
+    let fit = start .pre .2 in
+    let one = clear-put refl fit (clear-none _ _) (at-put .put .ensures) in
+    let two = clear-put refl fit one (at-put2 .put2 .ensures) in
+    let three = clear-put refl fit two (at-put3 .put3 .ensures) in
+    let four = clear-put refl fit three (at-put4 .put4 .ensures) in
+    let five = clear-put refl fit four (at-put5 .put5 .ensures) in
+    clear-put refl fit five (at-put6 .put6 .ensures)
 
 pub clear-node-spec : {M : Type 1} → statement M
 clear-node-spec =
     tie.close
     (tie.spec
-    put-requires
-    put-requires-2
-    put-requires-3
-    put-requires-4
-    put-requires-5
-    put-requires-6
-    same-length
+    (λ c κs. search needs)
+    (λ c κs. search needs)
+    (λ c κs. search needs)
+    (λ c κs. search needs)
+    (λ c κs. search needs)
+    (λ c κs. search needs)
+    (λ c. search needs)
     returns)

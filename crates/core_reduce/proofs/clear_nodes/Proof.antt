@@ -1,8 +1,7 @@
--- `core::clear_nodes` meets its contract. The loop's invariant: the first v nodes are cleared.
+-- `clear_nodes` meets its contract. The loop's invariant: the first v nodes are cleared.
 -- Assumes nothing.
 use Rattle.core_reduce.proofs.ClearLaws.{cleared-none, cleared-more}
-use Rattle.core_reduce.specs.Clearing.{Cleared}
-use mathlib.Core.List.{[], _∷_}
+use Rattle.core_reduce.specs.Clearing.{ClearedNodes, startFields}
 use mathlib.Core.Path.{_≡_}
 use Prim.Native.Nat.{_-_, _≤_}
 use native.Mathlib.Omega.{arith}
@@ -10,7 +9,7 @@ use Rattle.core_reduce.proofs.clear_nodes.Statement.{statement}
 use Rattle.core_reduce.proofs.clear_nodes.Tie as tie
 
 abbrev Inv-loop : tie.InvT-loop
-Inv-loop work₀ n v₀ work v = (v ≤ n) × Cleared (10 ∷ 9 ∷ 8 ∷ 7 ∷ 4 ∷ 2 ∷ []) n v work₀ work
+Inv-loop work₀ n v₀ work v = (v ≤ n) × ClearedNodes startFields n v work₀ work
 
 abbrev μ-loop : tie.MeasureT-loop
 μ-loop work₀ n v₀ work v = n - v
@@ -19,16 +18,22 @@ loop-holds : tie.Need-loop-holds Inv-loop μ-loop
 loop-holds c = (omega arith, cleared-none _ _)
 
 clear-node-requires : tie.Need-clear-node-requires Inv-loop μ-loop
-clear-node-requires c κs = let s = c .before .before .loop .inv .1 .rest .same in (omega (arith, c .before .before .before .before .pre .0), c .before .before .before .before .pre .1, omega arith)
+clear-node-requires c κs =
+    let at-loop = c .before .before in
+    let start = at-loop .before .before in
+    let s = at-loop .loop .inv .1 .rest .same in
+    (omega (arith, start .pre .0), start .pre .1, omega arith)
 
 add-v : tie.Need-add-v Inv-loop μ-loop
-add-v c = omega (arith, c .before .before .before .before .before .before .before .pre .1)
-
-loop-less : tie.Need-loop-less Inv-loop μ-loop
-loop-less c = omega arith
+add-v c =
+    let start = c .before .before .before .before .before .before .before in
+    omega (arith, start .pre .1)
 
 loop-again : tie.Need-loop-again Inv-loop μ-loop
-loop-again c = (omega arith, cleared-more (c .before .before .before .before .before .loop .inv .1) (c .before .before .clear-node .ensures))
+loop-again c =
+    let at-clear-node = c .before .before in
+    let at-loop = at-clear-node .before .before .before in
+    (omega arith, cleared-more (at-loop .loop .inv .1) (at-clear-node .clear-node .ensures))
 
 same-length : tie.Need-same-length Inv-loop μ-loop
 same-length c = c .before .loop .inv .1 .rest .same
@@ -45,7 +50,7 @@ clear-nodes-spec =
     loop-holds
     clear-node-requires
     add-v
-    loop-less
+    (λ c. omega arith)
     loop-again
     same-length
     returns)

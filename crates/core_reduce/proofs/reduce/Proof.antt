@@ -1,6 +1,6 @@
--- `core::reduce` meets its contract.
+-- `reduce` meets its contract: each pass asks for what those before it ensure.
 -- Assumes nothing.
-use Rattle.core_reduce.proofs.ReduceLaws.{can-clear, can-link, can-list, can-number-classes, can-search, can-write, reduced}
+use Rattle.core_reduce.proofs.ReduceLaws.{can-clear, can-link, can-list, can-merge-components, can-number-classes, can-search, can-write, reduced}
 use borrow.Author.Needs.{needs}
 use Rattle.core_reduce.proofs.reduce.Statement.{statement}
 use Rattle.core_reduce.proofs.reduce.Tie as tie
@@ -9,25 +9,63 @@ clear-nodes-requires : tie.Need-clear-nodes-requires
 clear-nodes-requires c κs = can-clear (c .before .before .pre)
 
 link-edges-requires : tie.Need-link-edges-requires
-link-edges-requires c κs = can-link (c .before .before .before .before .before .before .pre) (c .before .before .before .clear-nodes .ensures)
+link-edges-requires c κs =
+    let cleared = c .before .before .before in
+    can-link (cleared .before .before .before .pre) (cleared .clear-nodes .ensures)
 
-find-components-requires : tie.Need-find-components-requires
-find-components-requires c κs = can-search (c .before .before .before .before .before .before .before .before .before .before .pre) (c .before .before .before .before .before .before .before .clear-nodes .ensures) (c .before .before .before .link-edges .ensures .0) (c .before .before .before .link-edges .ensures .1)
+spanning-forest-requires : tie.Need-spanning-forest-requires
+spanning-forest-requires c κs =
+    let linked = c .before .before .before in
+    let cleared = linked .before .before .before .before in
+    can-search (cleared .before .before .before .pre) (cleared .clear-nodes .ensures) (linked .link-edges .ensures)
+
+merge-components-requires : tie.Need-merge-components-requires
+merge-components-requires c κs =
+    let searched = c .before .before .before in
+    let linked = searched .before .before .before .before in
+    let cleared = linked .before .before .before .before in
+    can-merge-components (cleared .before .before .before .pre) (cleared .clear-nodes .ensures) (linked .link-edges .ensures) (searched .spanning-forest .ensures)
 
 number-classes-requires : tie.Need-number-classes-requires
-number-classes-requires c κs = can-number-classes (c .before .before .before .before .before .before .before .before .before .before .before .before .before .before .pre) (c .before .before .before .before .before .before .before .before .before .before .before .clear-nodes .ensures) (c .before .before .before .before .before .before .before .link-edges .ensures .0) (c .before .before .before .before .before .before .before .link-edges .ensures .1) (c .before .before .before .find-components .ensures)
+number-classes-requires c κs =
+    let merged = c .before .before .before in
+    let searched = merged .before .before .before .before in
+    let linked = searched .before .before .before .before in
+    let cleared = linked .before .before .before .before in
+    can-number-classes (cleared .before .before .before .pre) (cleared .clear-nodes .ensures) (linked .link-edges .ensures) (searched .spanning-forest .ensures) (merged .merge-components .ensures)
 
 list-edges-requires : tie.Need-list-edges-requires
-list-edges-requires c κs = can-list (c .before .before .before .before .before .before .before .before .before .before .before .before .before .before .before .before .before .before .pre) (c .before .before .before .before .before .before .before .before .before .before .before .before .before .before .before .clear-nodes .ensures) (c .before .before .before .before .before .before .before .before .before .before .before .link-edges .ensures .0) (c .before .before .before .before .before .before .before .before .before .before .before .link-edges .ensures .1) (c .before .before .before .before .before .before .before .find-components .ensures) (c .before .before .before .number-classes .ensures)
+list-edges-requires c κs =
+    let numbered = c .before .before .before in
+    let merged = numbered .before .before .before .before in
+    let searched = merged .before .before .before .before in
+    let linked = searched .before .before .before .before in
+    let cleared = linked .before .before .before .before in
+    can-list (cleared .before .before .before .pre) (cleared .clear-nodes .ensures) (linked .link-edges .ensures) (searched .spanning-forest .ensures)
+    (merged .merge-components .ensures) (numbered .number-classes .ensures)
 
 write-numbers-requires : tie.Need-write-numbers-requires
-write-numbers-requires c κs = can-write (c .before .before .before .before .before .before .before .before .before .before .before .before .before .before .before .before .before .before .before .before .before .before .pre) (c .before .before .before .before .before .before .before .before .before .before .before .before .before .before .before .before .before .before .before .clear-nodes .ensures) (c .before .before .before .before .before .before .before .before .before .before .before .before .before .before .before .link-edges .ensures .0) (c .before .before .before .before .before .before .before .before .before .before .before .before .before .before .before .link-edges .ensures .1) (c .before .before .before .before .before .before .before .before .before .before .before .find-components .ensures) (c .before .before .before .before .before .before .before .number-classes .ensures) (c .before .before .before .list-edges .ensures)
-
-same-length : tie.Need-same-length
-same-length c = search needs
+write-numbers-requires c κs =
+    let listed = c .before .before .before in
+    let numbered = listed .before .before .before .before in
+    let merged = numbered .before .before .before .before in
+    let searched = merged .before .before .before .before in
+    let linked = searched .before .before .before .before in
+    let cleared = linked .before .before .before .before in
+    can-write (cleared .before .before .before .pre) (cleared .clear-nodes .ensures) (linked .link-edges .ensures) (searched .spanning-forest .ensures)
+    (merged .merge-components .ensures) (numbered .number-classes .ensures) (listed .list-edges .ensures)
 
 returns : tie.Need-returns
-returns c = reduced (c .before .before .before .before .before .before .before .before .before .before .before .before .before .before .before .before .before .before .before .before .before .before .before .before .before .pre) (c .before .before .before .before .before .before .before .before .before .before .before .before .before .before .before .before .before .before .before .before .before .before .clear-nodes .ensures) (c .before .before .before .before .before .before .before .before .before .before .before .before .before .before .before .before .before .before .link-edges .ensures .0) (c .before .before .before .before .before .before .before .before .before .before .before .before .before .before .before .before .before .before .link-edges .ensures .1) (c .before .before .before .before .before .before .before .before .before .before .before .before .before .before .find-components .ensures) (c .before .before .before .before .before .before .before .before .before .before .number-classes .ensures) (c .before .before .before .before .before .before .list-edges .ensures) (c .before .before .write-numbers .ensures)
+returns c =
+    let written = c .before .before in
+    let listed = written .before .before .before .before in
+    let numbered = listed .before .before .before .before in
+    let merged = numbered .before .before .before .before in
+    let searched = merged .before .before .before .before in
+    let linked = searched .before .before .before .before in
+    let cleared = linked .before .before .before .before in
+    reduced (cleared .before .before .before .pre) (cleared .clear-nodes .ensures) (linked .link-edges .ensures) (searched .spanning-forest .ensures)
+    (merged .merge-components .ensures) (numbered .number-classes .ensures) (listed .list-edges .ensures) (written .write-numbers .ensures)
 
 pub reduce-spec : {M : Type 1} → statement M
 reduce-spec =
@@ -35,9 +73,10 @@ reduce-spec =
     (tie.spec
     clear-nodes-requires
     link-edges-requires
-    find-components-requires
+    spanning-forest-requires
+    merge-components-requires
     number-classes-requires
     list-edges-requires
     write-numbers-requires
-    same-length
+    (λ c. search needs)
     returns)

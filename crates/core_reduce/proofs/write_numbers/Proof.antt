@@ -1,4 +1,4 @@
--- `core::write_numbers` meets its contract. The loop's invariant: the first i active nodes have their numbers.
+-- `write_numbers` meets its contract. The loop's invariant: the first i active nodes have their numbers.
 -- Assumes nothing.
 use Rattle.core_reduce.proofs.NumberLaws.{writing-can, writing-more, writing-none}
 use Rattle.core_reduce.specs.Numbers.{WritingNumbers}
@@ -18,22 +18,39 @@ loop-holds : tie.Need-loop-holds Inv-loop μ-loop
 loop-holds c = (omega arith, writing-none _ _)
 
 get-requires : tie.Need-get-requires Inv-loop μ-loop
-get-requires c κs = let s = c .before .before .loop .inv .1 .rest .same in omega (arith, c .before .before .before .before .pre .room, c .before .before .before .before .pre .less)
+get-requires c κs =
+    let at-loop = c .before .before in
+    let start = at-loop .before .before in
+    let s = at-loop .loop .inv .1 .rest .same in
+    omega (arith, start .pre .room, start .pre .less)
 
 class-number-requires : tie.Need-class-number-requires Inv-loop μ-loop
-class-number-requires c κs = writing-can (c .before .before .before .before .before .before .pre) (c .before .before .before .before .loop .inv .1) (omega arith) (c .before .get .ensures .0)
+class-number-requires c κs =
+    let at-loop = c .before .before .before .before in
+    let start = at-loop .before .before in
+    writing-can (start .pre) (at-loop .loop .inv .1) (omega arith) (c .before .get .ensures .0)
 
 put-requires : tie.Need-put-requires Inv-loop μ-loop
-put-requires c κs = let g = writing-can (c .before .before .before .before .before .before .before .before .pre) (c .before .before .before .before .before .before .loop .inv .1) (omega arith) (c .before .before .before .get .ensures .0) in (omega (arith, g .fit, g .room), c .before .class-number .ensures .1, omega arith)
+put-requires c κs =
+    let at-get = c .before .before .before in
+    let at-loop = at-get .before .before .before in
+    let start = at-loop .before .before in
+    let g = writing-can (start .pre) (at-loop .loop .inv .1) (omega arith) (at-get .get .ensures .0) in
+    (omega (arith, g .fit, g .room), c .before .class-number .ensures .1, omega arith)
 
 add-i : tie.Need-add-i Inv-loop μ-loop
-add-i c = omega (arith, c .before .before .before .before .before .before .before .before .before .before .before .pre .less, c .before .before .before .before .before .before .before .before .before .before .before .pre .room)
-
-loop-less : tie.Need-loop-less Inv-loop μ-loop
-loop-less c = omega arith
+add-i c =
+    let start = c .before .before .before .before .before .before .before .before .before .before .before in
+    omega (arith, start .pre .less, start .pre .room)
 
 loop-again : tie.Need-loop-again Inv-loop μ-loop
-loop-again c = (omega arith, writing-more (c .before .before .before .before .before .before .before .before .before .before .before .pre) (c .before .before .before .before .before .before .before .before .before .loop .inv .1) (omega arith) (c .before .before .before .before .before .before .get .ensures .0) (c .before .before .before .before .class-number .ensures .0) (c .before .before .put .ensures))
+loop-again c =
+    let at-put = c .before .before in
+    let at-class-number = at-put .before .before in
+    let at-get = at-class-number .before .before in
+    let at-loop = at-get .before .before .before in
+    let start = at-loop .before .before in
+    (omega arith, writing-more (start .pre) (at-loop .loop .inv .1) (omega arith) (at-get .get .ensures .0) (at-class-number .class-number .ensures .0) (at-put .put .ensures))
 
 same-length : tie.Need-same-length Inv-loop μ-loop
 same-length c = c .before .loop .inv .1 .rest .same
@@ -52,7 +69,7 @@ write-numbers-spec =
     class-number-requires
     put-requires
     add-i
-    loop-less
+    (λ c. omega arith)
     loop-again
     same-length
     returns)

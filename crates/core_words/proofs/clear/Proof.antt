@@ -1,3 +1,5 @@
+-- `clear` meets its contract. The loop's invariant: the first i words are 0.
+-- Assumes nothing.
 use Prim.Native.Nat.{_-_, _≤_, ℕ}
 use mathlib.Core.List.{List}
 use mathlib.Core.Path.{_∙_, _≡_, ap, refl}
@@ -23,12 +25,6 @@ mul-work c = let s = written-length (λ _. 0) (c .before .loop .i) (c .before .b
 slice-write-work : tie.Need-slice-write-work Inv-loop μ-loop
 slice-write-work c = omega (arith, written-length (λ _. 0) (c .before .loop .i) (c .before .before .args .work .now) (c .before .loop .inv .1) (omega arith))
 
-add-i : tie.Need-add-i Inv-loop μ-loop
-add-i c = search needs
-
-loop-less : tie.Need-loop-less Inv-loop μ-loop
-loop-less c = search needs
-
 loop-again : tie.Need-loop-again Inv-loop μ-loop
 loop-again c = (omega arith, written-more (λ _. 0) (c .before .loop .i) (c .before .before .args .work .now) (c .before .loop .inv .1) (omega arith) refl)
 
@@ -36,7 +32,11 @@ same-length : tie.Need-same-length Inv-loop μ-loop
 same-length c = written-length (λ _. 0) (c .before .loop .i) (c .before .before .args .work .now) (c .before .loop .inv .1) (omega arith)
 
 returns : tie.Need-returns Inv-loop μ-loop
-returns c = written-all (λ _. 0) (c .before .loop .i) (c .before .before .args .work .now) (c .before .loop .inv .1) (c .before .before .args .count) (omega arith) ∙ ap (λ (l : List ℕ). over l (c .before .before .args .work .now)) (zeros-table (c .before .before .args .count) 0)
+returns c =
+    let start = c .before .before in
+    let a = start .args in
+    written-all (λ _. 0) (c .before .loop .i) (a .work .now) (c .before .loop .inv .1) (a .count) (omega arith) ∙ ap (λ (l : List ℕ). over l (a .work .now))
+    (zeros-table (a .count) 0)
 
 pub clear-spec : {M : Type 1} → statement M
 clear-spec =
@@ -47,8 +47,8 @@ clear-spec =
     loop-holds
     mul-work
     slice-write-work
-    add-i
-    loop-less
+    (λ c. search needs)
+    (λ c. search needs)
     loop-again
     same-length
     returns)

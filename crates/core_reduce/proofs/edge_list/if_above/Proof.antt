@@ -1,4 +1,4 @@
--- `core::edge_list::if_above` meets its contract.
+-- `edge_list::if_above` meets its contract.
 -- Assumes nothing.
 use mathlib.Core.Logic.{inl, inr}
 use mathlib.Core.Path.{refl}

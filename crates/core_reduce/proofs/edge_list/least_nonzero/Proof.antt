@@ -1,4 +1,4 @@
--- `core::edge_list::least_nonzero` meets its contract.
+-- `edge_list::least_nonzero` meets its contract.
 -- Assumes nothing.
 use mathlib.Core.Logic.{inl, inr}
 use mathlib.Core.Path.{refl}

@@ -1,4 +1,4 @@
--- `core::edge_list::push_children` meets its contract. The loop's invariant: the numbers from x on are in their lists.
+-- `edge_list::push_children` meets its contract. The loop's invariant: the numbers from x on are in their lists.
 -- Assumes nothing.
 use Prim.Native.Nat.{_≤_}
 use mathlib.Core.Path.{_≡_}
@@ -18,17 +18,14 @@ abbrev μ-loop : tie.MeasureT-loop
 loop-holds : tie.Need-loop-holds Inv-loop μ-loop
 loop-holds c = (omega arith, c .before .pre)
 
-sub-x : tie.Need-sub-x Inv-loop μ-loop
-sub-x c = search needs
-
 push-child-requires : tie.Need-push-child-requires Inv-loop μ-loop
 push-child-requires c κs = (pushing-down (c .before .loop-test .taken) (c .before .before .loop .inv .1), omega arith)
 
-loop-less : tie.Need-loop-less Inv-loop μ-loop
-loop-less c = search needs
-
 loop-again : tie.Need-loop-again Inv-loop μ-loop
-loop-again c = (omega arith, pushing-then (c .before .before .before .before .before .loop .inv .1) (c .before .before .push-child .ensures))
+loop-again c =
+    let at-push-child = c .before .before in
+    let at-loop = at-push-child .before .before .before in
+    (omega arith, pushing-then (at-loop .loop .inv .1) (at-push-child .push-child .ensures))
 
 same-length : tie.Need-same-length Inv-loop μ-loop
 same-length c = c .before .loop .inv .1 .rest .same
@@ -43,9 +40,9 @@ push-children-spec =
     Inv-loop
     μ-loop
     loop-holds
-    sub-x
+    (λ c. search needs)
     push-child-requires
-    loop-less
+    (λ c. search needs)
     loop-again
     same-length
     returns)

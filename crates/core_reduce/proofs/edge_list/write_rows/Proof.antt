@@ -1,4 +1,4 @@
--- `core::edge_list::write_rows` meets its contract. The loop's invariant: the edges with a smaller end below s are written.
+-- `edge_list::write_rows` meets its contract. The loop's invariant: the edges with a smaller end below s are written.
 -- Assumes nothing.
 use Prim.Native.Nat.{_+_, _-_, _≤_}
 use mathlib.Core.Path.{_≡_}
@@ -21,14 +21,11 @@ loop-holds c = (omega arith, writing-none (c .before .pre))
 write-row-requires : tie.Need-write-row-requires Inv-loop μ-loop
 write-row-requires c κs = (writing-self (c .before .before .loop .inv .1), omega arith)
 
-add-s : tie.Need-add-s Inv-loop μ-loop
-add-s c = search needs
-
-loop-less : tie.Need-loop-less Inv-loop μ-loop
-loop-less c = search needs
-
 loop-again : tie.Need-loop-again Inv-loop μ-loop
-loop-again c = (omega arith, writing-then (c .before .before .before .before .before .loop .inv .1) (c .before .before .write-row .ensures))
+loop-again c =
+    let at-write-row = c .before .before in
+    let at-loop = at-write-row .before .before .before in
+    (omega arith, writing-then (at-loop .loop .inv .1) (at-write-row .write-row .ensures))
 
 same-length : tie.Need-same-length Inv-loop μ-loop
 same-length c = c .before .loop .inv .1 .rest .same
@@ -44,8 +41,8 @@ write-rows-spec =
     μ-loop
     loop-holds
     write-row-requires
-    add-s
-    loop-less
+    (λ c. search needs)
+    (λ c. search needs)
     loop-again
     same-length
     returns)
