@@ -1,12 +1,15 @@
 // The public call `replay`: the checks, then the recursion over the windows of the whole list.
-mod whole;
+mod list;
 
 use theory_timeline::ReplayReply;
 ghost use mathlib.Core.Path.{_≡_};
+ghost use Prim.Native.Nat.{ℕ};
 ghost use Rattle.theory_timeline.specs.Call.{lent, outcome};
-ghost use Rattle.theory_timeline.specs.Replay.{replay};
+ghost use Rattle.theory_timeline.specs.DemandThree.{Allowed, Demand3};
+ghost use Rattle.theory_timeline.specs.Replay.{Lent, replay};
 
-// The replay of t events over n junctions and m segments, with the share p.
+// The replay of t events over n junctions and m segments, with the share p. Its outcome is the one that the definition gives for what it is lent;
+// and with any other lending k and any two allowed shares it meets demand 3.
 pub fn replay(
     n: usize,
     m: usize,
@@ -19,12 +22,31 @@ pub fn replay(
     answers: &mut [u8],
     work: &mut [u32],
 ) -> ReplayReply
-    ensures { λ r. ⌜ outcome r (now (answers .exit)) (now (work .exit)) ≡ replay (lent n m t (now (a .entry)) (now (b .entry)) (now (x .entry)) (now (y .entry)) (now (answers .entry)) (now (work .entry))) p ⌝ }
+    ensures { λ r. ⌜ outcome r (now (answers .exit)) (now (work .exit)) ≡ replay (lent n m t (now (a .entry)) (now (b .entry)) (now (x .entry)) (now (y .entry))
+        (now (answers .entry)) (now (work .entry))) p ⌝ }
+    ensures { λ r. ⌜ (k : Lent) (q : ℕ) → Allowed p → Allowed q → Demand3 (lent n m t (now (a .entry)) (now (b .entry)) (now (x .entry)) (now (y .entry))
+        (now (answers .entry)) (now (work .entry))) k p q (outcome r (now (answers .exit)) (now (work .exit))) (replay k q) ⌝ }
 {
     let f = replay_checks::check(n, m, t, p, a, b, x, y, answers, work);
     if f.code > 0 {
         return ReplayReply::Refused(f.code, f.place);
     }
-    let r = whole::accepted(n, m, t, p, a, b, x, y, answers, work);
-    ReplayReply::Done(r)
+    let need = replay_checks::required(t, n);
+    let kept = list::replay_list(
+        n,
+        p,
+        &a[..m],
+        &b[..m],
+        &x[..t],
+        &y[..t],
+        answers,
+        &mut work[..need],
+    );
+    let queries = list::count_queries(answers, t);
+    core_words::clear(work, need);
+    ReplayReply::Done(theory_timeline::Totals {
+        queries: queries,
+        open: f.open,
+        kept: kept,
+    })
 }

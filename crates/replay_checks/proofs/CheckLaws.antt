@@ -5,84 +5,126 @@ use mathlib.Core.Bool.{Bool, _||_, cond, false, not, true}
 use mathlib.Core.List.{List, [], _++_, _∷_}
 use mathlib.Core.Path.{_∙_, _≡_, ap, ap₂, refl, subst, sym}
 use lib.Dec.{eqb, ltb}
-use lib.ListN.{getD, length, take}
-use lib.Seq.{take-suc}
+use lib.ListN.{getD, length, set, take}
+use lib.Seq.{take-all, take-suc}
 use native.Mathlib.Numerals.{add-one}
 use native.Mathlib.Omega.{arith}
-use borrow.Author.Tests.{eq-eqb, eqb-false, eqb-true, le-ltb, lt-ltb, ltb-false, ne-eqb}
-use Rattle.theory_graph.proofs.Booleans.{onBool}
-use Rattle.theory_graph.specs.Lists.{pairs}
-use Rattle.replay_segments.proofs.SegmentLaws.{event-stays}
-use Rattle.call_sizes.proofs.RefusalLaws.{fault-left, fault-silent, seek-at, seek-end, sizes-numbered, skip-silent}
-use Rattle.call_open_set.specs.OpenSet.{isOpen}
-use Rattle.call_sizes.specs.Refusal.{Refusal, Row, firstFault, row, seek, badEnds}
+use borrow.Author.Tests.{eq-eqb, eqb-false, eqb-true, le-ltb, lt-ltb, ltb-false, ltb-true, ne-eqb}
+use Rattle.call_open_set.specs.OpenSet.{bits, isOpen}
+use Rattle.call_sizes.proofs.RefusalLaws.{accepted-long, fault-left, fault-right, fault-silent, seek-at, seek-end, short-numbered, sizes-numbered, skip-silent}
+use Rattle.call_sizes.specs.Refusal.{Refusal, Row, badEnds, firstFault, row, seek}
 use Rattle.call_sizes.specs.Sizes.{sizeFaults}
-use Rattle.theory_timeline.proofs.Acceptance.{fault-fine, getD-pairs, length-pairs}
+use Rattle.theory_graph.proofs.Booleans.{contradict, onBool}
+use Rattle.theory_graph.specs.Lists.{pairs, sum}
+use Rattle.theory_timeline.proofs.Acceptance.{Accepted, accepted-from, accepted-sound, fault-fine, getD-pairs, length-pairs}
 use Rattle.theory_timeline.proofs.Networks.{after-append}
-use Rattle.replay_checks.specs.Check.{eventsFault, faultOf}
-use Rattle.theory_timeline.specs.Events.{Event, SegmentSet, after, afterAll, kindOf}
-use Rattle.theory_timeline.specs.Replay.{Lent, eventFault, fault, faultAt, faults, given, listFaults, required, shareFaults, shortTables}
-use Rattle.theory_timeline.specs.Windows.{atStart, openBefore}
+use Rattle.theory_timeline.specs.Events.{Event, SegmentSet, after, afterAll, closes, kindOf, opens}
+use Rattle.theory_timeline.specs.Replay.{Lent, eventFault, fault, faultAt, faults, given, listFaults, shareFaults, shortTables, tableLengths}
+use Rattle.theory_timeline.specs.Windows.{atStart, openBefore, size}
 use Rattle.theory_timeline.specs.declared.Kind.{Kind}
 use Rattle.theory_timeline.specs.declared.Kind.the-variants.{Closes, Nothing, Opens, Query}
+use Rattle.replay_checks.proofs.SetLaws.{event-stays, event-stored, open-count, stored-length}
+use Rattle.replay_checks.specs.Check.{CanCheckList, CheckedEvents, CheckedList, CheckedTables, EventFits, eventsFault, faultOf, tablesOf}
+use Rattle.replay_checks.specs.declared.Checked.{Checked}
 
 -- what holds below s and at s holds below s + 1
 pub below-next : (f : ℕ → Bool) (s : ℕ) → ((u : ℕ) → u < s → f u ≡ false) → f s ≡ false → (u : ℕ) → u < s + 1 → f u ≡ false
 below-next f s h t u l = onBool (eqb u s) (λ q. ap f (eqb-true u s q) ∙ t) (λ q. let ne : ¬ (u ≡ s) = eqb-false u s q in h u (omega arith))
 
--- ---- the sizes
+-- the segments open before the end are those after all events
+ends-with : (l : Lent) (p : ℕ) → Accepted l p → openBefore (given l) (size (given l)) ≡ afterAll (pairs (take (l .t) (l .x)) (take (l .t) (l .y))) atStart
+unfolding openBefore given
+ends-with l p a = let e = pairs (take (l .t) (l .x)) (take (l .t) (l .y)) in ap (λ (k : List Event). afterAll k atStart) (take-all (length e) e (omega arith))
+
+-- ---- the sizes and the lengths
 module _ (l : Lent) (p : ℕ) where
+  abbrev rest : List Row
+  rest = shareFaults p ++ listFaults l
+
   pub size-refused : (f : Refusal) → f ≡ firstFault (sizeFaults (l .n) (l .m) (l .t) 0) → 0 < f .0 → f ≡ fault l p
   unfolding fault faults
-  size-refused f e h = e ∙ sym (fault-left (sizeFaults (l .n) (l .m) (l .t) 0) (shortTables l ++ shareFaults p ++ listFaults l) (λ z. omega (arith, ap (λ (f : Refusal). f .0) e)))
+  size-refused f e h = e ∙ sym (fault-left (sizeFaults (l .n) (l .m) (l .t) 0) (shortTables l ++ rest) (λ z. omega (arith, ap (λ (f : Refusal). f .0) e)))
 
-pub size-within : (n m t : ℕ) (f : Refusal) → f ≡ firstFault (sizeFaults n m t 0) → f .0 ≡ 0 → (n ≤ 4096) × (m ≤ 8192) × (t ≤ 4096)
-size-within n m t f e h =
-    let s = fault-silent (sizeFaults n m t 0) (sizes-numbered n m t 0) (ap (λ (f : Refusal). f .0) (sym e) ∙ h) in
-    (ltb-false 4096 n (s .0), ltb-false 8192 m (s .1 .0), ltb-false 4096 t (s .1 .1 .0))
+  module _ (f : Refusal) (e : f ≡ firstFault (sizeFaults (l .n) (l .m) (l .t) 0)) (z : f .0 ≡ 0) where
+    lengths : fault l p ≡ firstFault (shortTables l ++ rest)
+    unfolding fault faults
+    lengths = fault-right (sizeFaults (l .n) (l .m) (l .t) 0) (shortTables l ++ rest) (sizes-numbered (l .n) (l .m) (l .t) 0) (sym (ap (λ (f : Refusal). f .0) e) ∙ z)
 
--- ---- the tables and the share
-module _ (l : Lent) (p : ℕ) (n-fits : l .n ≤ 4096) (m-fits : l .m ≤ 8192) (t-fits : l .t ≤ 4096) where
-  -- the sizes are within the limits
-  pub tables-fault : fault l p ≡ firstFault (shortTables l ++ shareFaults p ++ listFaults l)
-  unfolding fault faults
-  tables-fault =
-      skip-silent (sizeFaults (l .n) (l .m) (l .t) 0) (shortTables l ++ shareFaults p ++ listFaults l)
-      (le-ltb 4096 (l .n) n-fits, (le-ltb 8192 (l .m) m-fits, (le-ltb 4096 (l .t) t-fits, (refl, tt))))
+    pub within : (l .n ≤ 4096) × (l .m ≤ 8192) × (l .t ≤ 4096)
+    within =
+        let s = fault-silent (sizeFaults (l .n) (l .m) (l .t) 0) (sizes-numbered (l .n) (l .m) (l .t) 0) (ap (λ (f : Refusal). f .0) (sym e) ∙ z) in
+        (ltb-false 4096 (l .n) (s .0), ltb-false 8192 (l .m) (s .1 .0), ltb-false 4096 (l .t) (s .1 .1 .0))
 
-  module _ (a : l .m ≤ length (l .a)) (b : l .m ≤ length (l .b)) (x : l .t ≤ length (l .x)) (y : l .t ≤ length (l .y)) (q : l .t ≤ length (l .answers)) (w : required (l .t) (l .n) ≤ length (l .work))
-      (u : 4 ≤ p) (v : p ≤ 12) where
-    -- and the tables and the share are as they should be
-    list-fault : fault l p ≡ firstFault (listFaults l)
-    list-fault =
-        tables-fault
-        ∙ skip-silent (shortTables l) (shareFaults p ++ listFaults l)
-        (le-ltb (length (l .a)) (l .m) a, (le-ltb (length (l .b)) (l .m) b, (le-ltb (length (l .x)) (l .t) x, (le-ltb (length (l .y)) (l .t) y, (le-ltb (length (l .answers)) (l .t) q, (le-ltb (length (l .work)) (required (l .t) (l .n)) w, tt))))))
-        ∙ skip-silent (shareFaults p) (listFaults l) (le-ltb p 4 u, (le-ltb 12 p v, tt))
+    module _ (h : Refusal) (k : h ≡ firstFault (shortTables l)) where
+      pub length-refused : 0 < h .0 → h ≡ fault l p
+      length-refused u = k ∙ sym (lengths ∙ fault-left (shortTables l) rest (λ z. omega (arith, ap (λ (f : Refusal). f .0) k)))
 
-    pub segment-refused : (s : ℕ) → s ≡ seek (badEnds (l .n) (l .a) (l .b)) 0 (l .m) → s < l .m → (4, s) ≡ fault l p
+      module _ (y : h .0 ≡ 0) where
+        list-fault : fault l p ≡ firstFault rest
+        list-fault = lengths ∙ fault-right (shortTables l) rest (short-numbered (tableLengths l)) (sym (ap (λ (f : Refusal). f .0) k) ∙ y)
+
+        pub can-check : CanCheckList (l .n) (l .m) (l .t) (l .a) (l .b) (l .x) (l .y)
+        can-check =
+            let (a, b, c) = within in
+            let (la, (lb, (lx, (ly, _)))) = accepted-long (tableLengths l) (sym (ap (λ (f : Refusal). f .0) k) ∙ y) in
+            record { n-fits = a; m-fits = b; t-fits = c; a-long = la; b-long = lb; x-long = lx; y-long = ly }
+
+        -- what the check of the list finds is what the whole input has
+        pub list-checked : {r : Checked} → CheckedList (l .n) (l .m) (l .t) p (l .a) (l .b) (l .x) (l .y) r → CheckedTables l p r
+        unfolding fault listFaults faults faultAt given
+        list-checked c = record {
+          refusal = c .refusal ∙ sym list-fault;
+          open-last = λ q.
+              let (held, o, e) = c .last (ap (λ (f : Refusal). f .0) (c .refusal ∙ sym list-fault) ∙ q) in
+              let a = accepted-from l p q in
+              e ∙ open-count (given l) (accepted-sound l p a) held (o ∙ sym (ends-with l p a));
+        }
+
+pub refused-checked : (l : Lent) (p : ℕ) (c i o : ℕ) → (c, i) ≡ fault l p → 0 < c → CheckedTables l p (record { code = c; place = i; «open» = o })
+refused-checked l p c i o e h = record { refusal = e; open-last = λ q. absurd (omega (arith, ap (λ (f : Refusal). f .0) e)) }
+
+-- ---- the share, the ends and the events
+module _ {n m t : ℕ} {a b x y : List ℕ} (q : CanCheckList n m t a b x y) (p : ℕ) where
+  abbrev l : Lent
+  l = tablesOf n m t a b x y
+
+  list-refused : (c i : ℕ) → (c, i) ≡ firstFault (shareFaults p ++ listFaults l) → 0 < c → CheckedList n m t p a b x y (record { code = c; place = i; «open» = 0 })
+  list-refused c i e h = record { refusal = e; last = λ z. absurd (omega arith) }
+
+  pub share-low : p < 4 → CheckedList n m t p a b x y (record { code = 3; place = 0; «open» = 0 })
+  share-low h = list-refused 3 0 (sym (ap (λ (c : Bool). cond c (3, 0) (firstFault (row (ltb 12 p) 3 0 ∷ listFaults l))) (lt-ltb p 4 h))) (omega arith)
+
+  pub share-high : 4 ≤ p → 12 < p → CheckedList n m t p a b x y (record { code = 3; place = 0; «open» = 0 })
+  share-high k h = list-refused 3 0
+      (sym (ap₂ (λ (c d : Bool). cond c (3, 0) (cond d (3, 0) (firstFault (listFaults l)))) (le-ltb p 4 k) (lt-ltb 12 p h))) (omega arith)
+
+  module _ (u : 4 ≤ p) (v : p ≤ 12) where
+    shared : firstFault (shareFaults p ++ listFaults l) ≡ firstFault (listFaults l)
+    shared = skip-silent (shareFaults p) (listFaults l) (le-ltb p 4 u, (le-ltb 12 p v, tt))
+
+    pub ends-refused : (s : ℕ) → s ≡ seek (badEnds n a b) 0 m → s < m → CheckedList n m t p a b x y (record { code = 4; place = s; «open» = 0 })
     unfolding listFaults
-    segment-refused s e h =
-        sym (list-fault
-        ∙ ap (λ (k : ℕ). firstFault (row (ltb k (l .m)) 4 k ∷ rest)) (sym e)
-        ∙ ap (λ (c : Bool). cond c (4, s) (firstFault rest)) (lt-ltb s (l .m) h))
+    ends-refused s e h = list-refused 4 s
+        (sym (shared ∙ ap (λ (k : ℕ). firstFault (row (ltb k m) 4 k ∷ others)) (sym e) ∙ ap (λ (c : Bool). cond c (4, s) (firstFault others)) (lt-ltb s m h))) (omega arith)
       where
-        rest : List Row
-        rest =
-            let i : ℕ = seek (λ i. not (eqb (faultAt l i) 0)) 0 (l .t) in
-            row (ltb i (l .t)) (faultAt l i) i ∷ []
+        others : List Row
+        others =
+            let i : ℕ = seek (λ i. not (eqb (faultAt l i) 0)) 0 t in
+            row (ltb i t) (faultAt l i) i ∷ []
 
-    pub events-refused : (s : ℕ) (f : Refusal) → s ≡ seek (badEnds (l .n) (l .a) (l .b)) 0 (l .m) → l .m ≤ s
-        → f ≡ eventsFault (l .n) (l .m) (pairs (take (l .t) (l .x)) (take (l .t) (l .y))) (l .t) → f ≡ fault l p
-    unfolding listFaults eventsFault faultOf faultAt given openBefore
-    events-refused s f e h g =
-        g ∙ sym (list-fault
-        ∙ ap (λ (c : Bool). cond c (4, seek (badEnds (l .n) (l .a) (l .b)) 0 (l .m)) (firstFault rest)) (le-ltb _ (l .m) (subst (λ (k : ℕ). l .m ≤ k) e h)))
-      where
-        rest : List Row
-        rest =
-            let i : ℕ = seek (λ i. not (eqb (faultOf (l .n) (l .m) (pairs (take (l .t) (l .x)) (take (l .t) (l .y))) i) 0)) 0 (l .t) in
-            row (ltb i (l .t)) (faultOf (l .n) (l .m) (pairs (take (l .t) (l .x)) (take (l .t) (l .y))) i) i ∷ []
+    module _ (s : ℕ) (e : s ≡ seek (badEnds n a b) 0 m) (h : m ≤ s) where
+      events-fault : eventsFault n m (pairs (take t x) (take t y)) t ≡ firstFault (shareFaults p ++ listFaults l)
+      unfolding listFaults eventsFault faultOf faultAt given openBefore
+      events-fault =
+          sym (shared ∙ ap (λ (c : Bool). cond c (4, seek (badEnds n a b) 0 m) (firstFault others)) (le-ltb _ m (subst (λ (k : ℕ). m ≤ k) e h)))
+        where
+          others : List Row
+          others =
+              let i : ℕ = seek (λ i. not (eqb (faultOf n m (pairs (take t x) (take t y)) i) 0)) 0 t in
+              row (ltb i t) (faultOf n m (pairs (take t x) (take t y)) i) i ∷ []
+
+      pub list-passed : {c i : ℕ} {held : List ℕ} → CheckedEvents n m (pairs (take t x) (take t y)) t c i held → CheckedList n m t p a b x y (record { code = c; place = i; «open» = sum (bits held) })
+      list-passed {held = held} k = record { refusal = k .refusal ∙ events-fault; last = λ z. (held, k .last z, refl) }
 
 -- ---- events
 abbrev choose : Bool → ℕ → ℕ → ℕ
@@ -136,24 +178,33 @@ pub record Passing (n m t : ℕ) (x y : List ℕ) (held : List ℕ) (i : ℕ) : 
   pub held-open : isOpen held ≡ afterAll (take i (pairs (take t x) (take t y))) atStart
   pub fine : (u : ℕ) → u < i → not (eqb (faultOf n m (pairs (take t x) (take t y)) u) 0) ≡ false
 
-module _ {n m t : ℕ} {x y held : List ℕ} {i : ℕ} (p : Passing n m t x y held i) (l : i < t) (lx : t ≤ length x) (ly : t ≤ length y) (few : n ≤ 4096) (much : m ≤ 8192) (r : ℕ)
+module _ {n m t : ℕ} {x y held : List ℕ} {i : ℕ} (p : Passing n m t x y held i) (l : i < t) (ready : (t ≤ length x) × (t ≤ length y) × (m ≤ 8192) × (n ≤ 4096)) (r : ℕ)
     (e : r ≡ eventFault n m (isOpen held) (getD x i 0, getD y i 0)) where
   abbrev evs : List Event
   evs = pairs (take t x) (take t y)
+
+  abbrev lx : t ≤ length x
+  lx = ready .0
+
+  abbrev ly : t ≤ length y
+  ly = ready .1
 
   fault-is : r ≡ faultOf n m evs i
   unfolding faultOf
   fault-is = e ∙ ap₂ (λ (o : ℕ → Bool) (v : Event). eventFault n m o v) (p .held-open) (sym (getD-pairs t x y i lx ly l))
 
-  pub event-refused : 0 < r → (r, i) ≡ eventsFault n m evs t
+  pub event-refused : 0 < r → CheckedEvents n m evs t r i held
   unfolding eventsFault
   event-refused h =
       let s : i ≡ seek (λ i. not (eqb (faultOf n m evs i) 0)) 0 t = sym (seek-at (λ i. not (eqb (faultOf n m evs i) 0)) 0 t i (omega arith) (omega arith) (ap not (ne-eqb (faultOf n m evs i) 0 (λ z. omega (arith, fault-is)))) (λ u _ k. p .fine u k)) in
-      ap (λ (k : ℕ). (k, i)) fault-is
-      ∙ sym (ap (λ (k : ℕ). cond (ltb k t) (faultOf n m evs k, k) (0, 0)) (sym s) ∙ ap (λ (c : Bool). cond c (faultOf n m evs i, i) (0, 0)) (lt-ltb i t l))
+      record {
+        refusal = ap (λ (k : ℕ). (k, i)) fault-is
+            ∙ sym (ap (λ (k : ℕ). cond (ltb k t) (faultOf n m evs k, k) (0, 0)) (sym s) ∙ ap (λ (c : Bool). cond c (faultOf n m evs i, i) (0, 0)) (lt-ltb i t l));
+        last = λ z. absurd (omega arith);
+      }
 
-  pub event-names : r ≡ 0 → (eqb (getD x i 0) 65535 || eqb (getD x i 0) 65534) ≡ true → getD y i 0 < 8192
-  event-names z t = let f = fault-fine n m (isOpen held) (getD x i 0, getD y i 0) few (sym e ∙ z) .segment t in omega arith
+  pub event-fits : r ≡ 0 → EventFits n held (getD x i 0) (getD y i 0)
+  event-fits z = record { words = p .words; m = m; few = ready .3; much = ready .2; fine = sym e ∙ z }
 
   pub event-passes : r ≡ 0 → (next : List ℕ) → length next ≡ 128 → isOpen next ≡ after (getD x i 0, getD y i 0) (isOpen held) → Passing n m t x y next (i + 1)
   event-passes z next k q =
@@ -166,19 +217,80 @@ module _ {n m t : ℕ} {x y held : List ℕ} {i : ℕ} (p : Passing n m t x y he
         fine = below-next (λ u. not (eqb (faultOf n m evs u) 0)) i (p .fine) (ap not (eq-eqb (faultOf n m evs i) 0 (sym fault-is ∙ z)));
       }
 
-  -- an event that names no segment leaves the set as it is
-  pub event-stands : r ≡ 0 → (eqb (getD x i 0) 65535 || eqb (getD x i 0) 65534) ≡ false → Passing n m t x y held (i + 1)
-  event-stands z q = event-passes z held (p .words) (event-stays held (getD x i 0) (getD y i 0) q)
-
-pub passing-same : {n m t : ℕ} {x y held next : List ℕ} {i : ℕ} → next ≡ held → Passing n m t x y held i → Passing n m t x y next i
-passing-same {n} {m} {t} {x} {y} {held} {next} {i} e p = subst (λ (h : List ℕ). Passing n m t x y h i) (sym e) p
-
-pub events-pass : {n m t : ℕ} {x y held : List ℕ} {i : ℕ} → Passing n m t x y held i → i ≡ t → (0, 0) ≡ eventsFault n m (pairs (take t x) (take t y)) t
+pub events-pass : {n m t : ℕ} {x y held : List ℕ} {i : ℕ} → Passing n m t x y held i → i ≡ t → t ≤ length x → t ≤ length y → CheckedEvents n m (pairs (take t x) (take t y)) t 0 0 held
 unfolding eventsFault
-events-pass {n} {m} {t} {x} {y} {held} {i} p q =
+events-pass {n} {m} {t} {x} {y} {held} {i} p q lx ly =
     let evs = pairs (take t x) (take t y) in
     let s : i ≡ seek (λ i. not (eqb (faultOf n m evs i) 0)) 0 t = q ∙ sym (seek-end (λ i. not (eqb (faultOf n m evs i) 0)) 0 t (λ u _ k. p .fine u (omega arith)) ∙ omega arith) in
-    sym (ap (λ (k : ℕ). cond (ltb k t) (faultOf n m evs k, k) (0, 0)) (sym s) ∙ ap (λ (c : Bool). cond c (faultOf n m evs i, i) (0, 0)) (le-ltb i t (omega arith)))
+    record {
+      refusal = sym (ap (λ (k : ℕ). cond (ltb k t) (faultOf n m evs k, k) (0, 0)) (sym s) ∙ ap (λ (c : Bool). cond c (faultOf n m evs i, i) (0, 0)) (le-ltb i t (omega arith)));
+      last = λ _. p .held-open ∙ ap (λ (k : List Event). afterAll k atStart) (take-all i evs (omega (arith, length-pairs t x y lx ly)));
+    }
 
 pub passing-none : (n m t : ℕ) (x y held : List ℕ) → length held ≡ 128 → isOpen held ≡ atStart → Passing n m t x y held 0
 passing-none n m t x y held l o = record { low = omega arith; words = l; held-open = o; fine = λ u h. absurd (omega arith) }
+
+-- ---- the set after an event without a fault, by its kind
+rank : Kind → ℕ
+rank k = elim k [ Query ↦ 0 | Opens ↦ 1 | Closes ↦ 2 | Nothing ↦ 3 ]
+
+module _ (n x : ℕ) where
+  ranked : (k : Kind) → kindOf n x ≡ k → rank (cond (ltb x n) Query (cond (eqb x 65535) Opens (cond (eqb x 65534) Closes Nothing))) ≡ rank k
+  ranked k e = ap rank e
+
+  kind-opens : kindOf n x ≡ Opens → eqb x 65535 ≡ true
+  unfolding rank
+  kind-opens e = go (ltb x n) (eqb x 65535) (eqb x 65534) (ranked Opens e)
+    where
+      go : (q a c : Bool) → rank (cond q Query (cond a Opens (cond c Closes Nothing))) ≡ 1 → a ≡ true
+      go true a c h = absurd (omega arith)
+      go false true c h = refl
+      go false false true h = absurd (omega arith)
+      go false false false h = absurd (omega arith)
+
+  kind-closes : kindOf n x ≡ Closes → (eqb x 65535 ≡ false) × (eqb x 65534 ≡ true)
+  unfolding rank
+  kind-closes e = go (ltb x n) (eqb x 65535) (eqb x 65534) (ranked Closes e)
+    where
+      go : (q a c : Bool) → rank (cond q Query (cond a Opens (cond c Closes Nothing))) ≡ 2 → (a ≡ false) × (c ≡ true)
+      go true a c h = absurd (omega arith)
+      go false true c h = absurd (omega arith)
+      go false false true h = (refl, refl)
+      go false false false h = absurd (omega arith)
+
+  kind-query : kindOf n x ≡ Query → x < n
+  unfolding rank
+  kind-query e = ltb-true x n (go (ltb x n) (eqb x 65535) (eqb x 65534) (ranked Query e))
+    where
+      go : (q a c : Bool) → rank (cond q Query (cond a Opens (cond c Closes Nothing))) ≡ 0 → q ≡ true
+      go true a c h = refl
+      go false true c h = absurd (omega arith)
+      go false false true h = absurd (omega arith)
+      go false false false h = absurd (omega arith)
+
+module _ {n : ℕ} {held : List ℕ} {x y : ℕ} (q : EventFits n held x y) where
+  abbrev After : List ℕ → Type 0
+  After next = (length next ≡ 128) × (isOpen next ≡ after (x, y) (isOpen held))
+
+  named-fits : (eqb x 65535 || eqb x 65534) ≡ true → y < 8192
+  named-fits t = let f = fault-fine n (q .m) (isOpen held) (x, y) (q .few) (q .fine) .segment t in omega (arith, q .much)
+
+  pub set-opened : kindOf n x ≡ Opens → (next : List ℕ) → bits next ≡ set (bits held) y 1 → After next
+  set-opened k next e =
+      let o = kind-opens n x k in
+      let t : (eqb x 65535 || eqb x 65534) ≡ true = ap (λ (b : Bool). b || eqb x 65534) o in
+      (stored-length held next y 1 (q .words) e, event-stored held next x y 1 (q .words) t (named-fits t) (sym o) e)
+
+  pub set-closed : kindOf n x ≡ Closes → (next : List ℕ) → bits next ≡ set (bits held) y 0 → After next
+  set-closed k next e =
+      let (o, c) = kind-closes n x k in
+      let t : (eqb x 65535 || eqb x 65534) ≡ true = ap₂ _||_ o c in
+      (stored-length held next y 0 (q .words) e, event-stored held next x y 0 (q .words) t (named-fits t) (sym o) e)
+
+  pub set-asked : kindOf n x ≡ Query → After held
+  set-asked k =
+      let u = kind-query n x k in
+      (q .words, event-stays held x y (ap₂ _||_ (ne-eqb x 65535 (λ z. omega (arith, q .few))) (ne-eqb x 65534 (λ z. omega (arith, q .few)))))
+
+  pub set-nothing : kindOf n x ≡ Nothing → After held
+  set-nothing k = absurd (omega (arith, q .fine, nothing-bad n (q .m) (isOpen held) x y k))

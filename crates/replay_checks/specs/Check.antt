@@ -1,19 +1,20 @@
 -- The parts of a check. Assumes nothing: these are definitions.
-use Prim.Native.Nat.{ℕ}
+use Prim.Native.Nat.{_<_, _≤_, ℕ}
 use mathlib.Core.Bool.{cond, not}
-use mathlib.Core.List.{List}
+use mathlib.Core.List.{List, [], _++_}
+use mathlib.Core.Path.{_≡_}
 use lib.Dec.{eqb, ltb}
-use lib.ListN.{getD, take}
-use Rattle.call_sizes.specs.Refusal.{Refusal, seek}
+use lib.ListN.{getD, length, take}
+use Rattle.call_open_set.specs.OpenSet.{bits, isOpen}
+use Rattle.call_sizes.specs.Refusal.{Refusal, firstFault, seek}
+use Rattle.theory_graph.specs.Lists.{pairs, sum}
+use Rattle.theory_timeline.specs.Call.{lent}
 use Rattle.theory_timeline.specs.Events.{Event, afterAll}
-use Rattle.theory_timeline.specs.Replay.{eventFault}
+use Rattle.theory_timeline.specs.Replay.{Faultless, Lent, eventFault, fault, given, listFaults, openAtEnd, shareFaults}
 use Rattle.theory_timeline.specs.Windows.{atStart}
-use Rattle.call_sizes.specs.declared.Fault.{Fault}
+use Rattle.replay_checks.specs.declared.Checked.{Checked}
 
--- a fault as a refusal: its number and its place
-abbrev pub refusal : Fault → Refusal
-refusal f = (f .code, f .place)
-
+-- ---- events
 -- the fault of event i of a list, over n junctions and m segments
 unfoldable pub faultOf : ℕ → ℕ → List Event → ℕ → ℕ
 faultOf n m evs i = eventFault n m (afterAll (take i evs) atStart) (getD evs i (0, 0))
@@ -23,3 +24,41 @@ unfoldable pub eventsFault : ℕ → ℕ → List Event → ℕ → Refusal
 eventsFault n m evs t =
     let i : ℕ = seek (λ i. not (eqb (faultOf n m evs i) 0)) 0 t in
     cond (ltb i t) (faultOf n m evs i, i) (0, 0)
+
+-- an event without a fault, over at most 8,192 segments, where those of a set are open
+pub record EventFits (n : ℕ) (held : List ℕ) (x y : ℕ) : Type 0 where
+  pub words : length held ≡ 128
+  pub m : ℕ
+  pub few : n ≤ 4096
+  pub much : m ≤ 8192
+  pub fine : eventFault n m (isOpen held) (x, y) ≡ 0
+
+-- the first fault, and where there is none the set that is open at the end
+pub record CheckedEvents (n m : ℕ) (evs : List Event) (t code place : ℕ) (held : List ℕ) : Type 0 where
+  pub refusal : (code, place) ≡ eventsFault n m evs t
+  pub last : code ≡ 0 → isOpen held ≡ afterAll evs atStart
+
+-- ---- a whole input
+-- what is known where neither a size nor a length is refused
+pub record CanCheckList (n m t : ℕ) (a b x y : List ℕ) : Type 0 where
+  pub n-fits : n ≤ 4096
+  pub m-fits : m ≤ 8192
+  pub t-fits : t ≤ 4096
+  pub a-long : m ≤ length a
+  pub b-long : m ≤ length b
+  pub x-long : t ≤ length x
+  pub y-long : t ≤ length y
+
+-- the tables that are read, which answers and work play no part in
+abbrev pub tablesOf : ℕ → ℕ → ℕ → List ℕ → List ℕ → List ℕ → List ℕ → Lent
+tablesOf n m t a b x y = lent n m t a b x y [] []
+
+-- the first fault of the share, the ends and the events; where there is none, the ones of the set that is open at the end
+pub record CheckedList (n m t p : ℕ) (a b x y : List ℕ) (r : Checked) : Type 0 where
+  pub refusal : (r .code, r .place) ≡ firstFault (shareFaults p ++ listFaults (tablesOf n m t a b x y))
+  pub last : r .code ≡ 0 → (held : List ℕ) × (isOpen held ≡ afterAll (pairs (take t x) (take t y)) atStart) × (r .«open» ≡ sum (bits held))
+
+-- the first fault; where there is none, how many segments are open at the end
+pub record CheckedTables (l : Lent) (p : ℕ) (r : Checked) : Type 0 where
+  pub refusal : (r .code, r .place) ≡ fault l p
+  pub open-last : Faultless l p → r .«open» ≡ openAtEnd (given l)

@@ -1,13 +1,43 @@
 // The checks of a replay, in document 01's order. They read the tables only.
 use call_sizes::Fault;
+use theory_timeline::Kind;
 ghost use mathlib.Core.Path.{_≡_};
-ghost use Prim.Native.Nat.{_<_, _≤_};
+ghost use Prim.Native.Nat.{_≤_};
 ghost use lib.ListN.{length, take};
 ghost use Rattle.theory_graph.specs.Lists.{pairs};
 ghost use Rattle.call_open_set.specs.OpenSet.{isOpen};
-ghost use Rattle.theory_timeline.specs.Replay.{eventFault, fault};
+ghost use Rattle.call_sizes.specs.Refusal.{firstFault};
 ghost use Rattle.theory_timeline.specs.Call.{lent};
-ghost use Rattle.replay_checks.specs.Check.{eventsFault, refusal};
+ghost use Rattle.theory_timeline.specs.Events.{after};
+ghost use Rattle.theory_timeline.specs.Replay.{eventFault, required, shortTables};
+ghost use Rattle.replay_checks.specs.Check.{CanCheckList, CheckedEvents, CheckedList, CheckedTables, EventFits};
+
+// Internal: the first fault of a replay's input, its number and its place; where there is none, 0, 0 and how many segments are open at the end.
+pub struct Checked {
+    pub code: usize,
+    pub place: usize,
+    pub open: usize,
+}
+
+// The first fault of the events, or 0 and 0; the segments that are open after those before it.
+pub(crate) struct Held {
+    pub code: usize,
+    pub place: usize,
+    pub held: [u64; 128],
+}
+
+// Whether segment s is in the set. Only read, so that no event copies the set for it.
+fn contains(words: &[u64; 128], s: usize) -> bool
+    requires { ⌜ length (now words) ≡ 128 ⌝ }
+    ensures { λ r. ⌜ r ≡ isOpen (now (words .entry)) s ⌝ }
+{
+    if s >= 8192 {
+        return false;
+    }
+    let i = s / 64;
+    let b = s % 64;
+    (words[i] >> b) % 2 == 1
+}
 
 // The fault of one event, where the segments of `held` are open before it: 0, 5, 6 or 7.
 fn event_fault(n: usize, m: usize, held: &[u64; 128], x: u16, y: usize) -> usize
@@ -16,42 +46,64 @@ fn event_fault(n: usize, m: usize, held: &[u64; 128], x: u16, y: usize) -> usize
 {
     let kind = theory_timeline::kind_of(x, n);
     match kind {
-        theory_timeline::Kind::Query => {
+        Kind::Query => {
             if y < n {
                 return 0;
             }
             return 5;
         }
-        theory_timeline::Kind::Opens => {
+        Kind::Opens => {
             if m <= y {
                 return 5;
             }
-            let open = replay_segments::contains(held, y);
+            let open = contains(held, y);
             if open {
                 return 6;
             }
             return 0;
         }
-        theory_timeline::Kind::Closes => {
+        Kind::Closes => {
             if m <= y {
                 return 5;
             }
-            let open = replay_segments::contains(held, y);
+            let open = contains(held, y);
             if open {
                 return 0;
             }
             return 7;
         }
-        theory_timeline::Kind::Nothing => {
+        Kind::Nothing => {
             return 5;
         }
     }
 }
 
+// The open segments after an event without a fault.
+fn after_event(held: [u64; 128], n: usize, x: u16, y: usize) -> [u64; 128]
+    requires { ⌜ EventFits n held x y ⌝ }
+    ensures { λ r. ⌜ (length r ≡ 128) × (isOpen r ≡ after (x, y) (isOpen held)) ⌝ }
+{
+    let kind = theory_timeline::kind_of(x, n);
+    match kind {
+        Kind::Query => {
+            return held;
+        }
+        Kind::Opens => {
+            return call_open_set::opened(held, y);
+        }
+        Kind::Closes => {
+            return call_open_set::closed(held, y);
+        }
+        Kind::Nothing => {
+            return held;
+        }
+    }
+}
+
 // The first fault of the t events: the open set is handed on from event to event.
-fn bad_event(n: usize, m: usize, t: usize, x: &[u16], y: &[u16]) -> Fault
+fn check_events(n: usize, m: usize, t: usize, x: &[u16], y: &[u16]) -> Held
     requires { ⌜ (t ≤ length (now x)) × (t ≤ length (now y)) × (m ≤ 8192) × (n ≤ 4096) ⌝ }
-    ensures { λ r. ⌜ refusal r ≡ eventsFault n m (pairs (take t (now (x .entry))) (take t (now (y .entry)))) t ⌝ }
+    ensures { λ r. ⌜ CheckedEvents n m (pairs (take t (now (x .entry))) (take t (now (y .entry)))) t (r .code) (r .place) (r .held) ⌝ }
 {
     let mut held = [0u64; 128];
     let mut i: usize = 0;
@@ -61,26 +113,35 @@ fn bad_event(n: usize, m: usize, t: usize, x: &[u16], y: &[u16]) -> Fault
         let s = y[i] as usize;
         let code = event_fault(n, m, &held, kind, s);
         if code > 0 {
-            return Fault {
+            return Held {
                 code: code,
                 place: i,
+                held: held,
             };
         }
-        let names = replay_segments::names_segment(kind);
-        if names {
-            held = replay_segments::after_event(held, kind, s);
-        }
+        held = after_event(held, n, kind, s);
         i += 1;
     }
-    Fault { code: 0, place: 0 }
+    Held {
+        code: 0,
+        place: 0,
+        held: held,
+    }
 }
 
-// The faults behind those of the sizes.
-fn check_tables(
+// Internal: the required length of the work table.
+pub fn required(t: usize, n: usize) -> usize
+    requires { ⌜ (t ≤ 4096) × (n ≤ 4096) ⌝ }
+    ensures { λ r. ⌜ r ≡ required t n ⌝ }
+{
+    256 * t + 32 * n + 2048
+}
+
+// Refusal 2: a table shorter than its least length.
+fn length_fault(
     n: usize,
     m: usize,
     t: usize,
-    p: usize,
     a: &[u16],
     b: &[u16],
     x: &[u16],
@@ -89,37 +150,61 @@ fn check_tables(
     work: &[u32],
 ) -> Fault
     requires { ⌜ (n ≤ 4096) × (m ≤ 8192) × (t ≤ 4096) ⌝ }
-    ensures { λ r. ⌜ refusal r ≡ fault (lent n m t (now (a .entry)) (now (b .entry)) (now (x .entry)) (now (y .entry)) (now (answers .entry)) (now (work .entry))) p ⌝ }
+    ensures { λ r. ⌜ (r .code, r .place) ≡ firstFault (shortTables (lent n m t (now (a .entry)) (now (b .entry)) (now (x .entry)) (now (y .entry))
+        (now (answers .entry)) (now (work .entry)))) ⌝ }
 {
-    if a.len() < m {
-        return Fault { code: 2, place: 0 };
-    }
-    if b.len() < m {
-        return Fault { code: 2, place: 0 };
-    }
-    if x.len() < t {
-        return Fault { code: 2, place: 0 };
-    }
-    if y.len() < t {
-        return Fault { code: 2, place: 0 };
-    }
-    if answers.len() < t {
-        return Fault { code: 2, place: 0 };
-    }
-    if work.len() < 256 * t + 32 * n + 2048 {
-        return Fault { code: 2, place: 0 };
-    }
+    let tables = [
+        a.len(),
+        m,
+        b.len(),
+        m,
+        x.len(),
+        t,
+        y.len(),
+        t,
+        answers.len(),
+        t,
+        work.len(),
+        required(t, n),
+    ];
+    call_sizes::length_fault(&tables)
+}
+
+// The faults behind those of the sizes and of the lengths.
+fn check_list(n: usize, m: usize, t: usize, p: usize, a: &[u16], b: &[u16], x: &[u16], y: &[u16]) -> Checked
+    requires { ⌜ CanCheckList n m t (now a) (now b) (now x) (now y) ⌝ }
+    ensures { λ r. ⌜ CheckedList n m t p (now (a .entry)) (now (b .entry)) (now (x .entry)) (now (y .entry)) r ⌝ }
+{
     if p < 4 {
-        return Fault { code: 3, place: 0 };
+        return Checked {
+            code: 3,
+            place: 0,
+            open: 0,
+        };
     }
     if 12 < p {
-        return Fault { code: 3, place: 0 };
+        return Checked {
+            code: 3,
+            place: 0,
+            open: 0,
+        };
     }
     let s = call_sizes::first_bad_ends(n, m, a, b);
     if s < m {
-        return Fault { code: 4, place: s };
+        return Checked {
+            code: 4,
+            place: s,
+            open: 0,
+        };
     }
-    bad_event(n, m, t, x, y)
+    let e = check_events(n, m, t, x, y);
+    let held = e.held;
+    let open = call_open_set::count(held);
+    Checked {
+        code: e.code,
+        place: e.place,
+        open: open,
+    }
 }
 
 // Internal: the first fault of all.
@@ -134,12 +219,24 @@ pub fn check(
     y: &[u16],
     answers: &[u8],
     work: &[u32],
-) -> Fault
-    ensures { λ r. ⌜ refusal r ≡ fault (lent n m t (now (a .entry)) (now (b .entry)) (now (x .entry)) (now (y .entry)) (now (answers .entry)) (now (work .entry))) p ⌝ }
+) -> Checked
+    ensures { λ r. ⌜ CheckedTables (lent n m t (now (a .entry)) (now (b .entry)) (now (x .entry)) (now (y .entry)) (now (answers .entry)) (now (work .entry))) p r ⌝ }
 {
     let f = call_sizes::size_fault(n, m, t, 0);
     if f.code > 0 {
-        return f;
+        return Checked {
+            code: f.code,
+            place: f.place,
+            open: 0,
+        };
     }
-    check_tables(n, m, t, p, a, b, x, y, answers, work)
+    let s = length_fault(n, m, t, a, b, x, y, answers, work);
+    if s.code > 0 {
+        return Checked {
+            code: s.code,
+            place: s.place,
+            open: 0,
+        };
+    }
+    check_list(n, m, t, p, a, b, x, y)
 }

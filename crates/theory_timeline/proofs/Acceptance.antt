@@ -15,12 +15,12 @@ use Rattle.theory_graph.proofs.Ends.{endsIn-all, endsIn-at}
 use Rattle.theory_graph.specs.Graph.{Edge, NodeSet}
 use Rattle.theory_graph.specs.Lists.{pairs}
 use Rattle.theory_graph.specs.SmallGraph.{endsIn}
-use Rattle.call_sizes.proofs.RefusalLaws.{Numbered, Silent, fault-silent, numbered-append, seek-found, seek-none, silent-left, silent-right, skip-silent}
+use Rattle.call_sizes.proofs.RefusalLaws.{Numbered, Silent, fault-silent, numbered-append, seek-found, seek-none, short-long, short-numbered, silent-left, silent-right, sizes-numbered, skip-silent}
 use Rattle.call_sizes.specs.Refusal.{Refusal, Row, firstFault, badEnds}
 use Rattle.call_sizes.specs.Sizes.{sizeFaults}
 use Rattle.theory_timeline.specs.DemandThree.{Allowed}
 use Rattle.theory_timeline.specs.Events.{Event, SegmentSet, activeOf, asks, closes, ends, opens, pick}
-use Rattle.theory_timeline.specs.Replay.{Lent, eventFault, fault, faultAt, faults, given, listFaults, required, shareFaults, shortTables}
+use Rattle.theory_timeline.specs.Replay.{Faultless, Lent, eventFault, fault, faultAt, faults, given, listFaults, required, shareFaults, shortTables, tableLengths}
 use Rattle.theory_timeline.specs.Steps.{Sound}
 use Rattle.theory_timeline.specs.Windows.{Timeline, Window, active, during, event, openBefore, size}
 use Rattle.theory_timeline.specs.declared.Kind.{Kind}
@@ -200,17 +200,17 @@ list-numbered l = (λ h. omega arith, (λ h. positive (seek-found (λ i. not (eq
 faults-numbered : (l : Lent) (p : ℕ) → Numbered (faults l p)
 unfolding faults
 faults-numbered l p =
-    numbered-append (sizeFaults (l .n) (l .m) (l .t) 0) (shortTables l ++ shareFaults p ++ listFaults l) (λ h. omega arith, (λ h. omega arith, (λ h. omega arith, (λ h. omega arith, tt))))
-    (numbered-append (shortTables l) (shareFaults p ++ listFaults l) (λ h. omega arith, (λ h. omega arith, (λ h. omega arith, (λ h. omega arith, (λ h. omega arith, (λ h. omega arith, tt))))))
+    numbered-append (sizeFaults (l .n) (l .m) (l .t) 0) (shortTables l ++ shareFaults p ++ listFaults l) (sizes-numbered (l .n) (l .m) (l .t) 0)
+    (numbered-append (shortTables l) (shareFaults p ++ listFaults l) (short-numbered (tableLengths l))
     (numbered-append (shareFaults p) (listFaults l) (λ h. omega arith, (λ h. omega arith, tt)) (list-numbered l)))
 
-pub accepted-from : (l : Lent) (p : ℕ) → fault l p .0 ≡ 0 → Accepted l p
+pub accepted-from : (l : Lent) (p : ℕ) → Faultless l p → Accepted l p
 unfolding fault faults listFaults
 accepted-from l p h =
     let s = fault-silent (faults l p) (faults-numbered l p) h in
     let a = silent-left (sizeFaults (l .n) (l .m) (l .t) 0) (shortTables l ++ shareFaults p ++ listFaults l) s in
     let r = silent-right (sizeFaults (l .n) (l .m) (l .t) 0) (shortTables l ++ shareFaults p ++ listFaults l) s in
-    let b = silent-left (shortTables l) (shareFaults p ++ listFaults l) r in
+    let (la, (lb, (lx, (ly, (lr, (lw, _)))))) = short-long (tableLengths l) .0 (silent-left (shortTables l) (shareFaults p ++ listFaults l) r) in
     let q = silent-right (shortTables l) (shareFaults p ++ listFaults l) r in
     let c = silent-left (shareFaults p) (listFaults l) q in
     let e = silent-right (shareFaults p) (listFaults l) q in
@@ -218,12 +218,12 @@ accepted-from l p h =
       n-fits = ltb-false 4096 (l .n) (a .0);
       m-fits = ltb-false 8192 (l .m) (a .1 .0);
       t-fits = ltb-false 4096 (l .t) (a .1 .1 .0);
-      a-long = ltb-false (length (l .a)) (l .m) (b .0);
-      b-long = ltb-false (length (l .b)) (l .m) (b .1 .0);
-      x-long = ltb-false (length (l .x)) (l .t) (b .1 .1 .0);
-      y-long = ltb-false (length (l .y)) (l .t) (b .1 .1 .1 .0);
-      answers-long = ltb-false (length (l .answers)) (l .t) (b .1 .1 .1 .1 .0);
-      work-long = ltb-false (length (l .work)) (required (l .t) (l .n)) (b .1 .1 .1 .1 .1 .0);
+      a-long = la;
+      b-long = lb;
+      x-long = lx;
+      y-long = ly;
+      answers-long = lr;
+      work-long = lw;
       share = (ltb-false p 4 (c .0), ltb-false 12 p (c .1 .0));
       ends-fit = λ s k. seek-none (badEnds (l .n) (l .a) (l .b)) (l .m) s (e .0) k;
       events-fine = λ i k. eqb-true (faultAt l i) 0 (not-false (eqb (faultAt l i) 0) (seek-none (λ i. not (eqb (faultAt l i) 0)) (l .t) i (e .1 .0) k));
@@ -261,6 +261,15 @@ module _ (l : Lent) (p : ℕ) (a : Accepted l p) where
   unfolding given
   accepted-good = fine-good (given l) accepted-ends λ i h.
       subst (λ (m : ℕ). Fine (l .n) m (openBefore (given l) i) (event (given l) i)) (sym segments-length) (accepted-fine i (omega (arith, events-length)))
+
+  pub accepted-sound : Sound (given l)
+  unfolding given faultAt
+  accepted-sound = record {
+    few = a .n-fits;
+    segments-few = omega (arith, segments-length, a .m-fits);
+    ends = accepted-ends;
+    events = λ i k. ap (λ (m : ℕ). eventFault (l .n) m (openBefore (given l) i) (event (given l) i)) segments-length ∙ a .events-fine i (omega (arith, events-length));
+  }
 
 -- ---- with another allowed share nothing changes
 share-silent : (p : ℕ) → Allowed p → Silent (shareFaults p)

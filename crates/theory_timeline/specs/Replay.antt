@@ -3,11 +3,12 @@
 use Prim.Native.Nat.{_*_, _+_, ℕ}
 use mathlib.Core.Bool.{Bool, cond, false, not, true}
 use mathlib.Core.List.{List, [], _++_, _∷_, map}
+use mathlib.Core.Path.{_≡_}
 use lib.Dec.{eqb, ltb}
 use lib.ListN.{length, replicate, take}
 use Rattle.theory_graph.specs.Graph.{answer}
 use Rattle.theory_graph.specs.Lists.{filter, over, pairs, range}
-use Rattle.call_sizes.specs.Refusal.{Refusal, Row, firstFault, row, seek, badEnds}
+use Rattle.call_sizes.specs.Refusal.{Refusal, Row, firstFault, row, seek, shortRows, badEnds}
 use Rattle.call_sizes.specs.Sizes.{sizeFaults}
 use Rattle.theory_timeline.specs.Events.{Event, SegmentSet, asks, kindOf}
 use Rattle.theory_timeline.specs.Windows.{Timeline, edgesOf, event, kept, openBefore, size}
@@ -66,16 +67,19 @@ eventFault n m o e = elim (kindOf n (e .0)) [
 unfoldable pub faultAt : Lent → ℕ → ℕ
 faultAt l i = eventFault (l .n) (l .m) (openBefore (given l) i) (event (given l) i)
 
--- refusal 2: a table is shorter than its least length
-abbrev pub shortTables : Lent → List Row
-shortTables l =
-    row (ltb (length (l .a)) (l .m)) 2 0
-    ∷ row (ltb (length (l .b)) (l .m)) 2 0
-    ∷ row (ltb (length (l .x)) (l .t)) 2 0
-    ∷ row (ltb (length (l .y)) (l .t)) 2 0
-    ∷ row (ltb (length (l .answers)) (l .t)) 2 0
-    ∷ row (ltb (length (l .work)) (required (l .t) (l .n))) 2 0
+-- refusal 2: the length of each table, and its least length
+abbrev pub tableLengths : Lent → List (ℕ × ℕ)
+tableLengths l =
+    (length (l .a), l .m)
+    ∷ (length (l .b), l .m)
+    ∷ (length (l .x), l .t)
+    ∷ (length (l .y), l .t)
+    ∷ (length (l .answers), l .t)
+    ∷ (length (l .work), required (l .t) (l .n))
     ∷ []
+
+abbrev pub shortTables : Lent → List Row
+shortTables l = shortRows (tableLengths l)
 
 -- refusal 3: the share is below 4 or above 12
 abbrev pub shareFaults : ℕ → List Row
@@ -93,6 +97,10 @@ faults l p = sizeFaults (l .n) (l .m) (l .t) 0 ++ shortTables l ++ shareFaults p
 
 unfoldable pub fault : Lent → ℕ → Refusal
 fault l p = firstFault (faults l p)
+
+-- nothing is wrong with what is lent
+abbrev pub Faultless : Lent → ℕ → Type 0
+Faultless l p = fault l p .0 ≡ 0
 
 -- ---- what is returned, and what the tables hold afterwards
 pub record Outcome : Type 0 where

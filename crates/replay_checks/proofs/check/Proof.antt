@@ -1,22 +1,48 @@
--- The sizes first, then the rest.
+-- The sizes, the lengths, the list.
 use native.Mathlib.Omega.{arith}
-use borrow.Author.Needs.{needs}
-use Rattle.replay_checks.proofs.CheckLaws.{size-refused, size-within}
-use Rattle.replay_checks.proofs.check.Statement.{statement}
 use Rattle.theory_timeline.specs.Call.{lent}
+use Rattle.replay_checks.proofs.CheckLaws.{can-check, length-refused, list-checked, refused-checked, size-refused, within}
+use borrow.Author.Needs.{needs}
+use Rattle.replay_checks.proofs.check.Statement.{statement}
 use Rattle.replay_checks.proofs.check.Tie as tie
 
-size-fault-requires : tie.Need-size-fault-requires
-size-fault-requires c κs = search needs
-
 returns : tie.Need-returns
-returns c = size-refused (lent (c .before .before .before .before .before .before .before .before .before .args .n) (c .before .before .before .before .before .before .before .before .before .args .m) (c .before .before .before .before .before .before .before .before .before .args .t) (c .before .before .before .before .before .before .before .before .before .args .a .now) (c .before .before .before .before .before .before .before .before .before .args .b .now) (c .before .before .before .before .before .before .before .before .before .args .x .now) (c .before .before .before .before .before .before .before .before .before .args .y .now) (c .before .before .before .before .before .before .before .before .before .args .answers .now) (c .before .before .before .before .before .before .before .before .before .args .work .now)) (c .before .before .before .before .before .before .before .before .before .args .p) _ (c .before .before .size-fault .ensures) (c .if1 .taken)
+returns c =
+    let a = c .before .before .before .before .before .before .before .before .before .args in
+    let l = lent (a .n) (a .m) (a .t) (a .a .now) (a .b .now) (a .x .now) (a .y .now) (a .answers .now) (a .work .now) in
+    refused-checked l (a .p) _ _ _ (size-refused l (a .p) _ (c .before .before .size-fault .ensures) (omega arith)) (omega arith)
 
-check-tables-requires : tie.Need-check-tables-requires
-check-tables-requires c κs = size-within (c .before .before .before .before .before .before .before .before .before .args .n) (c .before .before .before .before .before .before .before .before .before .args .m) (c .before .before .before .before .before .before .before .before .before .args .t) _ (c .before .before .size-fault .ensures) (omega arith)
+length-fault-requires : tie.Need-length-fault-requires
+length-fault-requires c κs =
+    let a = c .before .before .before .before .before .before .before .before .before .args in
+    let l = lent (a .n) (a .m) (a .t) (a .a .now) (a .b .now) (a .x .now) (a .y .now) (a .answers .now) (a .work .now) in
+    within l (a .p) _ (c .before .before .size-fault .ensures) (omega arith)
 
 returns-2 : tie.Need-returns-2
-returns-2 c = c .check-tables .ensures
+returns-2 c =
+    let a = c .before .before .before .before .before .before .before .before .before .before .before .before .args in
+    let l = lent (a .n) (a .m) (a .t) (a .a .now) (a .b .now) (a .x .now) (a .y .now) (a .answers .now) (a .work .now) in
+    refused-checked l (a .p) _ _ _ (length-refused l (a .p) _ (c .before .before .before .before .before .size-fault .ensures) (omega arith) _ (c .before .before .length-fault .ensures) (omega arith)) (omega arith)
+
+check-list-requires : tie.Need-check-list-requires
+check-list-requires c κs =
+    let a = c .before .before .before .before .before .before .before .before .before .before .before .before .args in
+    let l = lent (a .n) (a .m) (a .t) (a .a .now) (a .b .now) (a .x .now) (a .y .now) (a .answers .now) (a .work .now) in
+    can-check l (a .p) _ (c .before .before .before .before .before .size-fault .ensures) (omega arith) _ (c .before .before .length-fault .ensures) (omega arith)
+
+returns-3 : tie.Need-returns-3
+returns-3 c =
+    let a = c .before .before .before .before .before .before .before .before .before .before .before .before .before .args in
+    let l = lent (a .n) (a .m) (a .t) (a .a .now) (a .b .now) (a .x .now) (a .y .now) (a .answers .now) (a .work .now) in
+    list-checked l (a .p) _ (c .before .before .before .before .before .before .size-fault .ensures) (omega arith) _ (c .before .before .before .length-fault .ensures) (omega arith) (c .check-list .ensures)
 
 pub check-spec : {M : Type 1} → statement M
-check-spec = tie.close (tie.spec size-fault-requires returns check-tables-requires returns-2)
+check-spec =
+    tie.close
+    (tie.spec
+    (λ c κs. search needs)
+    returns
+    length-fault-requires
+    returns-2
+    check-list-requires
+    returns-3)

@@ -1,8 +1,8 @@
 -- A segment is in the set where its bit is 1.
 use borrow.Author.Needs.{needs}
 use Rattle.call_open_set.proofs.OpenSetLaws.{bit-open, bit-past}
-use Rattle.replay_segments.proofs.contains.Statement.{statement}
-use Rattle.replay_segments.proofs.contains.Tie as tie
+use Rattle.replay_checks.proofs.contains.Statement.{statement}
+use Rattle.replay_checks.proofs.contains.Tie as tie
 
 returns : tie.Need-returns
 returns c = bit-past (c .before .args .words .now) (c .before .args .s) (c .before .pre) (c .if1 .taken)

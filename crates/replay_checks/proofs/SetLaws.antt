@@ -1,0 +1,168 @@
+-- Laws of the set of open segments in words: one segment entered or taken out as an event says, no segment at the start, and how many there are.
+-- Assumes nothing.
+use Prim.Native.Nat.{_*_, _+_, _-_, _/_, _<_, _≤_, suc, zero, ℕ}
+use mathlib.Core.Bool.{Bool, _&&_, _||_, cond, false, not, true}
+use mathlib.Core.List.{List, [], _++_, _∷_}
+use mathlib.Core.Path.{_∙_, _≡_, ap, ap₂, fun-ext, refl, sym}
+use lib.Dec.{eqb, ltb}
+use lib.ListN.{List·getD-eq-default, getD, length, length-append, length-set, replicate, set}
+use lib.Seq.{getD-set-other, getD-set-same}
+use native.Mathlib.Numerals.{add-one}
+use native.Mathlib.Omega.{arith}
+use borrow.Author.Tests.{eqb-false, eqb-true, ltb-false, ltb-true}
+use Rattle.call_open_set.proofs.OpenSetLaws.{length-digits}
+use Rattle.call_open_set.specs.OpenSet.{bits, digits, isOpen}
+use Rattle.theory_graph.proofs.Booleans.{and-elim, contradict, onBool}
+use Rattle.theory_graph.specs.Lists.{filter, range, sum}
+use Rattle.theory_timeline.proofs.Acceptance.{sound-fine}
+use Rattle.theory_timeline.proofs.TagLaws.{open-next}
+use Rattle.theory_timeline.specs.Events.{after, closes, names, opens}
+use Rattle.theory_timeline.specs.Replay.{openAtEnd}
+use Rattle.theory_timeline.specs.Steps.{Sound}
+use Rattle.theory_timeline.specs.Windows.{Timeline, atStart, event, openBefore, size}
+
+bits-length : (ws : List ℕ) → length (bits ws) ≡ 64 * length ws
+unfolding bits
+bits-length [] = refl
+bits-length (w ∷ ws) = rw length-append (omega (arith, length-digits 64 w, bits-length ws))
+
+-- a store of a bit leaves the words as many as they are
+pub stored-length : (words words′ : List ℕ) (s v : ℕ) → length words ≡ 128 → bits words′ ≡ set (bits words) s v → length words′ ≡ 128
+stored-length words words′ s v l q = omega (arith, bits-length words, bits-length words′, ap length q, length-set (bits words) s v)
+
+-- ---- one segment
+module _ (words words′ : List ℕ) (s v : ℕ) (l : length words ≡ 128) (u : s < 8192) (q : bits words′ ≡ set (bits words) s v) where
+  pub stored : (k : ℕ) → isOpen words′ k ≡ cond (eqb k s) (eqb v 1) (isOpen words k)
+  unfolding isOpen
+  stored k =
+      ap (λ b. eqb (getD b k 0) 1) q
+      ∙ onBool (eqb k s)
+      (λ t. ap (λ j. eqb (getD (set (bits words) s v) j 0) 1) (eqb-true k s t) ∙ ap (λ j. eqb j 1) (getD-set-same (bits words) s v 0 (omega (arith, bits-length words)))
+      ∙ sym (ap (λ b. cond b (eqb v 1) (eqb (getD (bits words) k 0) 1)) t))
+      (λ t. ap (λ j. eqb j 1) (getD-set-other (bits words) s k v 0 (eqb-false k s t)) ∙ sym (ap (λ b. cond b (eqb v 1) (eqb (getD (bits words) k 0) 1)) t))
+
+-- ---- an event
+module _ (held next : List ℕ) (x y v : ℕ) (l : length held ≡ 128) (n : (eqb x 65535 || eqb x 65534) ≡ true) (u : y < 8192) (b : eqb v 1 ≡ eqb x 65535) (q : bits next ≡ set (bits held) y v) where
+  pub event-stored : isOpen next ≡ after (x, y) (isOpen held)
+  event-stored =
+      fun-ext (λ k. stored held next y v l u q k ∙ ap (λ c. cond (eqb k y) c (isOpen held k)) b
+      ∙ sym (ap (λ c. cond (c && eqb k y) (eqb x 65535) (isOpen held k)) n))
+
+pub event-stays : (held : List ℕ) (x y : ℕ) → (eqb x 65535 || eqb x 65534) ≡ false → isOpen held ≡ after (x, y) (isOpen held)
+event-stays held x y n = fun-ext (λ k. sym (ap (λ c. cond (c && eqb k y) (eqb x 65535) (isOpen held k)) n))
+
+-- ---- no segment
+zero-digits : (k i : ℕ) → getD (digits k 0) i 0 ≡ 0
+unfolding digits
+zero-digits zero i = refl
+zero-digits (suc k) zero = refl
+zero-digits (suc k) (suc i) = zero-digits k i
+
+zero-append : (xs ys : List ℕ) → ((i : ℕ) → getD xs i 0 ≡ 0) → ((i : ℕ) → getD ys i 0 ≡ 0) → (i : ℕ) → getD (xs ++ ys) i 0 ≡ 0
+zero-append [] ys p q i = q i
+zero-append (x ∷ xs) ys p q zero = p zero
+zero-append (x ∷ xs) ys p q (suc i) = zero-append xs ys (λ j. p (suc j)) q i
+
+zero-bits : (k i : ℕ) → getD (bits (replicate k 0)) i 0 ≡ 0
+unfolding bits
+zero-bits zero i = refl
+zero-bits (suc k) i = zero-append (digits 64 0) (bits (replicate k 0)) (zero-digits 64) (zero-bits k) i
+
+pub none-open : (k : ℕ) → isOpen (replicate k 0) ≡ atStart
+unfolding isOpen
+none-open k = fun-ext (λ s. ap (λ j. eqb j 1) (zero-bits k s))
+
+-- ---- how many
+abbrev pub count : (ℕ → Bool) → ℕ → ℕ → ℕ
+count f i k = length (filter f (range i k))
+
+count-cons : (f : ℕ → Bool) (i k : ℕ) → count f i (suc k) ≡ cond (f i) 1 0 + count f (suc i) k
+count-cons f i k = go (f i) (filter f (range (suc i) k))
+  where
+    go : (b : Bool) (l : List ℕ) → length (cond b (i ∷ l) l) ≡ cond b 1 0 + length l
+    go true l = omega arith
+    go false l = omega arith
+
+-- nothing from a on: a longer range counts no more
+count-none : (f : ℕ → Bool) (i k : ℕ) → ((j : ℕ) → i ≤ j → f j ≡ false) → count f i k ≡ 0
+count-none f i zero e = refl
+count-none f i (suc k) e = count-cons f i k ∙ ap₂ (λ (b : Bool) (c : ℕ). cond b 1 0 + c) (e i (omega arith)) (count-none f (suc i) k (λ j a. e j (omega arith)))
+
+count-split : (f : ℕ → Bool) (i a k : ℕ) → count f i (a + k) ≡ count f i a + count f (i + a) k
+count-split f i zero k =
+    let s : 0 + k ≡ k = omega arith in
+    let t : i + 0 ≡ i = omega arith in
+    let c : count f i (0 + k) ≡ count f (i + 0) k = ap (λ (m : ℕ). count f i m) s ∙ ap (λ (m : ℕ). count f m k) (sym t) in
+    omega arith
+count-split f i (suc a) k =
+    let s : suc a + k ≡ suc (a + k) = omega arith in
+    let t : suc i + a ≡ i + suc a = omega arith in
+    let u = count-split f (suc i) a k in
+    let v = ap (λ (m : ℕ). count f m k) t in
+    ap (λ (m : ℕ). count f i m) s ∙ omega (arith, count-cons f i (a + k), count-cons f i a)
+
+count-longer : (f : ℕ → Bool) (a b : ℕ) → a ≤ b → ((j : ℕ) → a ≤ j → f j ≡ false) → count f 0 b ≡ count f 0 a
+count-longer f a b l e =
+    let s : b ≡ a + (b - a) = omega arith in
+    ap (λ (m : ℕ). count f 0 m) s ∙ omega (arith, count-split f 0 a (b - a), count-none f (0 + a) (b - a) (λ j u. e j (omega arith)))
+
+pub count-both : (f : ℕ → Bool) (a b : ℕ) → ((j : ℕ) → a ≤ j → f j ≡ false) → ((j : ℕ) → b ≤ j → f j ≡ false) → count f 0 a ≡ count f 0 b
+count-both f a b p q = onBool (ltb a b) (λ t. sym (count-longer f a b (omega (arith, ltb-true a b t)) p)) (λ t. count-longer f b a (ltb-false a b t) q)
+
+-- the segments that are open are segments
+pub open-below : (g : Timeline) → Sound g → (i : ℕ) → i ≤ size g → (s : ℕ) → openBefore g i s ≡ true → s < length (g .segments)
+unfolding openBefore
+open-below g o zero l s h = contradict h refl
+open-below g o (suc i) l s h = go (names (event g i) s) refl (ap (λ (f : ℕ → Bool). f s) (sym (open-suc ∙ open-next g i (omega arith))) ∙ h) (open-below g o i (omega arith) s)
+  where
+    open-suc : openBefore g (suc i) ≡ openBefore g (i + 1)
+    open-suc = ap (openBefore g) (sym (add-one i))
+
+    go : (b : Bool) → names (event g i) s ≡ b → cond b (opens (event g i)) (openBefore g i s) ≡ true → (openBefore g i s ≡ true → s < length (g .segments)) → s < length (g .segments)
+    go true q h f = and-elim (opens (event g i) || closes (event g i)) (eqb s (event g i .1)) q λ u v. let k = sound-fine g o i (omega arith) .segment u in omega (arith, eqb-true s (event g i .1) v)
+    go false q h f = f h
+
+-- ---- the ones of a set
+abbrev Bits : List ℕ → Type 0
+Bits xs = (i : ℕ) → getD xs i 0 ≤ 1
+
+digit-bits : (k n : ℕ) → Bits (digits k n)
+unfolding digits
+digit-bits zero n i = omega arith
+digit-bits (suc k) n zero = omega arith
+digit-bits (suc k) n (suc i) = digit-bits k (n / 2) i
+
+append-bits : (xs ys : List ℕ) → Bits xs → Bits ys → Bits (xs ++ ys)
+append-bits [] ys p q i = q i
+append-bits (x ∷ xs) ys p q zero = p zero
+append-bits (x ∷ xs) ys p q (suc i) = append-bits xs ys (λ j. p (suc j)) q i
+
+all-bits : (ws : List ℕ) → Bits (bits ws)
+unfolding bits
+all-bits [] i = omega arith
+all-bits (w ∷ ws) i = append-bits (digits 64 w) (bits ws) (digit-bits 64 w) (all-bits ws) i
+
+count-shift : (f : ℕ → Bool) (i k : ℕ) → count f (suc i) k ≡ count (λ j. f (suc j)) i k
+count-shift f i zero = refl
+count-shift f i (suc k) = count-cons f (suc i) k ∙ ap (λ (c : ℕ). cond (f (suc i)) 1 0 + c) (count-shift f (suc i) k) ∙ sym (count-cons (λ j. f (suc j)) i k)
+
+ones-count : (xs : List ℕ) → Bits xs → sum xs ≡ count (λ s. eqb (getD xs s 0) 1) 0 (length xs)
+ones-count [] b = refl
+ones-count (x ∷ xs) b =
+    let f : ℕ → Bool = λ s. eqb (getD (x ∷ xs) s 0) 1 in
+    ap₂ _+_ (one x (b 0)) (ones-count xs (λ i. b (suc i)) ∙ sym (count-shift f 0 (length xs))) ∙ sym (count-cons f 0 (length xs))
+  where
+    one : (x : ℕ) → x ≤ 1 → x ≡ cond (eqb x 1) 1 0
+    one zero l = refl
+    one (suc zero) l = refl
+    one (suc (suc x)) l = absurd (omega arith)
+
+pub open-count : (g : Timeline) → Sound g → (held : List ℕ) → isOpen held ≡ openBefore g (size g) → sum (bits held) ≡ openAtEnd g
+unfolding isOpen openAtEnd
+open-count g o held q =
+    ones-count (bits held) (all-bits held)
+    ∙ count-both (isOpen held) (length (bits held)) (length (g .segments))
+    (λ j l. ap (λ (k : ℕ). eqb k 1) (List·getD-eq-default (bits held) 0 l))
+    (λ j l. onBool (isOpen held j) (λ t. absurd (omega (arith, open-below g o (size g) (omega arith) j (ap (λ (f : ℕ → Bool). f j) (sym q) ∙ t)))) (λ t. t))
+    ∙ ap (λ (f : ℕ → Bool). count f 0 (length (g .segments))) q
+

@@ -1,0 +1,32 @@
+-- The share, the ends, the events.
+use native.Mathlib.Omega.{arith}
+use Rattle.replay_checks.proofs.CheckLaws.{ends-refused, list-passed, share-high, share-low}
+use borrow.Author.Needs.{needs}
+use Rattle.replay_checks.proofs.check_list.Statement.{statement}
+use Rattle.replay_checks.proofs.check_list.Tie as tie
+
+returns : tie.Need-returns
+returns c = share-low (c .before .before .before .before .before .pre) _ (omega arith)
+
+returns-2 : tie.Need-returns-2
+returns-2 c = share-high (c .before .before .before .before .before .before .pre) _ (omega arith) (omega arith)
+
+returns-3 : tie.Need-returns-3
+returns-3 c = ends-refused (c .before .before .before .before .before .before .before .before .pre) _ (omega arith) (omega arith) _ (c .before .first-bad-ends .ensures) (omega arith)
+
+returns-4 : tie.Need-returns-4
+returns-4 c =
+    let k = list-passed (c .before .before .before .before .before .before .before .before .before .before .before .pre) (c .before .before .before .before .before .before .before .before .before .before .before .args .p) (omega arith) (omega arith) _ (c .before .before .before .before .first-bad-ends .ensures) (omega arith) (c .before .before .check-events .ensures) in
+    rw (c .count .ensures) k
+
+pub check-list-spec : {M : Type 1} → statement M
+check-list-spec =
+    tie.close
+    (tie.spec
+    returns
+    returns-2
+    (λ c κs. search needs)
+    returns-3
+    (λ c κs. search needs)
+    (λ c κs. search needs)
+    returns-4)

@@ -1,0 +1,12 @@
+-- The lengths and the least lengths, table by table.
+use borrow.Author.Needs.{needs}
+use Rattle.replay_checks.proofs.length_fault.Statement.{statement}
+use Rattle.replay_checks.proofs.length_fault.Tie as tie
+
+returns : tie.Need-returns
+returns c = rw (← c .before .before .required .ensures) (c .length-fault .ensures)
+
+pub length-fault-spec : {M : Type 1} → statement M
+length-fault-spec =
+    tie.close
+    (tie.spec (λ c κs. search needs) (λ c. search needs) (λ c κs. search needs) returns)
