@@ -3,10 +3,9 @@ mod list;
 
 use theory_timeline::ReplayReply;
 ghost use mathlib.Core.Path.{_≡_};
-ghost use Prim.Native.Nat.{ℕ};
 ghost use Rattle.theory_timeline.specs.Call.{lent, outcome};
-ghost use Rattle.theory_timeline.specs.DemandThree.{Allowed, Demand3};
-ghost use Rattle.theory_timeline.specs.Replay.{Lent, replay};
+ghost use Rattle.theory_timeline.specs.DemandThree.{KeepsDemand3};
+ghost use Rattle.theory_timeline.specs.Replay.{replay};
 
 // The replay of t events over n junctions and m segments, with the share p. Its outcome is the one that the definition gives for what it is lent;
 // and with any other lending k and any two allowed shares it meets demand 3.
@@ -24,8 +23,8 @@ pub fn replay(
 ) -> ReplayReply
     ensures { λ r. ⌜ outcome r (now (answers .exit)) (now (work .exit)) ≡ replay (lent n m t (now (a .entry)) (now (b .entry)) (now (x .entry)) (now (y .entry))
         (now (answers .entry)) (now (work .entry))) p ⌝ }
-    ensures { λ r. ⌜ (k : Lent) (q : ℕ) → Allowed p → Allowed q → Demand3 (lent n m t (now (a .entry)) (now (b .entry)) (now (x .entry)) (now (y .entry))
-        (now (answers .entry)) (now (work .entry))) k p q (outcome r (now (answers .exit)) (now (work .exit))) (replay k q) ⌝ }
+    ensures { λ r. ⌜ KeepsDemand3 (lent n m t (now (a .entry)) (now (b .entry)) (now (x .entry)) (now (y .entry))
+        (now (answers .entry)) (now (work .entry))) p (outcome r (now (answers .exit)) (now (work .exit))) ⌝ }
 {
     let f = replay_checks::check(n, m, t, p, a, b, x, y, answers, work);
     if f.code > 0 {

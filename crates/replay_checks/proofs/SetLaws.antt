@@ -76,7 +76,7 @@ none-open k = fun-ext (λ s. ap (λ j. eqb j 1) (zero-bits k s))
 abbrev pub count : (ℕ → Bool) → ℕ → ℕ → ℕ
 count f i k = length (filter f (range i k))
 
-count-cons : (f : ℕ → Bool) (i k : ℕ) → count f i (suc k) ≡ cond (f i) 1 0 + count f (suc i) k
+pub count-cons : (f : ℕ → Bool) (i k : ℕ) → count f i (suc k) ≡ cond (f i) 1 0 + count f (suc i) k
 count-cons f i k = go (f i) (filter f (range (suc i) k))
   where
     go : (b : Bool) (l : List ℕ) → length (cond b (i ∷ l) l) ≡ cond b 1 0 + length l
@@ -88,7 +88,7 @@ count-none : (f : ℕ → Bool) (i k : ℕ) → ((j : ℕ) → i ≤ j → f j �
 count-none f i zero e = refl
 count-none f i (suc k) e = count-cons f i k ∙ ap₂ (λ (b : Bool) (c : ℕ). cond b 1 0 + c) (e i (omega arith)) (count-none f (suc i) k (λ j a. e j (omega arith)))
 
-count-split : (f : ℕ → Bool) (i a k : ℕ) → count f i (a + k) ≡ count f i a + count f (i + a) k
+pub count-split : (f : ℕ → Bool) (i a k : ℕ) → count f i (a + k) ≡ count f i a + count f (i + a) k
 count-split f i zero k =
     let s : 0 + k ≡ k = omega arith in
     let t : i + 0 ≡ i = omega arith in
@@ -165,4 +165,3 @@ open-count g o held q =
     (λ j l. ap (λ (k : ℕ). eqb k 1) (List·getD-eq-default (bits held) 0 l))
     (λ j l. onBool (isOpen held j) (λ t. absurd (omega (arith, open-below g o (size g) (omega arith) j (ap (λ (f : ℕ → Bool). f j) (sym q) ∙ t)))) (λ t. t))
     ∙ ap (λ (f : ℕ → Bool). count f 0 (length (g .segments))) q
-

@@ -171,7 +171,16 @@ fn length_fault(
 }
 
 // The faults behind those of the sizes and of the lengths.
-fn check_list(n: usize, m: usize, t: usize, p: usize, a: &[u16], b: &[u16], x: &[u16], y: &[u16]) -> Checked
+fn check_list(
+    n: usize,
+    m: usize,
+    t: usize,
+    p: usize,
+    a: &[u16],
+    b: &[u16],
+    x: &[u16],
+    y: &[u16],
+) -> Checked
     requires { ⌜ CanCheckList n m t (now a) (now b) (now x) (now y) ⌝ }
     ensures { λ r. ⌜ CheckedList n m t p (now (a .entry)) (now (b .entry)) (now (x .entry)) (now (y .entry)) r ⌝ }
 {

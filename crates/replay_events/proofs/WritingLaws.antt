@@ -384,7 +384,7 @@ module _ {n : ℕ} {a b x y w : List ℕ} (q : CanWriteEvents n a b x y w) where
   abbrev t : ℕ
   t = length x
 
-  size-is : size g ≡ t
+  pub size-is : size g ≡ t
   size-is = let p = pairs-length x y t (omega arith) (omega (arith, q .events)) in omega (arith, pairs-most x y t (omega arith))
 
   event-is : (i : ℕ) → i < t → event g i ≡ (getD x i 0, getD y i 0)

@@ -15,7 +15,7 @@ use Rattle.theory_graph.proofs.Definitions.{answer-is}
 use Rattle.theory_graph.proofs.Reach.{reach}
 use Rattle.theory_graph.proofs.Reading.{answer-read, read-off}
 use Rattle.theory_graph.proofs.SmallGraphs.{SmallGraph}
-use Rattle.theory_graph.specs.Graph.{Edge, NodeSet, answer}
+use Rattle.theory_graph.specs.Graph.{Edge, NodeSet, answer, joined, twoEdge}
 use Rattle.theory_graph.specs.Lists.{range}
 use Rattle.theory_graph.specs.SmallGraph.{readOff}
 use Rattle.theory_timeline.proofs.Acceptance.{Good, accepted-good, events-length}
@@ -66,7 +66,18 @@ pub leaf : (g : Timeline) → Good g → (i : ℕ) → i < size g → asks (even
 unfolding network active
 leaf g good i l a = alone (g .segments) (event g i) (openBefore g i) a (during g (i, 1)) (during-one g i l) ((small g (i, 1)) .nodes) ((small g (i, 1)) .edges) _ _ (small-is g good (i, 1))
 
-map-from : (f : ℕ → ℕ) (k j i : ℕ) → i < k → getD (map f (range j k)) i 0 ≡ f (j + i)
+-- a byte is 3 just where its event is no query
+pub byte-asks : (g : Timeline) (i : ℕ) → not (eqb (byte g i) 3) ≡ asks (event g i)
+unfolding byte answer
+byte-asks g i = go (asks (event g i)) (joined (edgesOf g (openBefore g i)) (event g i .0) (event g i .1)) (twoEdge (edgesOf g (openBefore g i)) (event g i .0) (event g i .1))
+  where
+    go : (a j t : Bool) → not (eqb (cond a (cond j (cond t 2 1) 0) 3) 3) ≡ a
+    go true true true = refl
+    go true true false = refl
+    go true false t = refl
+    go false j t = refl
+
+pub map-from : (f : ℕ → ℕ) (k j i : ℕ) → i < k → getD (map f (range j k)) i 0 ≡ f (j + i)
 map-from f zero j i l = absurd (omega arith)
 map-from f (suc k) j zero l = let e : j ≡ j + 0 = omega arith in ap f e
 map-from f (suc k) j (suc i) l = let e : suc j + i ≡ j + suc i = omega arith in map-from f k (suc j) i (omega arith) ∙ ap f e

@@ -53,6 +53,10 @@ pub record Demand3 (l k : Lent) (p q : ℕ) (r s : Outcome) : Type 0 where
 abbrev pub Demand-3 : Type 0
 Demand-3 = (l k : Lent) (p q : ℕ) → Allowed p → Allowed q → (r s : Outcome) → r ≡ replay l p → s ≡ replay k q → Demand3 l k p q r s
 
+-- the same of one outcome r of lending l with the share p, beside every lending and every share: what the public call promises of its own outcome
+abbrev pub KeepsDemand3 : Lent → ℕ → Outcome → Type 0
+KeepsDemand3 l p r = (k : Lent) (q : ℕ) → Allowed p → Allowed q → Demand3 l k p q r (replay k q)
+
 -- ---- the same of calls that were made
 -- a call of the public `replay` (crate call_replay): its share, what it was lent, its reply, and the two tables that it may write as they were afterwards
 pub record Call : Type 0 where

@@ -1,0 +1,220 @@
+-- The whole list and the public call: from the events' words to the windows, the queries counted by their bytes, and the outcome of an accepted replay and of a refusal.
+-- In order of the code. Assumes nothing.
+use Prim.Native.Nat.{_*_, _+_, _-_, _<_, _≤_, suc, zero, ℕ}
+use mathlib.Core.Bool.{Bool, cond, false, not, true}
+use mathlib.Core.List.{List, [], _++_, _∷_, map}
+use mathlib.Core.Path.{_∙_, _≡_, ap, ap₂, refl, subst, sym}
+use lib.Dec.{eqb}
+use lib.ListN.{drop, getD, length, length-drop, length-replicate, length-take, replicate, take}
+use lib.Seq.{drop-at, length-sets, length-take-le, sets, sets-eq, take-all, take-take}
+use native.Mathlib.Numerals.{add-one}
+use native.Mathlib.Omega.{arith}
+use borrow.Author.Tests.{eq-eqb, ne-eqb}
+use Rattle.call_sizes.specs.Refusal.{Refusal}
+use Rattle.replay_checks.proofs.SetLaws.{count, count-split}
+use Rattle.replay_checks.specs.Check.{CheckedTables}
+use Rattle.replay_checks.specs.declared.Checked.{Checked}
+use Rattle.replay_events.proofs.WritingLaws.{size-is}
+use Rattle.replay_events.specs.Writing.{CanWriteEvents, EventsWritten, listOf}
+use Rattle.replay_step.specs.Area.{SmallArea, WholeMade, WholeReady}
+use Rattle.replay_step.specs.declared.Window.{Window}
+use Rattle.replay_windows.proofs.DescentLaws.{lent-take}
+use Rattle.replay_windows.specs.Descent.{Replied, WindowDone, WindowReady}
+use Rattle.theory_graph.proofs.Booleans.{onBool}
+use Rattle.theory_graph.proofs.TableLaws.{over-front}
+use Rattle.theory_graph.specs.Lists.{filter, over, range, sum, table}
+use Rattle.theory_timeline.proofs.Acceptance.{Accepted, accepted-from, accepted-sound, events-length, length-pairs, segments-length}
+use Rattle.theory_timeline.proofs.DemandThree.{accepted-done, bytes-length, demand-3}
+use Rattle.theory_timeline.proofs.Leaves.{byte-asks, map-from}
+use Rattle.theory_timeline.specs.Call.{outcome}
+use Rattle.theory_timeline.specs.DemandThree.{KeepsDemand3}
+use Rattle.theory_timeline.specs.Events.{asks}
+use Rattle.theory_timeline.specs.Replay.{Faultless, Lent, Outcome, byte, bytes, done, fault, given, openAtEnd, queries, refused, replay, required}
+use Rattle.theory_timeline.specs.Windows.{Timeline, event, kept, size, small, windows, windowsFrom}
+use Rattle.theory_timeline.specs.declared.ReplayReply.the-variants.{Done, Refused}
+use Rattle.call_replay.specs.List.{ListReady, ListReplied, queriesIn}
+
+-- ---- the list
+module _ {n p : ℕ} {a b x y answers work : List ℕ} (q : ListReady n p a b x y answers work) where
+  abbrev g : Timeline
+  g = listOf n a b x y
+
+  abbrev t : ℕ
+  t = length x
+
+  -- a list without events
+  pub empty-replied : t ≡ 0 → ListReplied n p a b x y answers answers 0
+  unfolding windowsFrom
+  empty-replied z = subst (λ (k : ℕ). Replied g 0 k p answers answers 0) (sym z) (record { answers = refl; kept = refl })
+
+  module _ (some : 0 < t) {w : List ℕ} (e : EventsWritten n a b x y w) (l : length w ≡ length work) where
+    pub whole-need : WholeReady n t w
+    whole-need = record {
+      g = g;
+      sound = q .events .sound;
+      junctions = refl;
+      all = size-is (q .events);
+      events = e;
+      some = some;
+      room = omega (arith, q .room);
+      much = q .events .much;
+    }
+
+    module _ {z : List ℕ} {r : Window} (m : WholeMade n t w z r) (k : length z ≡ length work) where
+      area : SmallArea g r (take (13 * r .events) (take (length z - 5 * t) (drop (5 * t) z)))
+      area =
+          let h : take (13 * t) (drop (5 * t) z) ≡ take (13 * r .events) (take (length z - 5 * t) (drop (5 * t) z)) =
+          ap (λ (n : ℕ). take (13 * n) (drop (5 * t) z)) (sym (m .events)) ∙ sym (lent-take (5 * t) (13 * r .events) z (omega (arith, q .room, m .events))) in
+          subst (λ (v : List ℕ). SmallArea g r v) h (m .made g (q .events .sound) refl (size-is (q .events)) e)
+
+      pub window-need : WindowReady r p answers (take (length z - 5 * t) (drop (5 * t) z))
+      window-need = record {
+        g = g;
+        sound = q .events .sound;
+        inside = omega (arith, m .at, m .events, size-is (q .events));
+        area = area;
+        some = omega (arith, m .events);
+        much = omega (arith, m .at, m .events, q .events .much);
+        share = q .share;
+        long = omega (arith, m .at, m .events, q .long);
+        room = rw (length-take, length-drop) (omega (arith, q .room, m .events));
+      }
+
+      pub list-replied : {after : List ℕ} {kept : ℕ} → WindowDone r p (take (13 * r .events) (take (length z - 5 * t) (drop (5 * t) z))) answers after kept → ListReplied n p a b x y answers after kept
+      list-replied d = let u = d .replied g (q .events .sound) (omega (arith, m .at, m .events, size-is (q .events))) area in rw (m .at, m .events) at u
+
+-- ---- the queries, by their bytes
+pub queries-none : (bytes : List ℕ) → 0 ≡ queriesIn bytes 0
+unfolding queriesIn
+queries-none bytes = refl
+
+pub queries-more : (bytes : List ℕ) (i k r : ℕ) → k ≡ queriesIn bytes i → r ≡ cond (not (eqb (getD bytes i 0) 3)) 1 0 → k + r ≡ queriesIn bytes (i + 1)
+unfolding queriesIn
+queries-more bytes i k r e h = ap₂ (λ (a b : ℕ). a + b) e h ∙ sym (ap (queriesIn bytes) (add-one i))
+
+pub answer-none : (b : ℕ) → b ≡ 3 → _≡_ {A = ℕ} 0 (cond (not (eqb b 3)) 1 0)
+answer-none b e = sym (ap (λ (c : Bool). cond (not c) 1 0) (eq-eqb b 3 e))
+
+pub answer-one : (b : ℕ) → ¬ (b ≡ 3) → _≡_ {A = ℕ} 1 (cond (not (eqb b 3)) 1 0)
+answer-one b n = sym (ap (λ (c : Bool). cond (not c) 1 0) (ne-eqb b 3 n))
+
+pub one-most : (b : Bool) (r : ℕ) → r ≡ cond b 1 0 → r ≤ 1
+one-most true r e = omega arith
+one-most false r e = omega arith
+
+pub queries-most : (bytes : List ℕ) (i : ℕ) → queriesIn bytes i ≤ i
+unfolding queriesIn
+queries-most bytes zero = omega arith
+queries-most bytes (suc i) = go (not (eqb (getD bytes i 0) 3)) (queries-most bytes i)
+  where
+    go : (b : Bool) → queriesIn bytes i ≤ i → queriesIn bytes i + cond b 1 0 ≤ suc i
+    go true h = omega arith
+    go false h = omega arith
+
+queries-same-bytes : (g : Timeline) (bytes : List ℕ) (t : ℕ) → ((i : ℕ) → i < t → getD bytes i 0 ≡ byte g i) → queriesIn bytes t ≡ count (λ i. asks (event g i)) 0 t
+unfolding queriesIn
+queries-same-bytes g bytes zero h = refl
+queries-same-bytes g bytes (suc t) h =
+    let f : ℕ → Bool = λ i. asks (event g i) in
+    let z : suc t ≡ t + 1 = omega arith in
+    let y : 0 + t ≡ t = omega arith in
+    let c : _≡_ {A = ℕ} (count f t 1) (cond (f t) 1 0) = count-one (f t) in
+    let e : count f 0 (suc t) ≡ count f 0 t + count f t 1 = ap (count f 0) z ∙ count-split f 0 t 1 ∙ ap (λ (k : ℕ). count f 0 t + count f k 1) y in
+    let b : _≡_ {A = ℕ} (cond (not (eqb (getD bytes t 0) 3)) 1 0) (cond (f t) 1 0) = ap (λ (v : ℕ). cond (not (eqb v 3)) 1 0) (h t (omega arith)) ∙ ap (λ (b : Bool). cond b 1 0) (byte-asks g t) in
+    omega (arith, queries-same-bytes g bytes t (λ i l. h i (omega arith)))
+  where
+    count-one : (b : Bool) → length {A = ℕ} (cond b (t ∷ []) []) ≡ cond b 1 0
+    count-one true = refl
+    count-one false = refl
+
+-- ---- an accepted replay
+sets-over : (vs l : List ℕ) → length vs ≤ length l → sets l 0 vs ≡ over vs l
+sets-over vs l h = let z : 0 + length vs ≡ length vs = omega arith in sets-eq vs l 0 (omega arith) ∙ ap (λ (k : ℕ). vs ++ drop k l) z
+
+bytes-table : (f : ℕ → ℕ) (i k : ℕ) → table f i k ≡ map f (range i k)
+bytes-table f i zero = refl
+bytes-table f i (suc k) = ap (λ (l : List ℕ). f i ∷ l) (bytes-table f (suc i) k)
+
+over-prefix : (vs zs w : List ℕ) → length zs ≡ length vs → over vs (zs ++ drop (length vs) w) ≡ over vs w
+over-prefix vs zs w e = ap (λ (l : List ℕ). vs ++ l) (drop-at zs (drop (length vs) w) (length vs) e)
+
+module _ (l : Lent) (p : ℕ) (f : Faultless l p) where
+  pub granted : Accepted l p
+  granted = accepted-from l p f
+
+  abbrev need : ℕ
+  need = required (l .t) (l .n)
+
+  -- the tables, cut to their sizes
+  long-x : length (take (l .t) (l .x)) ≡ l .t
+  long-x = length-take-le (l .t) (l .x) (granted .x-long)
+
+  pub list-need : ListReady (l .n) p (take (l .m) (l .a)) (take (l .m) (l .b)) (take (l .t) (l .x)) (take (l .t) (l .y)) (l .answers) (take need (l .work))
+  unfolding given
+  list-need =
+      let w = length-take-le need (l .work) (granted .work-long) in
+      record {
+        events = record {
+          sound = accepted-sound l p granted;
+          segments = length-take-le (l .m) (l .b) (granted .b-long) ∙ sym (length-take-le (l .m) (l .a) (granted .a-long));
+          events = length-take-le (l .t) (l .y) (granted .y-long) ∙ sym long-x;
+          much = omega (arith, long-x, granted .t-fits);
+          room = omega (arith, long-x);
+        };
+        share = granted .share;
+        long = omega (arith, long-x, granted .answers-long);
+        room = omega (arith, long-x);
+      }
+
+  module _ {after : List ℕ} {kept′ : ℕ} (d : ListReplied (l .n) p (take (l .m) (l .a)) (take (l .m) (l .b)) (take (l .t) (l .x)) (take (l .t) (l .y)) (l .answers) after kept′) where
+    replied : Replied (given l) 0 (l .t) p (l .answers) after kept′
+    unfolding given
+    replied = rw long-x at d
+
+    answers-is : after ≡ over (bytes (given l)) (l .answers)
+    unfolding bytes
+    answers-is =
+        replied .answers ∙ ap (λ (k : ℕ). sets (l .answers) 0 (table (byte (given l)) 0 k)) (sym (events-length l p granted))
+        ∙ ap (sets (l .answers) 0) (bytes-table (byte (given l)) 0 (size (given l)))
+        ∙ sets-over (map (byte (given l)) (range 0 (size (given l)))) (l .answers) (omega (arith, bytes-length l p granted, granted .answers-long))
+
+    byte-at : (i : ℕ) → i < l .t → getD after i 0 ≡ byte (given l) i
+    unfolding bytes
+    byte-at i u =
+        let z : 0 + i ≡ i = omega arith in
+        ap (λ (k : List ℕ). getD k i 0) answers-is
+        ∙ over-front (bytes (given l)) (l .answers) i (omega (arith, bytes-length l p granted))
+        ∙ map-from (byte (given l)) (size (given l)) 0 i (omega (arith, events-length l p granted)) ∙ ap (byte (given l)) z
+
+    pub long-after : l .t ≤ length after
+    long-after = omega (arith, ap length (replied .answers), length-sets (l .answers) 0 (table (byte (given l)) 0 (l .t)), granted .answers-long)
+
+    pub done-is : {cleared : List ℕ} (zs : List ℕ) (q o : ℕ) → q ≡ queriesIn after (l .t) → o ≡ openAtEnd (given l) → length zs ≡ length (take need (l .work))
+        → cleared ≡ over (replicate need 0) (zs ++ drop need (l .work)) → outcome (Done (record { queries = q; «open» = o; kept = kept′ })) after cleared ≡ done l p
+    unfolding done kept windows queries
+    done-is {cleared} zs q o eq eo lz ew =
+        let lr : length (replicate {A = ℕ} need 0) ≡ need = length-replicate need 0 in
+        let lw : length (take need (l .work)) ≡ need = length-take-le need (l .work) (granted .work-long) in
+        let e1 = eq ∙ queries-same-bytes (given l) after (l .t) byte-at ∙ ap (count (λ i. asks (event (given l) i)) 0) (sym (events-length l p granted)) in
+        let e3 = replied .kept ∙ ap (λ (k : ℕ). sum (map (λ w. (small (given l) w) .nodes) (windowsFrom p k 0 k))) (sym (events-length l p granted)) in
+        let e5 = ew ∙ ap (λ (k : ℕ). over (replicate need 0) (zs ++ drop k (l .work))) (sym lr) ∙ over-prefix (replicate need 0) zs (l .work) (lz ∙ lw ∙ sym lr) in
+        λ i. record { accepted = true; code = 0; place = 0; queries = e1 i; opened = eo i; kept = e3 i; answers = answers-is i; work = e5 i }
+
+-- ---- the outcome
+abbrev Promise : Lent → ℕ → Outcome → Type 0
+Promise l p r = (r ≡ replay l p) × KeepsDemand3 l p r
+
+-- demand 3 follows from the equation
+promise : (l : Lent) (p : ℕ) (r : Outcome) → r ≡ replay l p → Promise l p r
+promise l p r e = (e, λ k q a b. demand-3 l k p q a b r (replay k q) e refl)
+
+pub refused-is : (l : Lent) (p : ℕ) {r : Checked} → CheckedTables l p r → 0 < r .code → Promise l p (outcome (Refused (r .code) (r .place)) (l .answers) (l .work))
+unfolding replay refused
+refused-is l p {r} c h = promise l p _ (ap (λ (f : Refusal). refused l f) (c .refusal)
+    ∙ sym (ap (λ (b : Bool). elim b as (λ x. Outcome) [ true ↦ done l p | false ↦ refused l (fault l p) ]) (ne-eqb (fault l p .0) 0 (λ z. omega (arith, ap (λ (f : Refusal). f .0) (c .refusal))))))
+
+pub faultless : {l : Lent} {p : ℕ} {r : Checked} → CheckedTables l p r → r .code ≡ 0 → Faultless l p
+faultless c z = sym (ap (λ (f : Refusal). f .0) (c .refusal)) ∙ z
+
+pub replayed : (l : Lent) (p : ℕ) (r : Outcome) → Faultless l p → r ≡ done l p → Promise l p r
+replayed l p r f e = promise l p r (e ∙ sym (accepted-done l p f))
