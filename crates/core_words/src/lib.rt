@@ -4,7 +4,7 @@ ghost use lib.ListN.{length, replicate};
 ghost use Rattle.theory_graph.specs.Lists.{over};
 ghost use Rattle.core_words.specs.Fields.{node, half, Put, PutHalf};
 
-// Fields of a node. Some have a second use, with a name of its own; 14 and 15 are free.
+// Internal: fields of a node. Some have a second use, with a name of its own; 14 and 15 are free. specs/Fields says what each holds.
 pub const MARK: usize = 0;
 
 pub const MAPPED: usize = 0;
@@ -47,7 +47,7 @@ pub const ROOT: usize = 12;
 
 pub const EDGE: usize = 13;
 
-// Fields of a half-edge.
+// Internal: fields of a half-edge.
 pub const TO: usize = 0;
 
 pub const NEXT: usize = 1;

@@ -27,7 +27,7 @@ returns c =
     let start = at-loop .before in
     let a = start .args in
     sym (at-loop .loop .inv .1 ∙ seek-here (badEnds (a .n) (a .from .now) (a .to .now)) (at-loop .loop .s) (a .m) (omega arith)
-    (bad-from (a .n) (a .from .now) (a .to .now) (at-loop .loop .s) (c .if1 .taken)))
+    (bad-from (a .n) (a .from .now) (a .to .now) (at-loop .loop .s) (omega arith)))
 
 cast-if2 : tie.Need-cast-if2 Inv-loop μ-loop
 cast-if2 c =
@@ -41,7 +41,7 @@ returns-2 c =
     let start = at-loop .before in
     let a = start .args in
     sym (at-loop .loop .inv .1 ∙ seek-here (badEnds (a .n) (a .from .now) (a .to .now)) (at-loop .loop .s) (a .m) (omega arith)
-    (bad-to (a .n) (a .from .now) (a .to .now) (at-loop .loop .s) (at-if1 .if1 .left) (c .if2 .taken)))
+    (bad-to (a .n) (a .from .now) (a .to .now) (at-loop .loop .s) (omega arith) (omega arith)))
 
 loop-again : tie.Need-loop-again Inv-loop μ-loop
 loop-again c =
@@ -51,7 +51,7 @@ loop-again c =
     let a = start .args in (
       omega arith,
       at-loop .loop .inv .1 ∙ seek-more (badEnds (a .n) (a .from .now) (a .to .now)) (at-loop .loop .s) (a .m) (omega arith)
-          (good-ends (a .n) (a .from .now) (a .to .now) (at-loop .loop .s) (at-if1 .if1 .left) (c .if2 .left)),
+          (good-ends (a .n) (a .from .now) (a .to .now) (at-loop .loop .s) (omega arith) (omega arith)),
     )
 
 returns-3 : tie.Need-returns-3 Inv-loop μ-loop
