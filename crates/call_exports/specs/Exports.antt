@@ -16,8 +16,27 @@ sizesOf r = record { accepted = eqb (r .code) 0; code = r .code; place = r .plac
 -- with the tables that may be written as they are afterwards
 abbrev pub contractedOf : LumContractReply → List ℕ → List ℕ → List ℕ → List ℕ → contraction.Outcome
 contractedOf r map outFrom outTo work =
-    record { accepted = eqb (r .code) 0; code = r .code; place = r .place; nodes = r .nodes; edges = r .edges; map = map; outFrom = outFrom; outTo = outTo; work = work }
+    record {
+      accepted = eqb (r .code) 0;
+      code = r .code;
+      place = r .place;
+      nodes = r .nodes;
+      edges = r .edges;
+      map = map;
+      outFrom = outFrom;
+      outTo = outTo;
+      work = work;
+    }
 
 abbrev pub replayedOf : LumReplayReply → List ℕ → List ℕ → timeline.Outcome
 replayedOf r answers work =
-    record { accepted = eqb (r .code) 0; code = r .code; place = r .place; queries = r .queries; opened = r .«open»; kept = r .kept; answers = answers; work = work }
+    record {
+      accepted = eqb (r .code) 0;
+      code = r .code;
+      place = r .place;
+      queries = r .queries;
+      opened = r .«open»;
+      kept = r .kept;
+      answers = answers;
+      work = work;
+    }

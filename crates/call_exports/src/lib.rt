@@ -1,4 +1,5 @@
-// The calls as C sees them: a slice is a pointer and a length, a reply is a struct of numbers. Each call hands on to the product's own and writes its reply out.
+// The calls as C sees them: a slice is a pointer and a length, a reply is a struct of numbers.
+// Each call hands on to the product's own and writes its reply out.
 use call_contract::ContractReply;
 use call_sizes::Sizes;
 use call_sizes::SizesReply;
@@ -12,6 +13,7 @@ ghost use Rattle.call_sizes.specs.Sizes.{checkSizes};
 ghost use Rattle.theory_timeline.specs.Call as replaying;
 ghost use Rattle.theory_timeline.specs.Replay.{replay};
 ghost use Rattle.call_exports.specs.Exports.{sizesOf, contractedOf, replayedOf};
+ghost use Rattle.call_exports.specs.Version.{version};
 
 // In each struct the code is 0 where the call is accepted, else the refusal's number; then place is its place and the other numbers are 0.
 #[repr(C)]
@@ -39,6 +41,15 @@ pub struct LumReplayReply {
     pub queries: usize,
     pub open: usize,
     pub kept: usize,
+}
+
+// The version of the calls in this archive, so that a caller who was built for others can tell.
+// It takes nothing and returns one number in every version.
+#[no_mangle]
+pub extern "C" fn lum_version() -> u32
+    ensures { λ r. ⌜ r ≡ version ⌝ }
+{
+    2
 }
 
 // The sizes' check.
@@ -95,7 +106,9 @@ pub extern "C" fn lum_contract(
     out_to: &mut [u16],
     work: &mut [u32],
 ) -> LumContractReply
-    ensures { λ r. ⌜ contractedOf r (now (map .exit)) (now («out_from» .exit)) (now («out_to» .exit)) (now (work .exit)) ≡ contraction (contracting.lent n m k (now (from .entry)) (now (to .entry)) (now (active .entry)) (now (map .entry)) (now («out_from» .entry)) (now («out_to» .entry)) (now (work .entry))) ⌝ }
+    ensures { λ r. ⌜ contractedOf r (now (map .exit)) (now («out_from» .exit)) (now («out_to» .exit)) (now (work .exit))
+        ≡ contraction (contracting.lent n m k (now (from .entry)) (now (to .entry)) (now (active .entry))
+        (now (map .entry)) (now («out_from» .entry)) (now («out_to» .entry)) (now (work .entry))) ⌝ }
 {
     let reply = call_contract::contract(n, m, k, from, to, active, map, out_from, out_to, work);
     match reply {
@@ -132,7 +145,9 @@ pub extern "C" fn lum_replay(
     answers: &mut [u8],
     work: &mut [u32],
 ) -> LumReplayReply
-    ensures { λ r. ⌜ replayedOf r (now (answers .exit)) (now (work .exit)) ≡ replay (replaying.lent n m t (now (a .entry)) (now (b .entry)) (now (x .entry)) (now (y .entry)) (now (answers .entry)) (now (work .entry))) p ⌝ }
+    ensures { λ r. ⌜ replayedOf r (now (answers .exit)) (now (work .exit))
+        ≡ replay (replaying.lent n m t (now (a .entry)) (now (b .entry)) (now (x .entry)) (now (y .entry))
+        (now (answers .entry)) (now (work .entry))) p ⌝ }
 {
     let reply = call_replay::replay(n, m, t, p, a, b, x, y, answers, work);
     match reply {
