@@ -1,7 +1,8 @@
 /*
  * Replays document 01's example, a triangle whose segments open one after the other, with
  * two queries of junctions 0 and 2, and prints what the program `replay` prints. An argument
- * is taken as the share in the place of 8.
+ * is taken as the share in the place of 8. The exit status is 1 where the replay is refused,
+ * and 2 where the archive has other calls than the header.
  */
 #include <stdio.h>
 #include <stdlib.h>
@@ -19,6 +20,12 @@ int main(int argc, char **argv)
     uint8_t answers[EVENTS] = {0};
     static uint32_t work[LUM_REPLAY_WORK(JUNCTIONS, EVENTS)];
     size_t share = argc > 1 ? strtoul(argv[1], NULL, 10) : 8;
+
+    if (lum_version() != LUM_VERSION) {
+        fprintf(stderr, "the archive has version %u of the calls and the header %u\n",
+                (unsigned)lum_version(), (unsigned)LUM_VERSION);
+        return 2;
+    }
 
     struct lum_replay_reply r = lum_replay(
         JUNCTIONS, SEGMENTS, EVENTS, share,

@@ -6,6 +6,14 @@
  * `rt staticlib call_exports` writes; it is for x86-64 Linux and needs only memcpy and
  * memset of the C library.
  *
+ * VERSIONS. Calls gain tables, and replies gain numbers, from one version to the next;
+ * their names stay. A program that was built with the header of one version and linked
+ * with the archive of another would hand over its tables in the wrong places, and nothing
+ * else would notice. So compare lum_version() with LUM_VERSION before the first other
+ * call, and make none where they differ. lum_version takes nothing and returns one number
+ * in every version. A code above those below is a refusal too, by a reason that a later
+ * version names.
+ *
  * WHAT THE CALLER OWES. The proofs begin where these hold, and no call can check them:
  *  - Each pointer points to at least as many entries as the length after it says,
  *    all of them initialised, also those of the tables that are written.
@@ -21,8 +29,8 @@
  * A call keeps nothing after it returns, allocates nothing, and reads and writes
  * nothing but its tables, so that calls on different tables may run at the same time.
  * It takes stack: replays of 4,096 events ran on a thread with 256 KB for each share, and
- * not on one with 128 KB for the share 4. This is measured and not proved; fewer events
- * take less.
+ * not on one with 128 KB for the share 4. This is measured (bench/stack) and not proved;
+ * fewer events take less. (TODO-LEAD: measure again once the set has left the recursion.)
  *
  * TABLES may be longer than they must be. Entries past the stated sizes are ignored,
  * and none of them changes.
@@ -54,6 +62,9 @@
 #ifdef __cplusplus
 extern "C" {
 #endif
+
+/* The version of the calls below. */
+#define LUM_VERSION 2u
 
 /* The limits. */
 #define LUM_MOST_JUNCTIONS 4096u
@@ -99,6 +110,11 @@ struct lum_replay_reply {
     size_t open;    /* the segments open at its end */
     size_t kept;    /* the nodes of the small graphs, summed over all windows */
 };
+
+/*
+ * The version of the calls in the archive: LUM_VERSION where it fits this header.
+ */
+uint32_t lum_version(void);
 
 /*
  * Checks sizes: n junctions, m segments and t events of a replay (k = 0), or n nodes,
