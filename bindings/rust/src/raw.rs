@@ -1,6 +1,8 @@
 //! The exported calls of the archive, with each slice as a pointer and a length. All unsafe code stands here.
+//! These declarations are those of version 2, [`crate::VERSION`]: whoever changes one changes both.
 #![allow(unsafe_code)]
-#![allow(clippy::too_many_arguments)]
+
+use crate::tables::{ContractTables, ReplayTables};
 
 #[repr(C)]
 pub(crate) struct SizesReply {
@@ -30,6 +32,8 @@ pub(crate) struct ReplayReply {
 }
 
 extern "C" {
+    fn lum_version() -> u32;
+
     fn lum_sizes(n: usize, m: usize, t: usize, k: usize) -> SizesReply;
 
     fn lum_answers(table: *const u8, table_len: usize, t: usize) -> usize;
@@ -74,6 +78,11 @@ extern "C" {
     ) -> ReplayReply;
 }
 
+pub(crate) fn version() -> u32 {
+    // SAFETY: the call takes nothing and returns a number in every version.
+    unsafe { lum_version() }
+}
+
 pub(crate) fn sizes(n: usize, m: usize, t: usize, k: usize) -> SizesReply {
     // SAFETY: the call takes and returns numbers, asks nothing of them, and touches no memory of ours.
     unsafe { lum_sizes(n, m, t, k) }
@@ -85,76 +94,54 @@ pub(crate) fn answers(table: &[u8], t: usize) -> usize {
     unsafe { lum_answers(table.as_ptr(), table.len(), t) }
 }
 
-pub(crate) fn contract(
-    n: usize,
-    m: usize,
-    k: usize,
-    from: &[u16],
-    to: &[u16],
-    active: &[u16],
-    map: &mut [u16],
-    out_from: &mut [u16],
-    out_to: &mut [u16],
-    work: &mut [u32],
-) -> ContractReply {
+pub(crate) fn contract(lent: ContractTables<'_>) -> ContractReply {
     // SAFETY: each pointer and the length after it are those of one slice, also of an empty one, whose
     // pointer is non-null and aligned. The slices that are written are borrowed mutably, so they overlap
     // no other and nobody else reads them. The call is proved to stay within the lengths, for all
     // numbers and entries, and it keeps no pointer.
     unsafe {
         lum_contract(
-            n,
-            m,
-            k,
-            from.as_ptr(),
-            from.len(),
-            to.as_ptr(),
-            to.len(),
-            active.as_ptr(),
-            active.len(),
-            map.as_mut_ptr(),
-            map.len(),
-            out_from.as_mut_ptr(),
-            out_from.len(),
-            out_to.as_mut_ptr(),
-            out_to.len(),
-            work.as_mut_ptr(),
-            work.len(),
+            lent.n,
+            lent.m,
+            lent.k,
+            lent.from.as_ptr(),
+            lent.from.len(),
+            lent.to.as_ptr(),
+            lent.to.len(),
+            lent.active.as_ptr(),
+            lent.active.len(),
+            lent.map.as_mut_ptr(),
+            lent.map.len(),
+            lent.out_from.as_mut_ptr(),
+            lent.out_from.len(),
+            lent.out_to.as_mut_ptr(),
+            lent.out_to.len(),
+            lent.work.as_mut_ptr(),
+            lent.work.len(),
         )
     }
 }
 
-pub(crate) fn replay(
-    n: usize,
-    m: usize,
-    t: usize,
-    p: usize,
-    a: &[u16],
-    b: &[u16],
-    x: &[u16],
-    y: &[u16],
-    answers: &mut [u8],
-    work: &mut [u32],
-) -> ReplayReply {
+pub(crate) fn replay(lent: ReplayTables<'_>) -> ReplayReply {
     // SAFETY: as in `contract`: pointers and lengths of whole slices, those that are written borrowed mutably.
     unsafe {
         lum_replay(
-            n,
-            m,
-            t,
-            p,
-            a.as_ptr(),
-            a.len(),
-            b.as_ptr(),
-            b.len(),
-            x.as_ptr(),
-            x.len(),
-            y.as_ptr(),
-            y.len(),
-            answers.as_mut_ptr(),
-            answers.len(),
-            work.as_mut_ptr(),
-            work.len(),
+            lent.n,
+            lent.m,
+            lent.t,
+            lent.p,
+            lent.a.as_ptr(),
+            lent.a.len(),
+            lent.b.as_ptr(),
+            lent.b.len(),
+            lent.x.as_ptr(),
+            lent.x.len(),
+            lent.y.as_ptr(),
+            lent.y.len(),
+            lent.answers.as_mut_ptr(),
+            lent.answers.len(),
+            lent.work.as_mut_ptr(),
+            lent.work.len(),
         )
     }
 }
