@@ -27,10 +27,25 @@ int main(int argc, char **argv)
         return 2;
     }
 
-    struct lum_replay_reply r = lum_replay(
-        JUNCTIONS, SEGMENTS, EVENTS, share,
-        a, SEGMENTS, b, SEGMENTS, x, EVENTS, y, EVENTS,
-        answers, EVENTS, work, sizeof work / sizeof work[0]);
+    struct lum_replay_lent lent = {
+        .n = JUNCTIONS,
+        .m = SEGMENTS,
+        .t = EVENTS,
+        .p = share,
+        .a = a,
+        .a_len = SEGMENTS,
+        .b = b,
+        .b_len = SEGMENTS,
+        .x = x,
+        .x_len = EVENTS,
+        .y = y,
+        .y_len = EVENTS,
+        .answers = answers,
+        .answers_len = EVENTS,
+        .work = work,
+        .work_len = sizeof work / sizeof work[0],
+    };
+    struct lum_replay_reply r = lum_replay(lent);
 
     if (r.code != LUM_ACCEPTED) {
         printf("refused %zu at %zu\n", r.code, r.place);

@@ -1,5 +1,5 @@
-//! The exported calls of the archive, with each slice as a pointer and a length. All unsafe code stands here.
-//! These declarations are those of version 2, [`crate::VERSION`]: whoever changes one changes both.
+//! The exported calls of the archive, each lent a struct of numbers and tables, a table as a pointer and a length. All unsafe code
+//! stands here. These declarations are those of version 2, [`crate::VERSION`]: whoever changes one changes both.
 #![allow(unsafe_code)]
 
 use crate::tables::{ContractTables, ReplayTables};
@@ -31,6 +31,62 @@ pub(crate) struct ReplayReply {
     pub kept: usize,
 }
 
+/// A table that is only read, as a pointer and a length.
+#[repr(C)]
+struct Read<T> {
+    pointer: *const T,
+    length: usize,
+}
+
+/// A table that may be written, as a pointer and a length.
+#[repr(C)]
+struct Written<T> {
+    pointer: *mut T,
+    length: usize,
+}
+
+fn read<T>(table: &[T]) -> Read<T> {
+    Read {
+        pointer: table.as_ptr(),
+        length: table.len(),
+    }
+}
+
+fn written<T>(table: &mut [T]) -> Written<T> {
+    Written {
+        pointer: table.as_mut_ptr(),
+        length: table.len(),
+    }
+}
+
+#[repr(C)]
+struct ContractLent {
+    n: usize,
+    m: usize,
+    k: usize,
+    from: Read<u16>,
+    to: Read<u16>,
+    active: Read<u16>,
+    map: Written<u16>,
+    out_from: Written<u16>,
+    out_to: Written<u16>,
+    work: Written<u32>,
+}
+
+#[repr(C)]
+struct ReplayLent {
+    n: usize,
+    m: usize,
+    t: usize,
+    p: usize,
+    a: Read<u16>,
+    b: Read<u16>,
+    x: Read<u16>,
+    y: Read<u16>,
+    answers: Written<u8>,
+    work: Written<u32>,
+}
+
 extern "C" {
     fn lum_version() -> u32;
 
@@ -38,44 +94,9 @@ extern "C" {
 
     fn lum_answers(table: *const u8, table_len: usize, t: usize) -> usize;
 
-    fn lum_contract(
-        n: usize,
-        m: usize,
-        k: usize,
-        from: *const u16,
-        from_len: usize,
-        to: *const u16,
-        to_len: usize,
-        active: *const u16,
-        active_len: usize,
-        map: *mut u16,
-        map_len: usize,
-        out_from: *mut u16,
-        out_from_len: usize,
-        out_to: *mut u16,
-        out_to_len: usize,
-        work: *mut u32,
-        work_len: usize,
-    ) -> ContractReply;
+    fn lum_contract(lent: ContractLent) -> ContractReply;
 
-    fn lum_replay(
-        n: usize,
-        m: usize,
-        t: usize,
-        p: usize,
-        a: *const u16,
-        a_len: usize,
-        b: *const u16,
-        b_len: usize,
-        x: *const u16,
-        x_len: usize,
-        y: *const u16,
-        y_len: usize,
-        answers: *mut u8,
-        answers_len: usize,
-        work: *mut u32,
-        work_len: usize,
-    ) -> ReplayReply;
+    fn lum_replay(lent: ReplayLent) -> ReplayReply;
 }
 
 pub(crate) fn version() -> u32 {
@@ -95,53 +116,38 @@ pub(crate) fn answers(table: &[u8], t: usize) -> usize {
 }
 
 pub(crate) fn contract(lent: ContractTables<'_>) -> ContractReply {
+    let lent = ContractLent {
+        n: lent.n,
+        m: lent.m,
+        k: lent.k,
+        from: read(lent.from),
+        to: read(lent.to),
+        active: read(lent.active),
+        map: written(lent.map),
+        out_from: written(lent.out_from),
+        out_to: written(lent.out_to),
+        work: written(lent.work),
+    };
     // SAFETY: each pointer and the length after it are those of one slice, also of an empty one, whose
     // pointer is non-null and aligned. The slices that are written are borrowed mutably, so they overlap
-    // no other and nobody else reads them. The call is proved to stay within the lengths, for all
-    // numbers and entries, and it keeps no pointer.
-    unsafe {
-        lum_contract(
-            lent.n,
-            lent.m,
-            lent.k,
-            lent.from.as_ptr(),
-            lent.from.len(),
-            lent.to.as_ptr(),
-            lent.to.len(),
-            lent.active.as_ptr(),
-            lent.active.len(),
-            lent.map.as_mut_ptr(),
-            lent.map.len(),
-            lent.out_from.as_mut_ptr(),
-            lent.out_from.len(),
-            lent.out_to.as_mut_ptr(),
-            lent.out_to.len(),
-            lent.work.as_mut_ptr(),
-            lent.work.len(),
-        )
-    }
+    // no other and nobody else reads them, until this function returns. The call is proved to stay within
+    // the lengths, for all numbers and entries, and it keeps no pointer.
+    unsafe { lum_contract(lent) }
 }
 
 pub(crate) fn replay(lent: ReplayTables<'_>) -> ReplayReply {
+    let lent = ReplayLent {
+        n: lent.n,
+        m: lent.m,
+        t: lent.t,
+        p: lent.p,
+        a: read(lent.a),
+        b: read(lent.b),
+        x: read(lent.x),
+        y: read(lent.y),
+        answers: written(lent.answers),
+        work: written(lent.work),
+    };
     // SAFETY: as in `contract`: pointers and lengths of whole slices, those that are written borrowed mutably.
-    unsafe {
-        lum_replay(
-            lent.n,
-            lent.m,
-            lent.t,
-            lent.p,
-            lent.a.as_ptr(),
-            lent.a.len(),
-            lent.b.as_ptr(),
-            lent.b.len(),
-            lent.x.as_ptr(),
-            lent.x.len(),
-            lent.y.as_ptr(),
-            lent.y.len(),
-            lent.answers.as_mut_ptr(),
-            lent.answers.len(),
-            lent.work.as_mut_ptr(),
-            lent.work.len(),
-        )
-    }
+    unsafe { lum_replay(lent) }
 }
