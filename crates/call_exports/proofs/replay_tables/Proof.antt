@@ -17,7 +17,7 @@ same-length-2 : tie.Need-same-length-2
 same-length-2 c = search needs
 
 returns : tie.Need-returns
-returns c = replay-done _ _ _ _ (c .before .before .before .before .before .before .before .replay .ensures) (c .before .reply .given .1)
+returns c = replay-done _ _ _ _ (c .before .before .before .before .before .before .before .replay .ensures .0) (c .before .reply .given .1)
 
 enum-known-reply-2 : tie.Need-enum-known-reply-2
 enum-known-reply-2 c = search needs
@@ -29,7 +29,7 @@ same-length-4 : tie.Need-same-length-4
 same-length-4 c = search needs
 
 returns-2 : tie.Need-returns-2
-returns-2 c = replay-refused _ _ _ _ (c .before .before .before .before .before .before .before .replay .ensures) (c .before .reply2 .given .1)
+returns-2 c = replay-refused _ _ _ _ (c .before .before .before .before .before .before .before .replay .ensures .0) (c .before .reply2 .given .1)
 
 pub replay-tables-spec : {M : Type 1} → statement M
 replay-tables-spec =

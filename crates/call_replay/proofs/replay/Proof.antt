@@ -28,12 +28,12 @@ calls = (
   clear-reads.Learnt,
 )
 
+returns : tie.Need-returns
+returns c = refused-is _ _ (c .before .before .check .ensures) (omega arith)
+
 -- the check has found nothing
 zero : (c : lts.Else1 calls reads.Pre reads.Post) → c .before .before .check .result .code ≡ 0
 zero c = omega arith
-
-returns : tie.Need-returns
-returns c = refused-is _ _ (c .before .before .check .ensures) (omega arith)
 
 required-requires : tie.Need-required-requires
 required-requires c κs = let g = grants (c .before .before .check .ensures) (zero c) in (g .t-fits, g .n-fits)
