@@ -11,7 +11,7 @@ use borrow.Rule.Slice.PartMut.{putMid, same-len-mid, take-put}
 use Rattle.core_loading.proofs.LoadingLaws.{entered-most}
 use Rattle.core_reduce.specs.Core.{Loaded, Reduced, activeIn, edgesIn, edgesOut}
 use Rattle.core_reduce.specs.declared.Counts.{Counts}
-use Rattle.core_words.specs.Fields.{half, node}
+use Rattle.core_words.specs.Fields.{ACTIVE, LOWER, MAPPED, UPPER, half, node}
 use Rattle.theory_graph.proofs.ActiveLists.{in-firsts, small-repeats}
 use Rattle.theory_graph.proofs.EdgeCount.{firsts-most, mostNodes-double, small-edges-most}
 use Rattle.theory_graph.proofs.Lists.{table-length, table-mem}
@@ -38,7 +38,7 @@ length-edges f i (suc m) = ap suc (length-edges f (suc i) m)
 
 module _ {n m k : ℕ} {w z : List ℕ} {h e : ℕ} (q : Reduced n m k w z h e) where
   reduced-low : e ≤ n
-  reduced-low = omega (arith, small-edges-most _ _ _ _ _ _ (definition-small _ _ _ _ _ _ (q .small)), length-edges (λ j. (node 4 z j, node 5 z j)) 0 e, q .less)
+  reduced-low = omega (arith, small-edges-most _ _ _ _ _ _ (definition-small _ _ _ _ _ _ (q .small)), length-edges (λ j. (node LOWER z j, node UPPER z j)) 0 e, q .less)
 
   reduced-few : (T : List ℕ) → activeIn k w ≡ firsts eqb T → e ≤ 2 * length T
   reduced-few T r =
@@ -46,7 +46,7 @@ module _ {n m k : ℕ} {w z : List ℕ} {h e : ℕ} (q : Reduced n m k w z h e) 
       omega (
         arith,
         small-edges-most _ _ _ _ _ _ g,
-        length-edges (λ j. (node 4 z j, node 5 z j)) 0 e,
+        length-edges (λ j. (node LOWER z j, node UPPER z j)) 0 e,
         small-bound _ _ _ _ _ _ g,
         mostNodes-double (length (firsts eqb (activeIn k w))),
         firsts-most eqb (activeIn k w),
@@ -126,27 +126,27 @@ module _ {p : Part} {l : Graph} {w : List ℕ} (q : MakeReady p l w) where
     pub fields-need : (z : List ℕ) → length z ≡ length w → (A + 5 * c + r .edges ≤ s) × (A + 9 * c + r .edges ≤ s) × (s + 16 * r .edges ≤ length z)
     fields-need z e = (omega (arith, few-out), omega (arith, few-out), omega (arith, q .room, reduced-low K))
 
-    module _ {w₂ w₃ w₄ w₅ : List ℕ} (e₂ : w₂ ≡ sets w₁ A (map (node 0 (drop s w₁)) (take (2 * c) (drop (p .places) w₁))))
-        (e₃ : w₃ ≡ sets w₂ (A + 2 * c) (take (3 * c) (drop (p .words) w₂))) (e₄ : w₄ ≡ sets w₃ (A + 5 * c) (table (node 4 (drop s w₃)) 0 (r .edges)))
-        (e₅ : w₅ ≡ sets w₄ (A + 9 * c) (table (node 5 (drop s w₄)) 0 (r .edges))) where
+    module _ {w₂ w₃ w₄ w₅ : List ℕ} (e₂ : w₂ ≡ sets w₁ A (map (node MAPPED (drop s w₁)) (take (2 * c) (drop (p .places) w₁))))
+        (e₃ : w₃ ≡ sets w₂ (A + 2 * c) (take (3 * c) (drop (p .words) w₂))) (e₄ : w₄ ≡ sets w₃ (A + 5 * c) (table (node LOWER (drop s w₃)) 0 (r .edges)))
+        (e₅ : w₅ ≡ sets w₄ (A + 9 * c) (table (node UPPER (drop s w₄)) 0 (r .edges))) where
       abbrev e : ℕ
       e = r .edges
 
       -- what is written, run by run
       abbrev M : List ℕ
-      M = map (node 0 (drop s w₁)) (take (2 * c) (drop (p .places) w₁))
+      M = map (node MAPPED (drop s w₁)) (take (2 * c) (drop (p .places) w₁))
 
       abbrev W : List ℕ
       W = take (3 * c) (drop (p .words) w₂)
 
       abbrev X : List ℕ
-      X = table (node 4 (drop s w₃)) 0 e
+      X = table (node LOWER (drop s w₃)) 0 e
 
       abbrev Y : List ℕ
-      Y = table (node 5 (drop s w₄)) 0 e
+      Y = table (node UPPER (drop s w₄)) 0 e
 
       length-M : length M ≡ 2 * c
-      length-M = length-map (take (2 * c) (drop (p .places) w₁)) (node 0 (drop s w₁)) ∙ ap length T-1 ∙ length-T
+      length-M = length-map (take (2 * c) (drop (p .places) w₁)) (node MAPPED (drop s w₁)) ∙ ap length T-1 ∙ length-T
 
       length-2 : length w₂ ≡ length w
       length-2 = ap length e₂ ∙ length-sets w₁ A M ∙ length-1
@@ -158,13 +158,13 @@ module _ {p : Part} {l : Graph} {w : List ℕ} (q : MakeReady p l w) where
       length-3 = ap length e₃ ∙ length-sets w₂ (A + 2 * c) W ∙ length-2
 
       length-X : length X ≡ e
-      length-X = table-length (node 4 (drop s w₃)) 0 e
+      length-X = table-length (node LOWER (drop s w₃)) 0 e
 
       length-4 : length w₄ ≡ length w
       length-4 = ap length e₄ ∙ length-sets w₃ (A + 5 * c) X ∙ length-3
 
       length-Y : length Y ≡ e
-      length-Y = table-length (node 5 (drop s w₄)) 0 e
+      length-Y = table-length (node UPPER (drop s w₄)) 0 e
 
       pub length-5 : length w₅ ≡ length w
       length-5 = ap length e₅ ∙ length-sets w₄ (A + 9 * c) Y ∙ length-4
@@ -195,12 +195,12 @@ module _ {p : Part} {l : Graph} {w : List ℕ} (q : MakeReady p l w) where
       back-3 : (i j : ℕ) → i + j ≤ A + 2 * c → take j (drop i w₃) ≡ take j (drop i w₂)
       back-3 i j h = ap (λ l. take j (drop i l)) e₃ ∙ mid-before W w₂ (A + 2 * c) i j h (omega (arith, length-2, q .room))
 
-      places : take (2 * c) z ≡ map (node 0 zs) T
+      places : take (2 * c) z ≡ map (node MAPPED zs) T
       places =
           take-take (2 * c) (13 * c) (drop A w₅) (omega arith)
           ∙ back-5 A (2 * c) (omega arith) ∙ back-4 A (2 * c) (omega arith) ∙ back-3 A (2 * c) (omega arith)
           ∙ ap (λ l. take (2 * c) (drop A l)) e₂ ∙ ap (λ j. take j (drop A (sets w₁ A M))) (sym length-M) ∙ mid-sets M w₁ A (omega (arith, length-M, length-1, q .room))
-          ∙ ap₂ (λ f l. map (node 0 f) l) behind-1 T-1
+          ∙ ap₂ (λ f l. map (node MAPPED f) l) behind-1 T-1
 
       words : take (3 * c) (drop (2 * c) z) ≡ take (3 * c) (drop (p .words) w)
       words =
@@ -211,25 +211,25 @@ module _ {p : Part} {l : Graph} {w : List ℕ} (q : MakeReady p l w) where
           ∙ ap (λ l. take (3 * c) (drop (p .words) l)) e₂ ∙ mid-before M w₁ A (p .words) (3 * c) (q .words) (omega (arith, length-1, q .room, q .words))
           ∙ mid-less (p .words) (3 * c) s w w₁ (omega (arith, q .words)) (omega (arith, length-1, q .room, q .words)) (omega (arith, q .room, q .words)) front-1
 
-      lows : take e (drop (5 * c) z) ≡ table (node 4 zs) 0 e
+      lows : take e (drop (5 * c) z) ≡ table (node LOWER zs) 0 e
       lows =
           at-z (5 * c) e (omega (arith, few-out)) ∙ back-5 (A + 5 * c) e (omega (arith, few-out))
           ∙ ap (λ l. take e (drop (A + 5 * c) l)) e₄ ∙ ap (λ j. take j (drop (A + 5 * c) (sets w₃ (A + 5 * c) X))) (sym length-X)
-          ∙ mid-sets X w₃ (A + 5 * c) (omega (arith, length-X, few-out, length-3, q .room)) ∙ ap (λ l. table (node 4 l) 0 e) behind-3
+          ∙ mid-sets X w₃ (A + 5 * c) (omega (arith, length-X, few-out, length-3, q .room)) ∙ ap (λ l. table (node LOWER l) 0 e) behind-3
 
-      highs : take e (drop (9 * c) z) ≡ table (node 5 zs) 0 e
+      highs : take e (drop (9 * c) z) ≡ table (node UPPER zs) 0 e
       highs =
           at-z (9 * c) e (omega (arith, few-out))
           ∙ ap (λ l. take e (drop (A + 9 * c) l)) e₅ ∙ ap (λ j. take j (drop (A + 9 * c) (sets w₄ (A + 9 * c) Y))) (sym length-Y)
-          ∙ mid-sets Y w₄ (A + 9 * c) (omega (arith, length-Y, few-out, length-4, q .room)) ∙ ap (λ l. table (node 5 l) 0 e) behind-4
+          ∙ mid-sets Y w₄ (A + 9 * c) (omega (arith, length-Y, few-out, length-4, q .room)) ∙ ap (λ l. table (node UPPER l) 0 e) behind-4
 
       edges-z : areaEdges c e z ≡ edgesOut e zs
-      edges-z = ap₂ pairs lows highs ∙ pairs-table (node 4 zs) (node 5 zs) 0 e
+      edges-z = ap₂ pairs lows highs ∙ pairs-table (node LOWER zs) (node UPPER zs) 0 e
 
-      numbers : (t : ℕ) → List·Memᴰ t T → node 0 zs t ≡ K .σ t
+      numbers : (t : ℕ) → List·Memᴰ t T → node MAPPED zs t ≡ K .σ t
       numbers t m =
-          let (j, b, x) = table-mem (node 1 L) 0 (l .active) t (subst (λ (S : List ℕ). List·Memᴰ t S) (sym list-L) (in-firsts T t m)) in
-          ap (node 0 zs) x ∙ K .numbers j (omega arith) ∙ ap (K .σ) (sym x)
+          let (j, b, x) = table-mem (node ACTIVE L) 0 (l .active) t (subst (λ (S : List ℕ). List·Memᴰ t S) (sym list-L) (in-firsts T t m)) in
+          ap (node MAPPED zs) x ∙ K .numbers j (omega arith) ∙ ap (K .σ) (sym x)
 
       graph-z : SmallGraph (edgesIn (l .nodes) (l .edges) (drop s w)) T (r .nodes) (areaEdges c e z) (K .ρ) (K .σ)
       graph-z =
@@ -250,6 +250,6 @@ module _ {p : Part} {l : Graph} {w : List ℕ} (q : MakeReady p l w) where
         ρ = K .ρ;
         σ = K .σ;
         small = small-definition _ _ _ _ _ _ graph-z;
-        places = places ∙ map-ext (node 0 zs) (K .σ) T numbers;
+        places = places ∙ map-ext (node MAPPED zs) (K .σ) T numbers;
         words = words;
       }

@@ -22,11 +22,11 @@ use Rattle.replay_step.proofs.WordLaws.{drop-back, front-get, take-whol
 use Rattle.replay_step.specs.Area.{areaEdges}
 use Rattle.core_loading.specs.Loading.{PutEdge}
 use Rattle.replay_step.specs.Load.{Copied, EdgesReady, Edged}
-use Rattle.core_words.specs.Fields.{half, node}
+use Rattle.core_words.specs.Fields.{TO, half, node}
 
 -- the first j edges, and the edge behind them
-edges-ext : (n j i : ℕ) (w z : List ℕ) → ((h : ℕ) → h < 2 * (i + j) → half n 0 z h ≡ half n 0 w h)
-    → table {A = Edge} (λ e. (half n 0 z (2 * e), half n 0 z (2 * e + 1))) i j ≡ table {A = Edge} (λ e. (half n 0 w (2 * e), half n 0 w (2 * e + 1))) i j
+edges-ext : (n j i : ℕ) (w z : List ℕ) → ((h : ℕ) → h < 2 * (i + j) → half n TO z h ≡ half n TO w h)
+    → table {A = Edge} (λ e. (half n TO z (2 * e), half n TO z (2 * e + 1))) i j ≡ table {A = Edge} (λ e. (half n TO w (2 * e), half n TO w (2 * e + 1))) i j
 edges-ext n zero i w z k = refl
 edges-ext n (suc j) i w z k = ap₂ _∷_ (ap₂ (λ a b. (a, b)) (k (2 * i) (omega arith)) (k (2 * i + 1) (omega arith))) (edges-ext n j (suc i) w z (λ h l. k h (omega arith)))
 
@@ -52,22 +52,22 @@ module _ {s n j a b : ℕ} {w z zs : List ℕ} (k : Edged s n j w z) (p : PutEdg
         ends = λ h u. rw behind (end h u);
       }
     where
-      end : (h : ℕ) → h < 2 * (j + 1) → half n 0 zs h < n
+      end : (h : ℕ) → h < 2 * (j + 1) → half n TO zs h < n
       end h u =
           onBool (eqb h (2 * j)) (λ t. rw (eqb-true h (2 * j) t, p .first) la) (λ t.
           onBool (eqb h (2 * j + 1)) (λ r. rw (eqb-true h (2 * j + 1) r, p .second) lb) (λ r.
           let n1 : ¬ (h ≡ 2 * j) = eqb-false h (2 * j) t in
           let n2 : ¬ (h ≡ 2 * j + 1) = eqb-false h (2 * j + 1) r in
           let q : h < 2 * j = omega arith in
-          rw (p .else h q ∙ ap (λ y. half n 0 y h) (take-whole s z)) (k .ends h q)))
+          rw (p .else h q ∙ ap (λ y. half n TO y h) (take-whole s z)) (k .ends h q)))
 
   pub edges-more : (U : NodeSet) → cut U (edgesIn n (j + 1) (drop s back)) ≡ crosses (U a) (U b) + cut U (edgesIn n j (drop s z))
   edges-more U =
       let y : 0 + j ≡ j = omega arith in
       ap₂ (λ y m. cut U (edgesIn n m y)) behind (add-one j)
-      ∙ edges-suc U (λ e. (half n 0 zs (2 * e), half n 0 zs (2 * e + 1))) 0 j
-      ∙ ap (λ (k : ℕ). crosses (U (half n 0 zs (2 * k))) (U (half n 0 zs (2 * k + 1))) + cut U (edgesIn n j zs)) y
-      ∙ ap₂ _+_ (ap₂ (λ x y. crosses (U x) (U y)) (p .first) (p .second)) (ap (cut U) (edges-ext n j 0 (drop s z) zs (λ h u. p .else h (omega arith) ∙ ap (λ y. half n 0 y h) (take-whole s z))))
+      ∙ edges-suc U (λ e. (half n TO zs (2 * e), half n TO zs (2 * e + 1))) 0 j
+      ∙ ap (λ (k : ℕ). crosses (U (half n TO zs (2 * k))) (U (half n TO zs (2 * k + 1))) + cut U (edgesIn n j zs)) y
+      ∙ ap₂ _+_ (ap₂ (λ x y. crosses (U x) (U y)) (p .first) (p .second)) (ap (cut U) (edges-ext n j 0 (drop s z) zs (λ h u. p .else h (omega arith) ∙ ap (λ y. half n TO y h) (take-whole s z))))
 
 -- ---- the copied edges
 pairs-snoc : (a b : List ℕ) (x y : ℕ) → length a ≡ length b → pairs (a ++ (x ∷ [])) (b ++ (y ∷ [])) ≡ pairs a b ++ ((x, y) ∷ [])

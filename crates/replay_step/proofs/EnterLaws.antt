@@ -12,14 +12,14 @@ use Rattle.replay_step.proofs.WordLaws.{drop-back, front-get, mid-less,
 use Rattle.core_loading.proofs.LoadingLaws.{entered-none}
 use Rattle.core_loading.specs.Loading.{Cleared, Entered, Entering, Unmarked}
 use Rattle.replay_step.specs.Load.{ActiveReady, Actives}
-use Rattle.core_words.specs.Fields.{node}
+use Rattle.core_words.specs.Fields.{ACTIVE, MARK, node}
 
 -- ---- the loop: i words so far
 pub record EnteredSoFar (from count s n : ℕ) (w z : List ℕ) (k i : ℕ) : Type 0 where
   pub low : i ≤ count
   pub long : length z ≡ length w
   pub front : take s z ≡ take s w
-  pub entered : Entered n (take i (drop from w)) k (node 0 (drop s z)) (node 1 (drop s z))
+  pub entered : Entered n (take i (drop from w)) k (node MARK (drop s z)) (node ACTIVE (drop s z))
 
 abbrev pub Needs : ℕ → ℕ → ℕ → ℕ → List ℕ → Type 0
 Needs from count s n w = ActiveReady from count s n w × Unmarked n (drop s w)
@@ -30,7 +30,7 @@ entering-none from count s n w q =
       low = omega arith;
       long = refl;
       front = refl;
-      entered = entered-none (node 0 (drop s w)) (node 1 (drop s w)) (q .1);
+      entered = entered-none (node MARK (drop s w)) (node ACTIVE (drop s w)) (q .1);
     }
 
 module _ {from count s n k i : ℕ} {w z : List ℕ} (q : Needs from count s n w) (e : EnteredSoFar from count s n w z k i) (l : i < count) where
@@ -38,7 +38,7 @@ module _ {from count s n k i : ℕ} {w z : List ℕ} (q : Needs from count s n w
   reads = front-get s (from + i) w z (e .front) (omega (arith, q .0 .front))
 
   pub entering-need : (n ≤ 65536) × (16 * n ≤ length (take (length z - s) (drop s z))) × (getD z (from + i) 0 < n)
-      × ((T : List ℕ) × Entered n T k (node 0 (take (length z - s) (drop s z))) (node 1 (take (length z - s) (drop s z))))
+      × ((T : List ℕ) × Entered n T k (node MARK (take (length z - s) (drop s z))) (node ACTIVE (take (length z - s) (drop s z))))
   entering-need =
       (q .0 .many, rw (length-take, length-drop) (omega (arith, q .0 .room, e .long)), rw reads (q .0 .nodes i l), (take i (drop from w), rw take-whole (e .entered)))
 

@@ -12,7 +12,7 @@ use borrow.Author.Tests.{ltb-true}
 use Rattle.core_loading.proofs.LoadingLaws.{entered-most}
 use Rattle.core_loading.specs.Loading.{Entered}
 use Rattle.core_reduce.specs.Core.{edgesIn}
-use Rattle.core_words.specs.Fields.{half, node}
+use Rattle.core_words.specs.Fields.{ACTIVE, MARK, TO, half, node}
 use Rattle.theory_graph.proofs.CutEquivalence.{small-cuts-equal}
 use Rattle.theory_graph.proofs.Cuts.{cut-append, cut-image}
 use Rattle.theory_graph.proofs.Ends.{endsIn-at}
@@ -164,7 +164,7 @@ module _ {w : Window} {p : Part} {v : List ℕ} (st : StepReady w (p .at) (p .ev
     );
   }
 
-  pub events-need : (i j m : ℕ) (z : List ℕ) → i ≤ j → j ≤ n → m ≤ w .edges + i → take s z ≡ take s v → length z ≡ length v → ((h : ℕ) → h < 2 * m → half (w .nodes) 0 (drop s z) h < w .nodes)
+  pub events-need : (i j m : ℕ) (z : List ℕ) → i ≤ j → j ≤ n → m ≤ w .edges + i → take s z ≡ take s v → length z ≡ length v → ((h : ℕ) → h < 2 * m → half (w .nodes) TO (drop s z) h < w .nodes)
       → AddReady w p i j m z × (p .at + p .events ≤ 4096)
   events-need i j m z a b l f e h = (
     record {
@@ -217,7 +217,7 @@ module _ {w : Window} {p : Part} {v : List ℕ} (st : StepReady w (p .at) (p .ev
         few = omega (arith, C .most, D .most, st .area .few, st .much, st .starts, st .ends);
         nodes = λ i l. omega (arith, active-need .nodes i l, front-get s (p .places + i) v w₄ front-4 (omega (arith, active-need .front)));
         entered = rw (mid-less (p .places) (2 * p .events) s v w₄ (omega (arith, active-need .front)) (omega (arith, active-need .front, st .room, C .long, D .long, scratch-is)) (omega (arith, active-need .front, st .room, scratch-is)) front-4)
-            (entered-same (A₁ .entered) (fields 0 (omega arith)) (fields 1 (omega arith)));
+            (entered-same (A₁ .entered) (fields MARK (omega arith)) (fields ACTIVE (omega arith)));
         ends = D .edged .ends;
       };
       edges = λ U.

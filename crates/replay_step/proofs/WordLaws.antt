@@ -11,7 +11,7 @@ use borrow.Rule.Slice.PartMut.{putMid}
 use Rattle.theory_graph.proofs.Lists.{table-length}
 use Rattle.theory_graph.proofs.TableLaws.{sets-append}
 use Rattle.theory_graph.specs.Lists.{table}
-use Rattle.core_words.specs.Fields.{node}
+use Rattle.core_words.specs.Fields.{MAPPED, node}
 
 pub table-append : (f : ℕ → ℕ) (i m n : ℕ) → table f i (m + n) ≡ table f i m ++ table f (i + m) n
 table-append f i zero n = let a : 0 + n ≡ n = omega arith in let b : i + 0 ≡ i = omega arith in rw (a, b) refl
@@ -88,10 +88,10 @@ map-table g w range count h = let z : range ≡ range + 0 = omega arith in ap (�
         let z : suc (range + i) ≡ range + suc i = omega arith in
         ap (λ l. map g (take (suc k) l)) (drop-cons w (range + i) 0 (omega arith)) ∙ ap (λ l. g (getD w (range + i) 0) ∷ l) (ap (λ j. map g (take k (drop j w))) z ∙ go k (suc i) (omega arith))
 
-pub map-step : (l w : List ℕ) (s q range i : ℕ) → w ≡ sets l q (table (λ j. node 0 (drop s l) (getD l (range + j) 0)) 0 i) → q + i ≤ s → range + i < q
-    → (getD w (range + i) 0 ≡ getD l (range + i) 0) × (set w (q + i) (getD w (s + 16 * getD w (range + i) 0) 0) ≡ sets l q (table (λ j. node 0 (drop s l) (getD l (range + j) 0)) 0 (i + 1)))
+pub map-step : (l w : List ℕ) (s q range i : ℕ) → w ≡ sets l q (table (λ j. node MAPPED (drop s l) (getD l (range + j) 0)) 0 i) → q + i ≤ s → range + i < q
+    → (getD w (range + i) 0 ≡ getD l (range + i) 0) × (set w (q + i) (getD w (s + 16 * getD w (range + i) 0) 0) ≡ sets l q (table (λ j. node MAPPED (drop s l) (getD l (range + j) 0)) 0 (i + 1)))
 map-step l w s q range i e h b =
-    let f : ℕ → ℕ = λ j. node 0 (drop s l) (getD l (range + j) 0) in
+    let f : ℕ → ℕ = λ j. node MAPPED (drop s l) (getD l (range + j) 0) in
     let g : getD w (range + i) 0 ≡ getD l (range + i) 0 = ap (λ v. getD v (range + i) 0) e ∙ getD-sets-before (table f 0 i) l q (range + i) b in
     let z : s + 16 * getD l (range + i) 0 ≡ s + 16 * getD l (range + i) 0 + 0 = omega arith in (
       g,

@@ -8,7 +8,7 @@ use mathlib.Core.Path.{_≡_}
 use lib.ListN.{drop, getD, length, take}
 use Rattle.core_loading.specs.Loading.{Entered}
 use Rattle.core_reduce.specs.Core.{edgesIn}
-use Rattle.core_words.specs.Fields.{half, node}
+use Rattle.core_words.specs.Fields.{ACTIVE, MARK, TO, half, node}
 use Rattle.theory_graph.specs.Cut.{cut}
 use Rattle.theory_graph.specs.Graph.{Edge, NodeSet}
 use Rattle.theory_graph.specs.SmallGraph.{IsSmallGraph}
@@ -33,7 +33,7 @@ pub record ActiveReady (from count s n : ℕ) (w : List ℕ) : Type 0 where
 -- those at the `count` words from `from` on are entered
 pub record Actives (from count s n : ℕ) (w z : List ℕ) (k : ℕ) : Type 0 where
   pub front : take s z ≡ take s w
-  pub entered : Entered n (take count (drop from w)) k (node 0 (drop s z)) (node 1 (drop s z))
+  pub entered : Entered n (take count (drop from w)) k (node MARK (drop s z)) (node ACTIVE (drop s z))
 
 -- ---- edges
 -- the m edges of an area of e events, before s, join nodes below n
@@ -49,7 +49,7 @@ pub record EdgesReady (e m s n : ℕ) (w : List ℕ) : Type 0 where
 pub record Edged (s n m : ℕ) (w z : List ℕ) : Type 0 where
   pub front : take s z ≡ take s w
   pub nodes : (j : ℕ) → j < 16 → (v : ℕ) → v < n → node j (drop s z) v ≡ node j (drop s w) v
-  pub ends : (h : ℕ) → h < 2 * m → half n 0 (drop s z) h < n
+  pub ends : (h : ℕ) → h < 2 * m → half n TO (drop s z) h < n
 
 -- those of an area of e events
 pub record Copied (e m s n : ℕ) (w z : List ℕ) : Type 0 where
@@ -74,7 +74,7 @@ pub record AddReady (w : Window) (p : Part) (i j m : ℕ) (v : List ℕ) : Type 
   pub few : m + (j - i) ≤ 32768
   pub many : w .nodes ≤ 65536
   pub nodes : (k : ℕ) → k < 2 * w .events → getD v k 0 < w .nodes
-  pub ends : (h : ℕ) → h < 2 * m → half (w .nodes) 0 (drop (scratch p) v) h < w .nodes
+  pub ends : (h : ℕ) → h < 2 * m → half (w .nodes) TO (drop (scratch p) v) h < w .nodes
 
 pub record Added (w : Window) (p : Part) (i j m : ℕ) (v z : List ℕ) (r : ℕ) : Type 0 where
   pub long : length z ≡ length v
@@ -92,8 +92,8 @@ pub record MakeReady (p : Part) (l : Graph) (w : List ℕ) : Type 0 where
   pub many : l .nodes ≤ 65536
   pub few : l .edges ≤ 32768
   pub nodes : (i : ℕ) → i < 2 * p .events → getD w (p .places + i) 0 < l .nodes
-  pub entered : Entered (l .nodes) (take (2 * p .events) (drop (p .places) w)) (l .active) (node 0 (drop (scratch p) w)) (node 1 (drop (scratch p) w))
-  pub ends : (h : ℕ) → h < 2 * l .edges → half (l .nodes) 0 (drop (scratch p) w) h < l .nodes
+  pub entered : Entered (l .nodes) (take (2 * p .events) (drop (p .places) w)) (l .active) (node MARK (drop (scratch p) w)) (node ACTIVE (drop (scratch p) w))
+  pub ends : (h : ℕ) → h < 2 * l .edges → half (l .nodes) TO (drop (scratch p) w) h < l .nodes
 
 -- It is contracted, and stands in the part's area with the part's events; before the area nothing changes.
 pub record AreaMade (p : Part) (l : Graph) (w z : List ℕ) (r : Window) : Type 0 where

@@ -5,13 +5,13 @@ ghost use Prim.Native.Nat.{ℕ, _+_, _*_, _<_, _≤_};
 ghost use lib.ListN.{length, getD, take, drop};
 ghost use lib.Seq.{sets};
 ghost use Rattle.theory_graph.specs.Lists.{table};
-ghost use Rattle.core_words.specs.Fields.{node};
+ghost use Rattle.core_words.specs.Fields.{MAPPED, node};
 ghost use Rattle.replay_step.specs.Load.{AreaMade, MakeReady};
 
 // Writes the new numbers of the nodes at the `count` words from `from` on, at q.
 pub(crate) fn put_map(work: &mut [u32], from: usize, count: usize, s: usize, q: usize, n: usize)
     requires { ⌜ (from + count ≤ q) × (q + count ≤ s) × (s + 16 * n ≤ length (now work)) × ((i : ℕ) → i < count → getD (now work) (from + i) 0 < n) ⌝ }
-    ensures { λ _. ⌜ now (work .exit) ≡ sets (now (work .entry)) q (map (node 0 (drop s (now (work .entry)))) (take count (drop from (now (work .entry))))) ⌝ }
+    ensures { λ _. ⌜ now (work .exit) ≡ sets (now (work .entry)) q (map (node MAPPED (drop s (now (work .entry)))) (take count (drop from (now (work .entry))))) ⌝ }
 {
     let mut i: usize = 0;
     // The first i numbers are written; before and behind them nothing has changed.
@@ -63,8 +63,8 @@ pub(crate) fn make_area(part: crate::Part, l: crate::Graph, work: &mut [u32]) ->
     let r = core_reduce::reduce(&mut work[s..], n, l.edges, l.active);
     put_map(work, part.places, 2 * c, s, q, n);
     copy_words(work, part.words, 3 * c, q + 2 * c);
-    put_field(work, r.edges, 4, s, q + 5 * c);
-    put_field(work, r.edges, 5, s, q + 9 * c);
+    put_field(work, r.edges, core_words::LOWER, s, q + 5 * c);
+    put_field(work, r.edges, core_words::UPPER, s, q + 9 * c);
     crate::Window {
         at: part.at,
         events: c,

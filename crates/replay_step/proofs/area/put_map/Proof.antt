@@ -7,11 +7,11 @@ use native.Mathlib.Omega.{arith}
 use Rattle.theory_graph.specs.Lists.{table}
 use Rattle.replay_step.proofs.WordLaws.{fill-length, map-step, map-table}
 use Rattle.replay_step.proofs.area.put_map.Statement.{statement}
-use Rattle.core_words.specs.Fields.{node}
+use Rattle.core_words.specs.Fields.{MAPPED, node}
 use Rattle.replay_step.proofs.area.put_map.Tie as tie
 
 abbrev Inv-loop : tie.InvT-loop
-Inv-loop work₀ from count s q n i₀ work i = (i ≤ count) × (work ≡ sets work₀ q (table (λ k. node 0 (drop s work₀) (getD work₀ (from + k) 0)) 0 i))
+Inv-loop work₀ from count s q n i₀ work i = (i ≤ count) × (work ≡ sets work₀ q (table (λ k. node MAPPED (drop s work₀) (getD work₀ (from + k) 0)) 0 i))
 
 abbrev μ-loop : tie.MeasureT-loop
 μ-loop work₀ from count s q n i₀ work i = count - i
@@ -26,7 +26,7 @@ mul-v : tie.Need-mul-v Inv-loop μ-loop
 mul-v c = omega arith
 
 slice-read-v : tie.Need-slice-read-v Inv-loop μ-loop
-slice-read-v c = omega (arith, fill-length (c .before .before .before .args .work .now) (c .before .before .before .args .q) (table (λ k. node 0 (drop (c .before .before .before .args .s) (c .before .before .before .args .work .now)) (getD (c .before .before .before .args .work .now) (c .before .before .before .args .from + k) 0)) 0 (c .before .before .loop .i)) (c .before .before .loop .inv .1))
+slice-read-v c = omega (arith, fill-length (c .before .before .before .args .work .now) (c .before .before .before .args .q) (table (λ k. node MAPPED (drop (c .before .before .before .args .s) (c .before .before .before .args .work .now)) (getD (c .before .before .before .args .work .now) (c .before .before .before .args .from + k) 0)) 0 (c .before .before .loop .i)) (c .before .before .loop .inv .1))
 
 cast-v : tie.Need-cast-v Inv-loop μ-loop
 cast-v c = omega (arith, map-step (c .before .before .before .args .work .now) (c .before .before .loop .work) (c .before .before .before .args .s) (c .before .before .before .args .q) (c .before .before .before .args .from) (c .before .before .loop .i) (c .before .before .loop .inv .1) (omega arith) (omega arith) .0, c .before .before .before .pre .3 (c .before .before .loop .i) (omega arith))
@@ -41,7 +41,7 @@ mul-x-2 : tie.Need-mul-x-2 Inv-loop μ-loop
 mul-x-2 c = omega (arith, map-step (c .before .before .before .args .work .now) (c .before .before .loop .work) (c .before .before .before .args .s) (c .before .before .before .args .q) (c .before .before .before .args .from) (c .before .before .loop .i) (c .before .before .loop .inv .1) (omega arith) (omega arith) .0, c .before .before .before .pre .3 (c .before .before .loop .i) (omega arith))
 
 slice-read-x : tie.Need-slice-read-x Inv-loop μ-loop
-slice-read-x c = omega (arith, map-step (c .before .before .before .before .args .work .now) (c .before .before .before .loop .work) (c .before .before .before .before .args .s) (c .before .before .before .before .args .q) (c .before .before .before .before .args .from) (c .before .before .before .loop .i) (c .before .before .before .loop .inv .1) (omega arith) (omega arith) .0, c .before .before .before .before .pre .3 (c .before .before .before .loop .i) (omega arith), fill-length (c .before .before .before .before .args .work .now) (c .before .before .before .before .args .q) (table (λ k. node 0 (drop (c .before .before .before .before .args .s) (c .before .before .before .before .args .work .now)) (getD (c .before .before .before .before .args .work .now) (c .before .before .before .before .args .from + k) 0)) 0 (c .before .before .before .loop .i)) (c .before .before .before .loop .inv .1))
+slice-read-x c = omega (arith, map-step (c .before .before .before .before .args .work .now) (c .before .before .before .loop .work) (c .before .before .before .before .args .s) (c .before .before .before .before .args .q) (c .before .before .before .before .args .from) (c .before .before .before .loop .i) (c .before .before .before .loop .inv .1) (omega arith) (omega arith) .0, c .before .before .before .before .pre .3 (c .before .before .before .loop .i) (omega arith), fill-length (c .before .before .before .before .args .work .now) (c .before .before .before .before .args .q) (table (λ k. node MAPPED (drop (c .before .before .before .before .args .s) (c .before .before .before .before .args .work .now)) (getD (c .before .before .before .before .args .work .now) (c .before .before .before .before .args .from + k) 0)) 0 (c .before .before .before .loop .i)) (c .before .before .before .loop .inv .1))
 
 add-work : tie.Need-add-work Inv-loop μ-loop
 add-work c = omega arith
@@ -50,7 +50,7 @@ mul-work : tie.Need-mul-work Inv-loop μ-loop
 mul-work c = omega arith
 
 slice-write-work : tie.Need-slice-write-work Inv-loop μ-loop
-slice-write-work c = omega (arith, fill-length (c .before .before .before .before .args .work .now) (c .before .before .before .before .args .q) (table (λ k. node 0 (drop (c .before .before .before .before .args .s) (c .before .before .before .before .args .work .now)) (getD (c .before .before .before .before .args .work .now) (c .before .before .before .before .args .from + k) 0)) 0 (c .before .before .before .loop .i)) (c .before .before .before .loop .inv .1))
+slice-write-work c = omega (arith, fill-length (c .before .before .before .before .args .work .now) (c .before .before .before .before .args .q) (table (λ k. node MAPPED (drop (c .before .before .before .before .args .s) (c .before .before .before .before .args .work .now)) (getD (c .before .before .before .before .args .work .now) (c .before .before .before .before .args .from + k) 0)) 0 (c .before .before .before .loop .i)) (c .before .before .before .loop .inv .1))
 
 add-i : tie.Need-add-i Inv-loop μ-loop
 add-i c = omega arith
@@ -62,10 +62,10 @@ loop-again : tie.Need-loop-again Inv-loop μ-loop
 loop-again c = (omega arith, map-step (c .before .before .before .before .args .work .now) (c .before .before .before .loop .work) (c .before .before .before .before .args .s) (c .before .before .before .before .args .q) (c .before .before .before .before .args .from) (c .before .before .before .loop .i) (c .before .before .before .loop .inv .1) (omega arith) (omega arith) .1)
 
 same-length : tie.Need-same-length Inv-loop μ-loop
-same-length c = fill-length (c .before .before .args .work .now) (c .before .before .args .q) (table (λ k. node 0 (drop (c .before .before .args .s) (c .before .before .args .work .now)) (getD (c .before .before .args .work .now) (c .before .before .args .from + k) 0)) 0 (c .before .loop .i)) (c .before .loop .inv .1)
+same-length c = fill-length (c .before .before .args .work .now) (c .before .before .args .q) (table (λ k. node MAPPED (drop (c .before .before .args .s) (c .before .before .args .work .now)) (getD (c .before .before .args .work .now) (c .before .before .args .from + k) 0)) 0 (c .before .loop .i)) (c .before .loop .inv .1)
 
 returns : tie.Need-returns Inv-loop μ-loop
-returns c = let e : c .before .loop .i ≡ c .before .before .args .count = omega arith in (rw e at (c .before .loop .inv .1)) ∙ ap (sets (c .before .before .args .work .now) (c .before .before .args .q)) (sym (map-table (node 0 (drop (c .before .before .args .s) (c .before .before .args .work .now))) (c .before .before .args .work .now) (c .before .before .args .from) (c .before .before .args .count) (omega arith)))
+returns c = let e : c .before .loop .i ≡ c .before .before .args .count = omega arith in (rw e at (c .before .loop .inv .1)) ∙ ap (sets (c .before .before .args .work .now) (c .before .before .args .q)) (sym (map-table (node MAPPED (drop (c .before .before .args .s) (c .before .before .args .work .now))) (c .before .before .args .work .now) (c .before .before .args .from) (c .before .before .args .count) (omega arith)))
 
 pub put-map-spec : {M : Type 1} → statement M
 put-map-spec =
