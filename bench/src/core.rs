@@ -1,4 +1,4 @@
-//! The contraction on words, in plain Rust: the passes and the layout of the crate `core`.
+//! The contraction on words, in plain Rust: the passes and the layout of the crates `core_*`.
 //! A node has 16 words, a half-edge two; the half-edges stand behind the nodes.
 
 pub type Node = [u32; 16];

@@ -2,8 +2,13 @@
 
 use bench::replay::Totals;
 use bench::Refusal;
+use lumzhasel::tables::{self, ContractTables, ReplayTables};
+use lumzhasel::Error;
 
-fn refusal(r: lumzhasel::Refusal) -> Refusal {
+fn refusal(e: Error) -> Refusal {
+    let r = e
+        .refusal()
+        .expect("the archive has the calls of the package");
     Refusal::new(r.reason.code(), r.place)
 }
 
@@ -20,7 +25,19 @@ pub fn replay(
     answers: &mut [u8],
     work: &mut [u32],
 ) -> Result<Totals, Refusal> {
-    let r = lumzhasel::replay(n, m, t, p, a, b, x, y, answers, work).map_err(refusal)?;
+    let lent = ReplayTables {
+        n,
+        m,
+        t,
+        p,
+        a,
+        b,
+        x,
+        y,
+        answers,
+        work,
+    };
+    let r = tables::replay(lent).map_err(refusal)?;
     Ok(Totals {
         queries: r.queries,
         open: r.open,
@@ -41,7 +58,18 @@ pub fn contract(
     out_to: &mut [u16],
     work: &mut [u32],
 ) -> Result<(usize, usize), Refusal> {
-    let r = lumzhasel::contract(n, m, k, from, to, active, map, out_from, out_to, work)
-        .map_err(refusal)?;
+    let lent = ContractTables {
+        n,
+        m,
+        k,
+        from,
+        to,
+        active,
+        map,
+        out_from,
+        out_to,
+        work,
+    };
+    let r = tables::contract(lent).map_err(refusal)?;
     Ok((r.nodes, r.edges))
 }

@@ -1,6 +1,6 @@
-//! The replay in plain Rust: the same checks, windows and step as the crate `engine`.
+//! The replay in plain Rust: the same checks, areas, windows and step as the crates `replay_checks`, `replay_step`, `replay_windows` and `call_replay`.
 
-use crate::core::{self, LARGE_END, MARK, SMALL_END};
+use crate::core::{self, Node, LARGE_END, MARK, SMALL_END};
 use crate::{Refusal, CLOSES, MOST_EVENTS, MOST_JUNCTIONS, MOST_SEGMENTS, OPENS};
 
 #[derive(Clone, Copy, PartialEq, Eq, Debug)]
@@ -14,7 +14,6 @@ pub fn required(n: usize, t: usize) -> usize {
     256 * t + 32 * n + 2048
 }
 
-#[derive(Clone, Copy)]
 struct Segments([u64; 128]);
 
 impl Segments {
@@ -43,10 +42,9 @@ fn names_segment(x: u16) -> bool {
     x >= CLOSES
 }
 
-/// The events' first fault, where the tables are long enough; the number of queries.
+/// The events' first fault, where the tables are long enough; else the number of segments that are open at the end.
 fn check_events(n: usize, m: usize, x: &[u16], y: &[u16]) -> Result<usize, Refusal> {
     let mut open = Segments::none();
-    let mut queries = 0;
     for (i, (&x, &y)) in x.iter().zip(y).enumerate() {
         let bound = if names_segment(x) { m } else { n };
         if y as usize >= bound || !names_segment(x) && x as usize >= n {
@@ -65,23 +63,63 @@ fn check_events(n: usize, m: usize, x: &[u16], y: &[u16]) -> Result<usize, Refus
                 }
                 open.remove(y);
             }
-            _ => queries += 1,
+            _ => {}
         }
     }
-    Ok(queries)
+    Ok(open.count())
 }
 
-/// The events of a list, the share, and the answers so far.
-struct Replay<'a> {
-    x: &'a [u16],
-    y: &'a [u16],
-    p: usize,
-    answers: &'a mut [u8],
-    open: Segments,
-    kept: usize,
+/// The nodes of an event's two junctions.
+type Places = [u32; 2];
+
+/// What the recursion needs of an event, all 0 for a query: 1 + 4 times the segment + 2 where it is open just before + 1 where it is
+/// open just after; the next event that names the segment, t where there is none; 1 + the last event before it that names it, or 0.
+type Event = [u32; 3];
+
+fn is_open_before(event: &Event) -> bool {
+    (event[0] - 1) & 2 != 0
 }
 
-/// A window's events, and the size of its small graph.
+fn is_open_after(event: &Event) -> bool {
+    (event[0] - 1) & 1 != 0
+}
+
+/// The front of an area of n events: its places and event words.
+fn events_of(area: &[u32], n: usize) -> (&[Places], &[Event]) {
+    let (places, rest) = area.split_at(2 * n);
+    (places.as_chunks().0, rest[..3 * n].as_chunks().0)
+}
+
+/// The words of the window above the whole list: the raw junctions as places, and the event words.
+fn make_events(a: &[u16], b: &[u16], x: &[u16], y: &[u16], above: &mut [u32]) {
+    let t = x.len();
+    let (places, events) = above.split_at_mut(2 * t);
+    let places = places.as_chunks_mut::<2>().0;
+    let events = events.as_chunks_mut::<3>().0;
+    // For each segment 1 + the last event so far that names it.
+    let mut latest = [0u16; MOST_SEGMENTS];
+    for i in 0..t {
+        if !names_segment(x[i]) {
+            places[i] = [x[i] as u32, y[i] as u32];
+            events[i] = [0; 3];
+            continue;
+        }
+        let s = y[i] as usize;
+        let state = if x[i] == OPENS { 1 } else { 2 };
+        places[i] = [a[s] as u32, b[s] as u32];
+        events[i] = [1 + 4 * s as u32 + state, t as u32, latest[s] as u32];
+        latest[s] = i as u16 + 1;
+    }
+    for i in (0..t).rev() {
+        let last = events[i][2] as usize;
+        if last != 0 {
+            events[last - 1][1] = i as u32;
+        }
+    }
+}
+
+/// A window's events, and the size of its small graph. The area of a window of n events is 13 n words at the front of its work slice:
+/// places (2 n), event words (3 n), and the smaller and the larger ends of the edges (4 n each).
 #[derive(Clone, Copy)]
 struct Window {
     at: usize,
@@ -90,95 +128,113 @@ struct Window {
     edges: usize,
 }
 
-impl Replay<'_> {
-    /// The small graph of the part of `events` events from `at` on, out of the window's, whose area is at the front of work.
-    /// An area of e events has the nodes of their junctions (2e words), then the smaller and the larger ends of the edges (4e each).
-    fn step(&self, w: Window, at: usize, events: usize, work: &mut [u32]) -> Window {
-        let (area, rest) = work.split_at_mut(10 * w.events);
-        let (part, scratch) = rest.split_at_mut(10 * events);
-        let (junctions, ends) = area.split_at(2 * w.events);
-        let (small, large) = ends.split_at(4 * w.events);
-        let first = at - w.at;
-        let active = &junctions[2 * first..2 * (first + events)];
+/// Clears the marks and enters the places as active nodes; the number of different ones.
+fn enter_all(nodes: &mut [Node], places: &[Places]) -> usize {
+    for node in nodes.iter_mut() {
+        node[MARK] = 0;
+    }
+    let places = places.as_flattened().iter();
+    places.fold(0, |k, &v| core::enter(nodes, k, v as usize))
+}
 
-        // The window's edges first; then each segment that the window names, the part does not, and that is open, once.
-        let (nodes, halves) = core::split(scratch, w.nodes, w.edges + w.events);
-        for node in nodes.iter_mut() {
-            node[MARK] = 0;
-        }
-        let k = active
-            .iter()
-            .fold(0, |k, &v| core::enter(nodes, k, v as usize));
-        let pairs = halves.as_chunks_mut::<2>().0;
-        for ((edge, &u), &v) in pairs.iter_mut().zip(&small[..w.edges]).zip(large) {
-            edge[0][0] = u;
-            edge[1][0] = v;
-        }
-        let mut seen = Segments::none();
-        for i in at..at + events {
-            if names_segment(self.x[i]) {
-                seen.insert(self.y[i]);
-            }
-        }
-        let mut m = w.edges;
-        let events_of_window = self.x[w.at..].iter().zip(&self.y[w.at..]);
-        for ((&x, &y), ends) in events_of_window.zip(junctions.as_chunks::<2>().0) {
-            if names_segment(x) && self.open.contains(y) && !seen.contains(y) {
-                seen.insert(y);
-                pairs[m][0][0] = ends[0];
-                pairs[m][1][0] = ends[1];
-                m += 1;
-            }
-        }
+/// Writes a part's area: its places by their new numbers, its event words, and the edges that stand in the nodes.
+fn write_area(nodes: &[Node], edges: usize, places: &[Places], events: &[Event], part: &mut [u32]) {
+    let c = events.len();
+    let (new_places, rest) = part.split_at_mut(2 * c);
+    let (new_events, ends) = rest.split_at_mut(3 * c);
+    let (small, large) = ends.split_at_mut(4 * c);
+    for (new, &v) in new_places.iter_mut().zip(places.as_flattened()) {
+        *new = nodes[v as usize][MARK];
+    }
+    new_events.copy_from_slice(events.as_flattened());
+    for ((node, u), v) in nodes[..edges].iter().zip(small).zip(large) {
+        *u = node[SMALL_END];
+        *v = node[LARGE_END];
+    }
+}
 
-        let (count, edges) = core::reduce(nodes, &mut halves[..2 * m], k);
-        let (map, ends) = part.split_at_mut(2 * events);
-        let (small, large) = ends.split_at_mut(4 * events);
-        for (entry, &v) in map.iter_mut().zip(active) {
-            *entry = nodes[v as usize][MARK];
+/// The whole list's area, behind the window above it, which has all n junctions as its nodes and no edge.
+fn top(n: usize, t: usize, work: &mut [u32]) -> Window {
+    let (above, rest) = work.split_at_mut(5 * t);
+    let (whole, scratch) = rest.split_at_mut(13 * t);
+    let (places, events) = events_of(above, t);
+    let (nodes, halves) = core::split(scratch, n, 0);
+    let k = enter_all(nodes, places);
+    let (count, edges) = core::reduce(nodes, halves, k);
+    write_area(nodes, edges, places, events, whole);
+    Window {
+        at: 0,
+        events: t,
+        nodes: count,
+        edges,
+    }
+}
+
+/// The area of the part of c events from lo on, out of the window's, which is at the front of work; it is written behind that.
+fn step(w: Window, lo: usize, c: usize, work: &mut [u32]) -> Window {
+    let n = w.events;
+    let (area, rest) = work.split_at_mut(13 * n);
+    let (part, scratch) = rest.split_at_mut(13 * c);
+    let (places, events) = events_of(area, n);
+    let (small, large) = area[5 * n..].split_at(4 * n);
+    let (first, behind) = (lo - w.at, lo - w.at + c);
+    let here = &places[first..behind];
+
+    // The window's edges first; then each segment that the window names, the part does not, and that is open, once: by the last
+    // event before the part that names it, else by the first behind it.
+    let (nodes, halves) = core::split(scratch, w.nodes, w.edges + n - c);
+    let k = enter_all(nodes, here);
+    let pairs = halves.as_chunks_mut::<2>().0;
+    for ((edge, &u), &v) in pairs.iter_mut().zip(&small[..w.edges]).zip(large) {
+        edge[0][0] = u;
+        edge[1][0] = v;
+    }
+    let mut m = w.edges;
+    let mut add = |ends: &Places| {
+        pairs[m][0][0] = ends[0];
+        pairs[m][1][0] = ends[1];
+        m += 1;
+    };
+    for (event, ends) in events[..first].iter().zip(places) {
+        if event[0] != 0 && event[1] as usize >= lo + c && is_open_after(event) {
+            add(ends);
         }
-        for ((node, u), v) in nodes[..edges].iter().zip(small).zip(large) {
-            *u = node[SMALL_END];
-            *v = node[LARGE_END];
-        }
-        Window {
-            at,
-            events,
-            nodes: count,
-            edges,
+    }
+    for (event, ends) in events[behind..].iter().zip(&places[behind..]) {
+        if event[0] != 0 && event[2] as usize <= w.at && is_open_before(event) {
+            add(ends);
         }
     }
 
-    /// A window of one event: its byte, from the nodes and the edges of its small graph.
-    fn one(&mut self, w: Window) {
-        let s = self.y[w.at];
-        self.answers[w.at] = match self.x[w.at] {
-            OPENS => {
-                self.open.insert(s);
-                3
-            }
-            CLOSES => {
-                self.open.remove(s);
-                3
-            }
-            _ if w.nodes == 1 => 2,
-            _ if w.edges == 0 => 0,
+    let (count, edges) = core::reduce(nodes, &mut halves[..2 * m], k);
+    write_area(nodes, edges, here, &events[first..behind], part);
+    Window {
+        at: lo,
+        events: c,
+        nodes: count,
+        edges,
+    }
+}
+
+/// Answers a window's events; the nodes of its small graph and of those of the windows inside it.
+fn window(w: Window, p: usize, answers: &mut [u8], work: &mut [u32]) -> usize {
+    let n = w.events;
+    if n == 1 {
+        let tag = work[2];
+        answers[w.at] = match w {
+            _ if tag != 0 => 3,
+            Window { nodes: 1, .. } => 2,
+            Window { edges: 0, .. } => 0,
             _ => 1,
         };
+        return w.nodes;
     }
-
-    fn window(&mut self, w: Window, work: &mut [u32]) {
-        self.kept += w.nodes;
-        if w.events == 1 {
-            return self.one(w);
-        }
-        let first = (w.events * self.p / 16).max(1);
-        let rest = 10 * w.events;
-        let part = self.step(w, w.at, first, work);
-        self.window(part, &mut work[rest..]);
-        let part = self.step(w, w.at + first, w.events - first, work);
-        self.window(part, &mut work[rest..]);
-    }
+    let c = (n * p / 16).max(1);
+    let part = step(w, w.at, c, work);
+    let first = window(part, p, answers, &mut work[13 * n..]);
+    let part = step(w, w.at + c, n - c, work);
+    let second = window(part, p, answers, &mut work[13 * n..]);
+    w.nodes + first + second
 }
 
 #[allow(clippy::too_many_arguments)]
@@ -214,36 +270,16 @@ pub fn replay(
     if let Some(s) = a.iter().zip(b).position(|(&u, &v)| bad(u) || bad(v)) {
         return Err(Refusal::new(4, s));
     }
-    let queries = check_events(n, m, x, y)?;
+    let open = check_events(n, m, x, y)?;
 
     let work = &mut work[..required(n, t)];
-    let mut replay = Replay {
-        x,
-        y,
-        p,
-        answers,
-        open: Segments::none(),
-        kept: 0,
-    };
+    let mut kept = 0;
     if t > 0 {
-        for ((&x, &y), ends) in x.iter().zip(y).zip(work.as_chunks_mut::<2>().0) {
-            *ends = if names_segment(x) {
-                [a[y as usize] as u32, b[y as usize] as u32]
-            } else {
-                [x as u32, y as u32]
-            };
-        }
-        // The window above the whole list has all junctions as its nodes and no edge.
-        let above = Window {
-            at: 0,
-            events: t,
-            nodes: n,
-            edges: 0,
-        };
-        let whole = replay.step(above, 0, t, work);
-        replay.window(whole, &mut work[10 * t..]);
+        make_events(a, b, x, y, &mut work[..5 * t]);
+        let whole = top(n, t, work);
+        kept = window(whole, p, answers, &mut work[5 * t..]);
     }
-    let (open, kept) = (replay.open.count(), replay.kept);
+    let queries = answers[..t].iter().filter(|&&b| b != 3).count();
     work.fill(0);
     Ok(Totals {
         queries,

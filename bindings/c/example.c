@@ -1,7 +1,8 @@
 /*
  * Replays document 01's example, a triangle whose segments open one after the other, with
  * two queries of junctions 0 and 2, and prints what the program `replay` prints. An argument
- * is taken as the share in the place of 8.
+ * is taken as the share in the place of 8. The exit status is 1 where the replay is refused,
+ * and 2 where the archive has other calls than the header.
  */
 #include <stdio.h>
 #include <stdlib.h>
@@ -20,10 +21,31 @@ int main(int argc, char **argv)
     static uint32_t work[LUM_REPLAY_WORK(JUNCTIONS, EVENTS)];
     size_t share = argc > 1 ? strtoul(argv[1], NULL, 10) : 8;
 
-    struct lum_replay_reply r = lum_replay(
-        JUNCTIONS, SEGMENTS, EVENTS, share,
-        a, SEGMENTS, b, SEGMENTS, x, EVENTS, y, EVENTS,
-        answers, EVENTS, work, sizeof work / sizeof work[0]);
+    if (lum_version() != LUM_VERSION) {
+        fprintf(stderr, "the archive has version %u of the calls and the header %u\n",
+                (unsigned)lum_version(), (unsigned)LUM_VERSION);
+        return 2;
+    }
+
+    struct lum_replay_lent lent = {
+        .n = JUNCTIONS,
+        .m = SEGMENTS,
+        .t = EVENTS,
+        .p = share,
+        .a = a,
+        .a_len = SEGMENTS,
+        .b = b,
+        .b_len = SEGMENTS,
+        .x = x,
+        .x_len = EVENTS,
+        .y = y,
+        .y_len = EVENTS,
+        .answers = answers,
+        .answers_len = EVENTS,
+        .work = work,
+        .work_len = sizeof work / sizeof work[0],
+    };
+    struct lum_replay_reply r = lum_replay(lent);
 
     if (r.code != LUM_ACCEPTED) {
         printf("refused %zu at %zu\n", r.code, r.place);

@@ -6,6 +6,14 @@
  * `rt staticlib call_exports` writes; it is for x86-64 Linux and needs only memcpy and
  * memset of the C library.
  *
+ * VERSIONS. What a call is lent gains fields, and replies gain numbers, from one version
+ * to the next; their names stay. A program that was built with the header of one version
+ * and linked with the archive of another would hand over its tables in the wrong places,
+ * and nothing else would notice. So compare lum_version() with LUM_VERSION before the
+ * first other call, and make none where they differ. lum_version takes nothing and returns
+ * one number in every version. Set the fields of a struct by their names, all of them. A
+ * code above those below is a refusal too, by a reason that a later version names.
+ *
  * WHAT THE CALLER OWES. The proofs begin where these hold, and no call can check them:
  *  - Each pointer points to at least as many entries as the length after it says,
  *    all of them initialised, also those of the tables that are written.
@@ -21,8 +29,8 @@
  * A call keeps nothing after it returns, allocates nothing, and reads and writes
  * nothing but its tables, so that calls on different tables may run at the same time.
  * It takes stack: replays of 4,096 events ran on a thread with 256 KB for each share, and
- * not on one with 128 KB for the share 4. This is measured and not proved; fewer events
- * take less.
+ * not on one with 128 KB for the share 4. This is measured (bench/stack) and not proved;
+ * fewer events take less. (TODO-LEAD: measure again once the set has left the recursion.)
  *
  * TABLES may be longer than they must be. Entries past the stated sizes are ignored,
  * and none of them changes.
@@ -54,6 +62,9 @@
 #ifdef __cplusplus
 extern "C" {
 #endif
+
+/* The version of the calls below. */
+#define LUM_VERSION 2u
 
 /* The limits. */
 #define LUM_MOST_JUNCTIONS 4096u
@@ -100,6 +111,47 @@ struct lum_replay_reply {
     size_t kept;    /* the nodes of the small graphs, summed over all windows */
 };
 
+/* What a contraction is lent: each table with the number of its entries. */
+struct lum_contract_lent {
+    size_t n, m, k; /* nodes, edges, active entries */
+    const uint16_t *from;
+    size_t from_len;
+    const uint16_t *to;
+    size_t to_len;
+    const uint16_t *active;
+    size_t active_len;
+    uint16_t *map;
+    size_t map_len;
+    uint16_t *out_from;
+    size_t out_from_len;
+    uint16_t *out_to;
+    size_t out_to_len;
+    uint32_t *work;
+    size_t work_len;
+};
+
+/* What a replay is lent: each table with the number of its entries. */
+struct lum_replay_lent {
+    size_t n, m, t, p; /* junctions, segments, events, the share */
+    const uint16_t *a;
+    size_t a_len;
+    const uint16_t *b;
+    size_t b_len;
+    const uint16_t *x;
+    size_t x_len;
+    const uint16_t *y;
+    size_t y_len;
+    uint8_t *answers;
+    size_t answers_len;
+    uint32_t *work;
+    size_t work_len;
+};
+
+/*
+ * The version of the calls in the archive: LUM_VERSION where it fits this header.
+ */
+uint32_t lum_version(void);
+
 /*
  * Checks sizes: n junctions, m segments and t events of a replay (k = 0), or n nodes,
  * m edges and k active entries of a contraction (t = 0). Refused by 1 alone. The other
@@ -131,15 +183,7 @@ size_t lum_answers(const uint8_t *table, size_t table_len, size_t t);
  * node in order of first appearance in `active`, then the others by their smallest node.
  * Edges ascend by their first end, then by their second. Refused by 1, 2, 4 and 8.
  */
-struct lum_contract_reply lum_contract(
-    size_t n, size_t m, size_t k,
-    const uint16_t *from, size_t from_len,
-    const uint16_t *to, size_t to_len,
-    const uint16_t *active, size_t active_len,
-    uint16_t *map, size_t map_len,
-    uint16_t *out_from, size_t out_from_len,
-    uint16_t *out_to, size_t out_to_len,
-    uint32_t *work, size_t work_len);
+struct lum_contract_reply lum_contract(struct lum_contract_lent lent);
 
 /*
  * Replays t events over n junctions and m segments, with the share p, 4 to 12. Segment s
@@ -161,14 +205,7 @@ struct lum_contract_reply lum_contract(
  * some single removal parts them, 0 where they are not joined; an event that opens or
  * closes has 3. The share changes `kept` and no answer. Refused by 1 to 7.
  */
-struct lum_replay_reply lum_replay(
-    size_t n, size_t m, size_t t, size_t p,
-    const uint16_t *a, size_t a_len,
-    const uint16_t *b, size_t b_len,
-    const uint16_t *x, size_t x_len,
-    const uint16_t *y, size_t y_len,
-    uint8_t *answers, size_t answers_len,
-    uint32_t *work, size_t work_len);
+struct lum_replay_reply lum_replay(struct lum_replay_lent lent);
 
 #ifdef __cplusplus
 }

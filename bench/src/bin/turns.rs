@@ -4,6 +4,7 @@
 
 use bench::graphs::{graph, Graph, Shape};
 use bench::random::Random;
+use lumzhasel::tables::{contract, contract_work, ContractTables};
 use std::time::Instant;
 
 const NODES: [usize; 4] = [512, 1024, 2048, 4096];
@@ -15,13 +16,22 @@ fn nanoseconds_a_node(graphs: &[Graph]) -> f64 {
     let (m, k) = (2 * n, n / 4);
     let mut map = vec![0; k];
     let (mut from, mut to) = (vec![0; 2 * k], vec![0; 2 * k]);
-    let mut work = vec![0; lumzhasel::contract_work(n, m)];
+    let mut work = vec![0; contract_work(n, m)];
     let calls = (204_800 / n).div_ceil(graphs.len()) * graphs.len();
     let began = Instant::now();
     for g in graphs.iter().cycle().take(calls) {
-        lumzhasel::contract(
-            n, m, k, &g.from, &g.to, &g.active, &mut map, &mut from, &mut to, &mut work,
-        )
+        contract(ContractTables {
+            n,
+            m,
+            k,
+            from: &g.from,
+            to: &g.to,
+            active: &g.active,
+            map: &mut map,
+            out_from: &mut from,
+            out_to: &mut to,
+            work: &mut work,
+        })
         .expect("the graph is in order");
     }
     began.elapsed().as_nanos() as f64 / (calls * n) as f64

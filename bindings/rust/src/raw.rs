@@ -1,6 +1,8 @@
-//! The exported calls of the archive, with each slice as a pointer and a length. All unsafe code stands here.
+//! The exported calls of the archive, each lent a struct of numbers and tables, a table as a pointer and a length. All unsafe code
+//! stands here. These declarations are those of version 2, [`crate::VERSION`]: whoever changes one changes both.
 #![allow(unsafe_code)]
-#![allow(clippy::too_many_arguments)]
+
+use crate::tables::{ContractTables, ReplayTables};
 
 #[repr(C)]
 pub(crate) struct SizesReply {
@@ -29,49 +31,77 @@ pub(crate) struct ReplayReply {
     pub kept: usize,
 }
 
+/// A table that is only read, as a pointer and a length.
+#[repr(C)]
+struct Read<T> {
+    pointer: *const T,
+    length: usize,
+}
+
+/// A table that may be written, as a pointer and a length.
+#[repr(C)]
+struct Written<T> {
+    pointer: *mut T,
+    length: usize,
+}
+
+fn read<T>(table: &[T]) -> Read<T> {
+    Read {
+        pointer: table.as_ptr(),
+        length: table.len(),
+    }
+}
+
+fn written<T>(table: &mut [T]) -> Written<T> {
+    Written {
+        pointer: table.as_mut_ptr(),
+        length: table.len(),
+    }
+}
+
+#[repr(C)]
+struct ContractLent {
+    n: usize,
+    m: usize,
+    k: usize,
+    from: Read<u16>,
+    to: Read<u16>,
+    active: Read<u16>,
+    map: Written<u16>,
+    out_from: Written<u16>,
+    out_to: Written<u16>,
+    work: Written<u32>,
+}
+
+#[repr(C)]
+struct ReplayLent {
+    n: usize,
+    m: usize,
+    t: usize,
+    p: usize,
+    a: Read<u16>,
+    b: Read<u16>,
+    x: Read<u16>,
+    y: Read<u16>,
+    answers: Written<u8>,
+    work: Written<u32>,
+}
+
 extern "C" {
+    fn lum_version() -> u32;
+
     fn lum_sizes(n: usize, m: usize, t: usize, k: usize) -> SizesReply;
 
     fn lum_answers(table: *const u8, table_len: usize, t: usize) -> usize;
 
-    fn lum_contract(
-        n: usize,
-        m: usize,
-        k: usize,
-        from: *const u16,
-        from_len: usize,
-        to: *const u16,
-        to_len: usize,
-        active: *const u16,
-        active_len: usize,
-        map: *mut u16,
-        map_len: usize,
-        out_from: *mut u16,
-        out_from_len: usize,
-        out_to: *mut u16,
-        out_to_len: usize,
-        work: *mut u32,
-        work_len: usize,
-    ) -> ContractReply;
+    fn lum_contract(lent: ContractLent) -> ContractReply;
 
-    fn lum_replay(
-        n: usize,
-        m: usize,
-        t: usize,
-        p: usize,
-        a: *const u16,
-        a_len: usize,
-        b: *const u16,
-        b_len: usize,
-        x: *const u16,
-        x_len: usize,
-        y: *const u16,
-        y_len: usize,
-        answers: *mut u8,
-        answers_len: usize,
-        work: *mut u32,
-        work_len: usize,
-    ) -> ReplayReply;
+    fn lum_replay(lent: ReplayLent) -> ReplayReply;
+}
+
+pub(crate) fn version() -> u32 {
+    // SAFETY: the call takes nothing and returns a number in every version.
+    unsafe { lum_version() }
 }
 
 pub(crate) fn sizes(n: usize, m: usize, t: usize, k: usize) -> SizesReply {
@@ -85,76 +115,39 @@ pub(crate) fn answers(table: &[u8], t: usize) -> usize {
     unsafe { lum_answers(table.as_ptr(), table.len(), t) }
 }
 
-pub(crate) fn contract(
-    n: usize,
-    m: usize,
-    k: usize,
-    from: &[u16],
-    to: &[u16],
-    active: &[u16],
-    map: &mut [u16],
-    out_from: &mut [u16],
-    out_to: &mut [u16],
-    work: &mut [u32],
-) -> ContractReply {
+pub(crate) fn contract(lent: ContractTables<'_>) -> ContractReply {
+    let lent = ContractLent {
+        n: lent.n,
+        m: lent.m,
+        k: lent.k,
+        from: read(lent.from),
+        to: read(lent.to),
+        active: read(lent.active),
+        map: written(lent.map),
+        out_from: written(lent.out_from),
+        out_to: written(lent.out_to),
+        work: written(lent.work),
+    };
     // SAFETY: each pointer and the length after it are those of one slice, also of an empty one, whose
     // pointer is non-null and aligned. The slices that are written are borrowed mutably, so they overlap
-    // no other and nobody else reads them. The call is proved to stay within the lengths, for all
-    // numbers and entries, and it keeps no pointer.
-    unsafe {
-        lum_contract(
-            n,
-            m,
-            k,
-            from.as_ptr(),
-            from.len(),
-            to.as_ptr(),
-            to.len(),
-            active.as_ptr(),
-            active.len(),
-            map.as_mut_ptr(),
-            map.len(),
-            out_from.as_mut_ptr(),
-            out_from.len(),
-            out_to.as_mut_ptr(),
-            out_to.len(),
-            work.as_mut_ptr(),
-            work.len(),
-        )
-    }
+    // no other and nobody else reads them, until this function returns. The call is proved to stay within
+    // the lengths, for all numbers and entries, and it keeps no pointer.
+    unsafe { lum_contract(lent) }
 }
 
-pub(crate) fn replay(
-    n: usize,
-    m: usize,
-    t: usize,
-    p: usize,
-    a: &[u16],
-    b: &[u16],
-    x: &[u16],
-    y: &[u16],
-    answers: &mut [u8],
-    work: &mut [u32],
-) -> ReplayReply {
+pub(crate) fn replay(lent: ReplayTables<'_>) -> ReplayReply {
+    let lent = ReplayLent {
+        n: lent.n,
+        m: lent.m,
+        t: lent.t,
+        p: lent.p,
+        a: read(lent.a),
+        b: read(lent.b),
+        x: read(lent.x),
+        y: read(lent.y),
+        answers: written(lent.answers),
+        work: written(lent.work),
+    };
     // SAFETY: as in `contract`: pointers and lengths of whole slices, those that are written borrowed mutably.
-    unsafe {
-        lum_replay(
-            n,
-            m,
-            t,
-            p,
-            a.as_ptr(),
-            a.len(),
-            b.as_ptr(),
-            b.len(),
-            x.as_ptr(),
-            x.len(),
-            y.as_ptr(),
-            y.len(),
-            answers.as_mut_ptr(),
-            answers.len(),
-            work.as_mut_ptr(),
-            work.len(),
-        )
-    }
+    unsafe { lum_replay(lent) }
 }

@@ -3,7 +3,8 @@
 mod common;
 
 use common::{graph, list, List};
-use lumzhasel::{answers, check_sizes, Reason, Refusal, Sizes, CLOSES, OPENS};
+use lumzhasel::tables::{answers, check_sizes, CLOSES, OPENS};
+use lumzhasel::{Error, Reason, Refusal};
 
 // The answer bytes of an accepted list with the share 8, and kept aside its numbers.
 fn bytes(n: usize, segments: &[(u16, u16)], events: &[(u16, u16)]) -> Vec<u8> {
@@ -131,24 +132,24 @@ fn the_limits_of_a_contraction() {
 }
 
 #[test]
+fn the_version() {
+    assert_eq!(lumzhasel::version(), lumzhasel::VERSION);
+}
+
+#[test]
 fn the_sizes() {
-    let most = Sizes {
-        n: 4096,
-        m: 8192,
-        t: 4096,
-        k: 8192,
-    };
-    assert_eq!(check_sizes(4096, 8192, 4096, 8192), Ok(most));
-    assert_eq!(check_sizes(1, 2, 3, 4), Ok(Sizes { n: 1, m: 2, t: 3, k: 4 }));
-    let refused = Err(Refusal {
+    let numbers = |n, m, t, k| check_sizes(n, m, t, k).map(|s| (s.n, s.m, s.t, s.k));
+    assert_eq!(numbers(4096, 8192, 4096, 8192), Ok((4096, 8192, 4096, 8192)));
+    assert_eq!(numbers(1, 2, 3, 4), Ok((1, 2, 3, 4)));
+    let refused = Err(Error::Refused(Refusal {
         reason: Reason::Sizes,
         place: 0,
-    });
-    assert_eq!(check_sizes(4097, 0, 0, 0), refused);
-    assert_eq!(check_sizes(0, 8193, 0, 0), refused);
-    assert_eq!(check_sizes(0, 0, 4097, 0), refused);
-    assert_eq!(check_sizes(0, 0, 0, 8193), refused);
-    assert_eq!(check_sizes(usize::MAX, usize::MAX, usize::MAX, usize::MAX), refused);
+    }));
+    assert_eq!(numbers(4097, 0, 0, 0), refused);
+    assert_eq!(numbers(0, 8193, 0, 0), refused);
+    assert_eq!(numbers(0, 0, 4097, 0), refused);
+    assert_eq!(numbers(0, 0, 0, 8193), refused);
+    assert_eq!(numbers(usize::MAX, usize::MAX, usize::MAX, usize::MAX), refused);
 }
 
 #[test]
@@ -198,12 +199,12 @@ fn the_order_of_refusals() {
 fn the_reader() {
     let table = [3, 1, 2];
     for t in 0..6 {
-        let part = answers(&table, t);
+        let part = answers(&table, t).unwrap();
         assert_eq!(part, if t <= 3 { &table[..t] } else { &table[..0] });
         assert_eq!(part.as_ptr(), table.as_ptr());
     }
-    assert!(answers(&[], 0).is_empty());
-    assert!(answers(&table, usize::MAX).is_empty());
+    assert!(answers(&[], 0).unwrap().is_empty());
+    assert!(answers(&table, usize::MAX).unwrap().is_empty());
 }
 
 #[test]
@@ -229,4 +230,5 @@ fn a_refusal_in_words() {
         place: 4,
     };
     assert_eq!(refused.to_string(), "refused 6 at 4: the event opens an open segment");
+    assert_eq!(Error::from(refused).to_string(), refused.to_string());
 }

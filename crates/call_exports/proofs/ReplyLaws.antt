@@ -40,20 +40,26 @@ module _ (n m t k : ℕ) {r : SizesReply} (e : sizesOutcome r ≡ checkSizes n m
       code = ap (λ (o : SizesOutcome). eqb (o .code) 0) says ∙ sym (ap (λ (o : SizesOutcome). o .accepted) says)
 
 -- ---- the contraction
-contract-code : (l : contraction.Lent) (map outFrom outTo work : List ℕ) {c i : ℕ} → contracting.outcome (contracts.Refused c i) map outFrom outTo work ≡ contraction.contraction l → eqb c 0 ≡ false
+contract-code : (l : contraction.Lent) (map outFrom outTo work : List ℕ) {c i : ℕ} →
+    contracting.outcome (contracts.Refused c i) map outFrom outTo work ≡ contraction.contraction l → eqb c 0 ≡ false
 unfolding contraction.contraction contraction.done contraction.refused
 contract-code l map outFrom outTo work e = onBool (eqb (contraction.fault l .0) 0)
     (λ h. contradict {b = true} refl (rw (contraction.contraction, h) at (sym (ap (λ (o : contraction.Outcome). o .accepted) e))))
     (λ h. ap (λ (x : ℕ). eqb x 0) (rw (contraction.contraction, h) at (ap (λ (o : contraction.Outcome). o .code) e)) ∙ h)
 
-module _ (l : contraction.Lent) (map outFrom outTo work : List ℕ) {r : ContractReply} (e : contracting.outcome r map outFrom outTo work ≡ contraction.contraction l) where
-  pub contract-done : {nodes edges : ℕ} → r ≡ contracts.Done nodes edges → contractedOf record { code = 0; place = 0; nodes = nodes; edges = edges } map outFrom outTo work ≡ contraction.contraction l
+module _ (l : contraction.Lent) (map outFrom outTo work : List ℕ) {r : ContractReply}
+    (e : contracting.outcome r map outFrom outTo work ≡ contraction.contraction l) where
+  pub contract-done : {nodes edges : ℕ} → r ≡ contracts.Done nodes edges →
+      contractedOf record { code = 0; place = 0; nodes = nodes; edges = edges } map outFrom outTo work ≡ contraction.contraction l
   contract-done g = ap (λ (r : ContractReply). contracting.outcome r map outFrom outTo work) (sym g) ∙ e
 
-  pub contract-refused : {c i : ℕ} → r ≡ contracts.Refused c i → contractedOf record { code = c; place = i; nodes = 0; edges = 0 } map outFrom outTo work ≡ contraction.contraction l
+  pub contract-refused : {c i : ℕ} → r ≡ contracts.Refused c i →
+      contractedOf record { code = c; place = i; nodes = 0; edges = 0 } map outFrom outTo work ≡ contraction.contraction l
   contract-refused {c} {i} g =
-      let says : contracting.outcome (contracts.Refused c i) map outFrom outTo work ≡ contraction.contraction l = ap (λ (r : ContractReply). contracting.outcome r map outFrom outTo work) (sym g) ∙ e in
-      ap (λ (b : Bool). record { accepted = b; code = c; place = i; nodes = 0; edges = 0; map = map; outFrom = outFrom; outTo = outTo; work = work }) (contract-code l map outFrom outTo work says) ∙ says
+      let says : contracting.outcome (contracts.Refused c i) map outFrom outTo work ≡ contraction.contraction l =
+      ap (λ (r : ContractReply). contracting.outcome r map outFrom outTo work) (sym g) ∙ e in
+      ap (λ (b : Bool). record { accepted = b; code = c; place = i; nodes = 0; edges = 0; map = map; outFrom = outFrom; outTo = outTo; work = work })
+      (contract-code l map outFrom outTo work says) ∙ says
 
 -- ---- the replay
 replay-code : (l : timeline.Lent) (p : ℕ) (answers work : List ℕ) {c i : ℕ} → replaying.outcome (replays.Refused c i) answers work ≡ timeline.replay l p → eqb c 0 ≡ false
@@ -63,13 +69,17 @@ replay-code l p answers work e = onBool (eqb (timeline.fault l p .0) 0)
     (λ h. ap (λ (x : ℕ). eqb x 0) (rw (timeline.replay, h) at (ap (λ (o : timeline.Outcome). o .code) e)) ∙ h)
 
 module _ (l : timeline.Lent) (p : ℕ) (answers work : List ℕ) {r : ReplayReply} (e : replaying.outcome r answers work ≡ timeline.replay l p) where
-  pub replay-done : {s : Totals} → r ≡ replays.Done s → replayedOf record { code = 0; place = 0; queries = s .queries; «open» = s .«open»; kept = s .kept } answers work ≡ timeline.replay l p
+  pub replay-done : {s : Totals} → r ≡ replays.Done s →
+      replayedOf record { code = 0; place = 0; queries = s .queries; «open» = s .«open»; kept = s .kept } answers work ≡ timeline.replay l p
   replay-done g = ap (λ (r : ReplayReply). replaying.outcome r answers work) (sym g) ∙ e
 
-  pub replay-refused : {c i : ℕ} → r ≡ replays.Refused c i → replayedOf record { code = c; place = i; queries = 0; «open» = 0; kept = 0 } answers work ≡ timeline.replay l p
+  pub replay-refused : {c i : ℕ} → r ≡ replays.Refused c i →
+      replayedOf record { code = c; place = i; queries = 0; «open» = 0; kept = 0 } answers work ≡ timeline.replay l p
   replay-refused {c} {i} g =
-      let says : replaying.outcome (replays.Refused c i) answers work ≡ timeline.replay l p = ap (λ (r : ReplayReply). replaying.outcome r answers work) (sym g) ∙ e in
-      ap (λ (b : Bool). record { accepted = b; code = c; place = i; queries = 0; opened = 0; kept = 0; answers = answers; work = work }) (replay-code l p answers work says) ∙ says
+      let says : replaying.outcome (replays.Refused c i) answers work ≡ timeline.replay l p =
+      ap (λ (r : ReplayReply). replaying.outcome r answers work) (sym g) ∙ e in
+      ap (λ (b : Bool). record { accepted = b; code = c; place = i; queries = 0; opened = 0; kept = 0; answers = answers; work = work })
+      (replay-code l p answers work says) ∙ says
 
 -- ---- the reader's part is as many bytes from the table's start as it is long
 pub part-first : (table : List ℕ) (t : ℕ) → take (length (firstOrNone table t)) table ≡ firstOrNone table t

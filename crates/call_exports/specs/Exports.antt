@@ -1,12 +1,17 @@
--- What a struct that an exported call returns says, as an outcome of the product's own definitions: the call is accepted where the code is 0.
+-- The structs of the exported calls in the words of the product's own definitions. In order: what a returned struct says as an outcome, where the call
+-- is accepted if the code is 0; what a struct of tables lends; and the outcome with the tables as a call leaves them.
 -- Assumes nothing: these are definitions.
 use mathlib.Core.List.{List}
 use Prim.Native.Nat.{ℕ}
 use lib.Dec.{eqb}
+use denote.Ref.{RefT, now}
 use Rattle.theory_contraction.specs.Contraction as contraction
 use Rattle.call_sizes.specs.Sizes.{SizesOutcome}
 use Rattle.theory_timeline.specs.Replay as timeline
+use Rattle.theory_timeline.specs.Call as replaying
+use Rattle.call_exports.specs.declared.LumContractLent.{LumContractLent}
 use Rattle.call_exports.specs.declared.LumContractReply.{LumContractReply}
+use Rattle.call_exports.specs.declared.LumReplayLent.{LumReplayLent}
 use Rattle.call_exports.specs.declared.LumReplayReply.{LumReplayReply}
 use Rattle.call_exports.specs.declared.LumSizesReply.{LumSizesReply}
 
@@ -16,8 +21,52 @@ sizesOf r = record { accepted = eqb (r .code) 0; code = r .code; place = r .plac
 -- with the tables that may be written as they are afterwards
 abbrev pub contractedOf : LumContractReply → List ℕ → List ℕ → List ℕ → List ℕ → contraction.Outcome
 contractedOf r map outFrom outTo work =
-    record { accepted = eqb (r .code) 0; code = r .code; place = r .place; nodes = r .nodes; edges = r .edges; map = map; outFrom = outFrom; outTo = outTo; work = work }
+    record {
+      accepted = eqb (r .code) 0;
+      code = r .code;
+      place = r .place;
+      nodes = r .nodes;
+      edges = r .edges;
+      map = map;
+      outFrom = outFrom;
+      outTo = outTo;
+      work = work;
+    }
 
 abbrev pub replayedOf : LumReplayReply → List ℕ → List ℕ → timeline.Outcome
 replayedOf r answers work =
-    record { accepted = eqb (r .code) 0; code = r .code; place = r .place; queries = r .queries; opened = r .«open»; kept = r .kept; answers = answers; work = work }
+    record {
+      accepted = eqb (r .code) 0;
+      code = r .code;
+      place = r .place;
+      queries = r .queries;
+      opened = r .«open»;
+      kept = r .kept;
+      answers = answers;
+      work = work;
+    }
+
+-- ---- what a struct lends
+abbrev pub contractLent : LumContractLent → contraction.Lent
+contractLent l =
+    contraction.lent (l .n) (l .m) (l .k) (now (l .from)) (now (l .to)) (now (l .active))
+    (now (l .map)) (now (l .«out_from»)) (now (l .«out_to»)) (now (l .work))
+
+abbrev pub replayLent : LumReplayLent → timeline.Lent
+replayLent l = replaying.lent (l .n) (l .m) (l .t) (now (l .a)) (now (l .b)) (now (l .x)) (now (l .y)) (now (l .answers)) (now (l .work))
+
+-- ---- the fields of a struct after the call, in their order, of which those count that may be written
+abbrev Table : Type 0
+Table = RefT (List ℕ)
+
+abbrev pub ContractFields : Type 0
+ContractFields = ℕ × (ℕ × (ℕ × (Table × (Table × (Table × (Table × (Table × (Table × (Table × Unit {0})))))))))
+
+abbrev pub contractLeft : LumContractReply → ContractFields → contraction.Outcome
+contractLeft r (n, (m, (k, (from, (to, (active, (map, (outFrom, (outTo, (work, end)))))))))) = contractedOf r (now map) (now outFrom) (now outTo) (now work)
+
+abbrev pub ReplayFields : Type 0
+ReplayFields = ℕ × (ℕ × (ℕ × (ℕ × (Table × (Table × (Table × (Table × (Table × (Table × Unit {0})))))))))
+
+abbrev pub replayLeft : LumReplayReply → ReplayFields → timeline.Outcome
+replayLeft r (n, (m, (t, (p, (a, (b, (x, (y, (answers, (work, end)))))))))) = replayedOf r (now answers) (now work)

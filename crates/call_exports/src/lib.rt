@@ -1,4 +1,5 @@
-// The calls as C sees them: a slice is a pointer and a length, a reply is a struct of numbers. Each call hands on to the product's own and writes its reply out.
+// The calls as C sees them: a slice is a pointer and a length, what a call is lent is a struct of numbers and slices, a reply a struct of numbers.
+// Each call hands on to the product's own and writes its reply out.
 use call_contract::ContractReply;
 use call_sizes::Sizes;
 use call_sizes::SizesReply;
@@ -11,9 +12,40 @@ ghost use Rattle.call_answers.specs.Reader.{firstOrNone};
 ghost use Rattle.call_sizes.specs.Sizes.{checkSizes};
 ghost use Rattle.theory_timeline.specs.Call as replaying;
 ghost use Rattle.theory_timeline.specs.Replay.{replay};
-ghost use Rattle.call_exports.specs.Exports.{sizesOf, contractedOf, replayedOf};
+ghost use Rattle.call_exports.specs.Exports.{sizesOf, contractedOf, replayedOf, contractLent, contractLeft, replayLent, replayLeft};
+ghost use Rattle.call_exports.specs.Version.{version};
 
-// In each struct the code is 0 where the call is accepted, else the refusal's number; then place is its place and the other numbers are 0.
+// What a contraction is lent.
+#[repr(C)]
+pub struct LumContractLent<'a> {
+    pub n: usize,
+    pub m: usize,
+    pub k: usize,
+    pub from: &'a [u16],
+    pub to: &'a [u16],
+    pub active: &'a [u16],
+    pub map: &'a mut [u16],
+    pub out_from: &'a mut [u16],
+    pub out_to: &'a mut [u16],
+    pub work: &'a mut [u32],
+}
+
+// What a replay is lent.
+#[repr(C)]
+pub struct LumReplayLent<'a> {
+    pub n: usize,
+    pub m: usize,
+    pub t: usize,
+    pub p: usize,
+    pub a: &'a [u16],
+    pub b: &'a [u16],
+    pub x: &'a [u16],
+    pub y: &'a [u16],
+    pub answers: &'a mut [u8],
+    pub work: &'a mut [u32],
+}
+
+// In each reply the code is 0 where the call is accepted, else the refusal's number; then place is its place and the other numbers are 0.
 #[repr(C)]
 pub struct LumSizesReply {
     pub code: usize,
@@ -39,6 +71,15 @@ pub struct LumReplayReply {
     pub queries: usize,
     pub open: usize,
     pub kept: usize,
+}
+
+// The version of the calls in this archive, so that a caller who was built for others can tell.
+// It takes nothing and returns one number in every version.
+#[no_mangle]
+pub extern "C" fn lum_version() -> u32
+    ensures { λ r. ⌜ r ≡ version ⌝ }
+{
+    2
 }
 
 // The sizes' check.
@@ -81,21 +122,22 @@ pub extern "C" fn lum_answers(table: &[u8], t: usize) -> usize
     part.len()
 }
 
-// The contraction.
-#[no_mangle]
-pub extern "C" fn lum_contract(
+// The contraction on the fields of the struct that it is lent, in their order.
+fn contract_tables<'a>(
     n: usize,
     m: usize,
     k: usize,
-    from: &[u16],
-    to: &[u16],
-    active: &[u16],
-    map: &mut [u16],
-    out_from: &mut [u16],
-    out_to: &mut [u16],
-    work: &mut [u32],
+    from: &'a [u16],
+    to: &'a [u16],
+    active: &'a [u16],
+    map: &'a mut [u16],
+    out_from: &'a mut [u16],
+    out_to: &'a mut [u16],
+    work: &'a mut [u32],
 ) -> LumContractReply
-    ensures { λ r. ⌜ contractedOf r (now (map .exit)) (now («out_from» .exit)) (now («out_to» .exit)) (now (work .exit)) ≡ contraction (contracting.lent n m k (now (from .entry)) (now (to .entry)) (now (active .entry)) (now (map .entry)) (now («out_from» .entry)) (now («out_to» .entry)) (now (work .entry))) ⌝ }
+    ensures { λ r. ⌜ contractedOf r (now (map .exit)) (now («out_from» .exit)) (now («out_to» .exit)) (now (work .exit))
+        ≡ contraction (contracting.lent n m k (now (from .entry)) (now (to .entry)) (now (active .entry))
+        (now (map .entry)) (now («out_from» .entry)) (now («out_to» .entry)) (now (work .entry))) ⌝ }
 {
     let reply = call_contract::contract(n, m, k, from, to, active, map, out_from, out_to, work);
     match reply {
@@ -118,21 +160,41 @@ pub extern "C" fn lum_contract(
     }
 }
 
-// The replay.
+// The contraction.
 #[no_mangle]
-pub extern "C" fn lum_replay(
+pub extern "C" fn lum_contract<'a>(lent: LumContractLent<'a>) -> LumContractReply
+    ensures { λ r. ⌜ contractLeft r (lent .exit) ≡ contraction (contractLent (lent .entry)) ⌝ }
+{
+    contract_tables(
+        lent.n,
+        lent.m,
+        lent.k,
+        lent.from,
+        lent.to,
+        lent.active,
+        lent.map,
+        lent.out_from,
+        lent.out_to,
+        lent.work,
+    )
+}
+
+// The replay on the fields of the struct that it is lent, in their order.
+fn replay_tables<'a>(
     n: usize,
     m: usize,
     t: usize,
     p: usize,
-    a: &[u16],
-    b: &[u16],
-    x: &[u16],
-    y: &[u16],
-    answers: &mut [u8],
-    work: &mut [u32],
+    a: &'a [u16],
+    b: &'a [u16],
+    x: &'a [u16],
+    y: &'a [u16],
+    answers: &'a mut [u8],
+    work: &'a mut [u32],
 ) -> LumReplayReply
-    ensures { λ r. ⌜ replayedOf r (now (answers .exit)) (now (work .exit)) ≡ replay (replaying.lent n m t (now (a .entry)) (now (b .entry)) (now (x .entry)) (now (y .entry)) (now (answers .entry)) (now (work .entry))) p ⌝ }
+    ensures { λ r. ⌜ replayedOf r (now (answers .exit)) (now (work .exit))
+        ≡ replay (replaying.lent n m t (now (a .entry)) (now (b .entry)) (now (x .entry)) (now (y .entry))
+        (now (answers .entry)) (now (work .entry))) p ⌝ }
 {
     let reply = call_replay::replay(n, m, t, p, a, b, x, y, answers, work);
     match reply {
@@ -155,4 +217,23 @@ pub extern "C" fn lum_replay(
             };
         }
     }
+}
+
+// The replay.
+#[no_mangle]
+pub extern "C" fn lum_replay<'a>(lent: LumReplayLent<'a>) -> LumReplayReply
+    ensures { λ r. ⌜ replayLeft r (lent .exit) ≡ replay (replayLent (lent .entry)) (lent .entry .p) ⌝ }
+{
+    replay_tables(
+        lent.n,
+        lent.m,
+        lent.t,
+        lent.p,
+        lent.a,
+        lent.b,
+        lent.x,
+        lent.y,
+        lent.answers,
+        lent.work,
+    )
 }

@@ -98,9 +98,12 @@ answer-none b e = sym (ap (λ (c : Bool). cond (not c) 1 0) (eq-eqb b 3 e))
 pub answer-one : (b : ℕ) → ¬ (b ≡ 3) → _≡_ {A = ℕ} 1 (cond (not (eqb b 3)) 1 0)
 answer-one b n = sym (ap (λ (c : Bool). cond (not c) 1 0) (ne-eqb b 3 n))
 
-pub one-most : (b : Bool) (r : ℕ) → r ≡ cond b 1 0 → r ≤ 1
-one-most true r e = omega arith
-one-most false r e = omega arith
+pub answer-most : (b r : ℕ) → r ≡ cond (not (eqb b 3)) 1 0 → r ≤ 1
+answer-most b r e = go (not (eqb b 3)) e
+  where
+    go : (b : Bool) → r ≡ cond b 1 0 → r ≤ 1
+    go true e = omega arith
+    go false e = omega arith
 
 pub queries-most : (bytes : List ℕ) (i : ℕ) → queriesIn bytes i ≤ i
 unfolding queriesIn
@@ -218,3 +221,25 @@ faultless c z = sym (ap (λ (f : Refusal). f .0) (c .refusal)) ∙ z
 
 pub replayed : (l : Lent) (p : ℕ) (r : Outcome) → Faultless l p → r ≡ done l p → Promise l p r
 replayed l p r f e = promise l p r (e ∙ sym (accepted-done l p f))
+
+-- ---- where the check finds nothing
+module _ {l : Lent} {p : ℕ} {r : Checked} (c : CheckedTables l p r) (z : r .code ≡ 0) where
+  pub grants : Accepted l p
+  grants = granted l p (faultless c z)
+
+  module _ (k : ℕ) (e : k ≡ required (l .t) (l .n)) where
+    pub work-need : k ≤ length (l .work)
+    work-need = omega (arith, grants .work-long)
+
+    pub list-ready : ListReady (l .n) p (take (l .m) (l .a)) (take (l .m) (l .b)) (take (l .t) (l .x)) (take (l .t) (l .y)) (l .answers) (take k (l .work))
+    list-ready = rw e (list-need l p (faultless c z))
+
+    module _ {after : List ℕ} {kept′ : ℕ} (d : ListReplied (l .n) p (take (l .m) (l .a)) (take (l .m) (l .b)) (take (l .t) (l .x)) (take (l .t) (l .y)) (l .answers) after kept′) where
+      pub count-need : l .t ≤ length after
+      count-need = long-after l p (faultless c z) d
+
+      pub replay-is : {cleared : List ℕ} (zs : List ℕ) (q : ℕ) → q ≡ queriesIn after (l .t) → length zs ≡ length (take k (l .work)) → cleared ≡ over (replicate k 0) (zs ++ drop k (l .work))
+          → Promise l p (outcome (Done (record { queries = q; «open» = r .«open»; kept = kept′ })) after cleared)
+      replay-is zs q eq lz ew =
+          let f = faultless c z in
+          replayed l p _ f (done-is l p f d zs q (r .«open») eq (c .open-last f) (lz ∙ ap (λ (n : ℕ). length (take n (l .work))) e) (ew ∙ ap (λ (n : ℕ). over (replicate n 0) (zs ++ drop n (l .work))) e))

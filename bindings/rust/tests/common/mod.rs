@@ -2,7 +2,8 @@
 //! and calls held to the slow version in their reply and in every lent entry afterwards.
 #![allow(dead_code)]
 
-use lumzhasel::{contract, replay, CLOSES, OPENS};
+use lumzhasel::tables::{contract, replay, ContractTables, ReplayTables, CLOSES, OPENS};
+use lumzhasel::Error;
 
 pub type Edge = (usize, usize);
 
@@ -125,6 +126,12 @@ pub fn slow_contract(n: usize, edges: &[Edge], active: &[usize]) -> Small {
             .collect(),
         edges: joined,
     }
+}
+
+/// The number and the place of a refusal.
+pub fn refusal(e: Error) -> (usize, usize) {
+    let refused = e.refusal().expect("the archive has the calls of this package");
+    (refused.reason.code(), refused.place)
 }
 
 /// What a replay is lent.
@@ -280,23 +287,20 @@ impl List {
     pub fn call(&self) -> Replayed {
         let lent = self.clone();
         let (mut answers, mut work) = (self.answers.clone(), self.work.clone());
-        let r = replay(
-            lent.n,
-            lent.m,
-            lent.t,
-            lent.p,
-            &lent.a,
-            &lent.b,
-            &lent.x,
-            &lent.y,
-            &mut answers,
-            &mut work,
-        );
+        let r = replay(ReplayTables {
+            n: lent.n,
+            m: lent.m,
+            t: lent.t,
+            p: lent.p,
+            a: &lent.a,
+            b: &lent.b,
+            x: &lent.x,
+            y: &lent.y,
+            answers: &mut answers,
+            work: &mut work,
+        });
         assert_eq!(&lent, self, "a table that is only read was written");
-        let reply = match r {
-            Ok(t) => Ok((t.queries, t.open, t.kept)),
-            Err(e) => Err((e.reason.code(), e.place)),
-        };
+        let reply = r.map(|t| (t.queries, t.open, t.kept)).map_err(refusal);
         Replayed { reply, answers, work }
     }
 
@@ -403,23 +407,20 @@ impl Graph {
         let mut map = self.map.clone();
         let (mut out_from, mut out_to) = (self.out_from.clone(), self.out_to.clone());
         let mut work = self.work.clone();
-        let r = contract(
-            lent.n,
-            lent.m,
-            lent.k,
-            &lent.from,
-            &lent.to,
-            &lent.active,
-            &mut map,
-            &mut out_from,
-            &mut out_to,
-            &mut work,
-        );
+        let r = contract(ContractTables {
+            n: lent.n,
+            m: lent.m,
+            k: lent.k,
+            from: &lent.from,
+            to: &lent.to,
+            active: &lent.active,
+            map: &mut map,
+            out_from: &mut out_from,
+            out_to: &mut out_to,
+            work: &mut work,
+        });
         assert_eq!(&lent, self, "a table that is only read was written");
-        let reply = match r {
-            Ok(c) => Ok((c.nodes, c.edges)),
-            Err(e) => Err((e.reason.code(), e.place)),
-        };
+        let reply = r.map(|c| (c.nodes, c.edges)).map_err(refusal);
         Contracted {
             reply,
             map,

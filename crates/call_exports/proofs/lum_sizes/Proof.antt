@@ -11,13 +11,17 @@ enum-known-reply : tie.Need-enum-known-reply
 enum-known-reply c = search needs
 
 returns : tie.Need-returns
-returns c = sizes-within (c .before .before .before .before .args .n) (c .before .before .before .before .args .m) (c .before .before .before .before .args .t) (c .before .before .before .before .args .k) (c .before .before .before .check .ensures) (c .before .reply .given .1)
+returns c =
+    let args = c .before .before .before .before .args in
+    sizes-within (args .n) (args .m) (args .t) (args .k) (c .before .before .before .check .ensures) (c .before .reply .given .1)
 
 enum-known-reply-2 : tie.Need-enum-known-reply-2
 enum-known-reply-2 c = search needs
 
 returns-2 : tie.Need-returns-2
-returns-2 c = sizes-refused (c .before .before .before .before .args .n) (c .before .before .before .before .args .m) (c .before .before .before .before .args .t) (c .before .before .before .before .args .k) (c .before .before .before .check .ensures) (c .before .reply2 .given .1)
+returns-2 c =
+    let args = c .before .before .before .before .args in
+    sizes-refused (args .n) (args .m) (args .t) (args .k) (c .before .before .before .check .ensures) (c .before .reply2 .given .1)
 
 pub lum-sizes-spec : {M : Type 1} → statement M
 lum-sizes-spec =

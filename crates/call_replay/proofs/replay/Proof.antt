@@ -1,3 +1,8 @@
+-- The check, the list, the queries, the work table cleared.
+use mathlib.Core.Path.{_≡_, sym}
+use lib.Seq.{length-take-le}
+use native.Mathlib.Omega.{arith}
+use Rattle.call_replay.proofs.CallLaws.{count-need, grants, list-ready, refused-is, replay-is, work-need}
 use borrow.Author.Needs.{needs}
 use Rattle.call_replay.proofs.replay.Statement.{statement}
 use Rattle.call_replay.proofs.replay.Tie as tie
@@ -9,81 +14,71 @@ use Rattle.core_words.proofs.clear.Reads as clear-reads
 use Rattle.replay_checks.proofs.check.Reads as check-reads
 use Rattle.replay_checks.proofs.required.Reads as required-reads
 
--- src/lib.rt:29:9
-check-requires : tie.Need-check-requires
-check-requires c κs = search needs
+abbrev calls : lts.Claims
+calls = (
+  check-reads.Asked,
+  check-reads.Learnt,
+  required-reads.Asked,
+  required-reads.Learnt,
+  replay-list-reads.Asked,
+  replay-list-reads.Learnt,
+  count-queries-reads.Asked,
+  count-queries-reads.Learnt,
+  clear-reads.Asked,
+  clear-reads.Learnt,
+)
 
--- src/lib.rt:31:9
-same-length : tie.Need-same-length
-same-length c = search needs
+-- the check has found nothing
+zero : (c : lts.Else1 calls reads.Pre reads.Post) → c .before .before .check .result .code ≡ 0
+zero c = omega arith
 
--- src/lib.rt:31:9
-same-length-2 : tie.Need-same-length-2
-same-length-2 c = search needs
-
--- src/lib.rt:31:9
 returns : tie.Need-returns
-returns c = ?
+returns c = refused-is _ _ (c .before .before .check .ensures) (omega arith)
 
--- src/lib.rt:33:9
 required-requires : tie.Need-required-requires
-required-requires c κs = ?
+required-requires c κs = let g = grants (c .before .before .check .ensures) (zero c) in (g .t-fits, g .n-fits)
 
--- src/lib.rt:37:9
 slice-aggregate-replay-list : tie.Need-slice-aggregate-replay-list
-slice-aggregate-replay-list c = ?
+slice-aggregate-replay-list c = let g = grants (c .before .before .before .before .check .ensures) (zero (c .before .before)) in sym (length-take-le _ _ (g .a-long))
 
--- src/lib.rt:38:9
 slice-aggregate-replay-list-2 : tie.Need-slice-aggregate-replay-list-2
-slice-aggregate-replay-list-2 c = ?
+slice-aggregate-replay-list-2 c = let g = grants (c .before .before .before .before .before .check .ensures) (zero (c .before .before .before)) in sym (length-take-le _ _ (g .b-long))
 
--- src/lib.rt:39:9
 slice-aggregate-replay-list-3 : tie.Need-slice-aggregate-replay-list-3
-slice-aggregate-replay-list-3 c = ?
+slice-aggregate-replay-list-3 c = let g = grants (c .before .before .before .before .before .before .check .ensures) (zero (c .before .before .before .before)) in sym (length-take-le _ _ (g .x-long))
 
--- src/lib.rt:40:9
 slice-aggregate-replay-list-4 : tie.Need-slice-aggregate-replay-list-4
-slice-aggregate-replay-list-4 c = ?
+slice-aggregate-replay-list-4 c = let g = grants (c .before .before .before .before .before .before .before .check .ensures) (zero (c .before .before .before .before .before)) in sym (length-take-le _ _ (g .y-long))
 
--- src/lib.rt:42:9
 slice-relend-prefix-replay-list : tie.Need-slice-relend-prefix-replay-list
-slice-relend-prefix-replay-list c = ?
+slice-relend-prefix-replay-list c = work-need (c .before .before .before .before .before .before .before .before .check .ensures) (zero (c .before .before .before .before .before .before)) _ (c .before .before .before .before .before .required .ensures)
 
--- src/lib.rt:42:9
 slice-aggregate-replay-list-5 : tie.Need-slice-aggregate-replay-list-5
-slice-aggregate-replay-list-5 c = ?
+slice-aggregate-replay-list-5 c = sym (length-take-le _ _ (work-need (c .before .before .before .before .before .before .before .before .before .check .ensures) (zero (c .before .before .before .before .before .before .before)) _ (c .before .before .before .before .before .before .required .ensures)))
 
--- src/lib.rt:34:9
 replay-list-requires : tie.Need-replay-list-requires
-replay-list-requires c κs = ?
+replay-list-requires c κs = list-ready (c .before .before .before .before .before .before .before .before .before .check .ensures) (zero (c .before .before .before .before .before .before .before)) _ (c .before .before .before .before .before .before .required .ensures)
 
--- src/lib.rt:44:9
 count-queries-requires : tie.Need-count-queries-requires
-count-queries-requires c κs = ?
+count-queries-requires c κs = count-need (c .before .before .before .before .before .before .before .before .before .before .before .before .before .before .before .check .ensures) (zero (c .before .before .before .before .before .before .before .before .before .before .before .before .before)) _ (c .before .before .before .before .before .before .before .before .before .before .before .before .required .ensures) (c .before .before .before .before .before .replay-list .ensures)
 
--- src/lib.rt:45:5
 clear-requires : tie.Need-clear-requires
-clear-requires c κs = ?
+clear-requires c κs = let h = work-need (c .before .before .before .before .before .before .before .before .before .before .before .before .before .before .before .before .before .check .ensures) (zero (c .before .before .before .before .before .before .before .before .before .before .before .before .before .before .before)) _ (c .before .before .before .before .before .before .before .before .before .before .before .before .before .before .required .ensures) in omega arith
 
--- src/lib.rt:12:1
-same-length-3 : tie.Need-same-length-3
-same-length-3 c = search needs
-
--- src/lib.rt:12:1
-same-length-4 : tie.Need-same-length-4
-same-length-4 c = search needs
-
--- src/lib.rt:12:1
 returns-2 : tie.Need-returns-2
-returns-2 c = ?
+returns-2 c =
+    let k = c .before .before .before .before .before .before .before .before .before .before .before .before .before .before .before .before .before .before .before .before .check .ensures in
+    let need = c .before .before .before .before .before .before .before .before .before .before .before .before .before .before .before .before .before .required .ensures in
+    let d = c .before .before .before .before .before .before .before .before .before .before .replay-list in
+    replay-is k (zero (c .before .before .before .before .before .before .before .before .before .before .before .before .before .before .before .before .before .before)) _ need (d .ensures) (d .last .1 .1 .1 .1 .1 .1 .1 .0) _ (c .before .before .before .before .count-queries .ensures) (omega arith) (c .before .before .clear .ensures)
 
 pub replay-spec : {M : Type 1} → statement M
 replay-spec =
     tie.close
     (tie.spec
-    check-requires
-    same-length
-    same-length-2
+    (λ c κs. search needs)
+    (λ c. search needs)
+    (λ c. search needs)
     returns
     required-requires
     slice-aggregate-replay-list
@@ -95,6 +90,6 @@ replay-spec =
     replay-list-requires
     count-queries-requires
     clear-requires
-    same-length-3
-    same-length-4
+    (λ c. search needs)
+    (λ c. search needs)
     returns-2)

@@ -2,8 +2,9 @@ use borrow.Author.Needs.{needs}
 -- Byte by byte.
 use Prim.Native.Nat.{_-_, _≤_}
 use mathlib.Core.Path.{_≡_}
+use lib.ListN.{getD}
 use native.Mathlib.Omega.{arith}
-use Rattle.call_replay.proofs.CallLaws.{one-most, queries-more, queries-most, queries-none}
+use Rattle.call_replay.proofs.CallLaws.{answer-most, queries-more, queries-most, queries-none}
 use Rattle.call_replay.specs.List.{queriesIn}
 use Rattle.call_replay.proofs.list.count_queries.Statement.{statement}
 use Rattle.call_replay.proofs.list.count_queries.Tie as tie
@@ -18,7 +19,10 @@ loop-holds : tie.Need-loop-holds Inv-loop μ-loop
 loop-holds c = (omega arith, queries-none _)
 
 add-k : tie.Need-add-k Inv-loop μ-loop
-add-k c = let l = c .before .before .before .loop in omega (arith, queries-most (c .before .before .before .before .before .args .answers .now) (l .i), l .inv .1, one-most _ _ (c .one-if-answer .ensures))
+add-k c =
+    let l = c .before .before .before .loop in
+    let a = c .before .before .before .before .before .args .answers .now in
+    omega (arith, queries-most a (l .i), l .inv .1, answer-most (getD a (l .i) 0) (c .one-if-answer .result) (c .one-if-answer .ensures))
 
 loop-again : tie.Need-loop-again Inv-loop μ-loop
 loop-again c = let l = c .before .before .before .loop in (omega arith, queries-more (c .before .before .before .before .before .args .answers .now) (l .i) _ _ (l .inv .1) (c .one-if-answer .ensures))

@@ -1,0 +1,168 @@
+//! Why a call has no result.
+
+use std::error;
+use std::fmt;
+
+/// Why a call is refused. Of several reasons the first counts, in the order in which they stand here;
+/// of the events, the first that shows one, and [`Reason::Event`] before the others at one event.
+#[derive(Clone, Copy, Debug, PartialEq, Eq, Hash)]
+#[non_exhaustive]
+pub enum Reason {
+    /// 1: more than 4,096 junctions or nodes, 8,192 segments or edges, 4,096 events or 8,192 active entries.
+    Sizes,
+    /// 2: a table is shorter than its least length.
+    Short,
+    /// 3: the share is below 4 or above 12.
+    Share,
+    /// 4: the first segment or edge, the place, with an end that is no junction or node.
+    End,
+    /// 5: the event at the place names no junction, segment or kind of event.
+    Event,
+    /// 6: the event at the place opens an open segment.
+    OpenTwice,
+    /// 7: the event at the place closes a closed segment.
+    NotOpen,
+    /// 8: the first active entry, the place, that is no node.
+    Entry,
+    /// A number that this package has no name for.
+    Other(usize),
+}
+
+impl Reason {
+    /// The number of the reason in the table of refusals.
+    pub const fn code(self) -> usize {
+        match self {
+            Reason::Sizes => 1,
+            Reason::Short => 2,
+            Reason::Share => 3,
+            Reason::End => 4,
+            Reason::Event => 5,
+            Reason::OpenTwice => 6,
+            Reason::NotOpen => 7,
+            Reason::Entry => 8,
+            Reason::Other(code) => code,
+        }
+    }
+
+    pub(crate) const fn from_code(code: usize) -> Reason {
+        match code {
+            1 => Reason::Sizes,
+            2 => Reason::Short,
+            3 => Reason::Share,
+            4 => Reason::End,
+            5 => Reason::Event,
+            6 => Reason::OpenTwice,
+            7 => Reason::NotOpen,
+            8 => Reason::Entry,
+            code => Reason::Other(code),
+        }
+    }
+}
+
+/// A refused call: the reason and its place, which is 0 where the reason names none. No table was changed.
+#[derive(Clone, Copy, Debug, PartialEq, Eq, Hash)]
+pub struct Refusal {
+    /// Why the call is refused.
+    pub reason: Reason,
+    /// The segment, edge, event or active entry, counted from 0.
+    pub place: usize,
+}
+
+impl fmt::Display for Refusal {
+    /// In the words of the program `replay`, and then the reason.
+    fn fmt(&self, f: &mut fmt::Formatter<'_>) -> fmt::Result {
+        let reason = match self.reason {
+            Reason::Sizes => "a size is over its limit",
+            Reason::Short => "a table is too short",
+            Reason::Share => "the share is not 4 to 12",
+            Reason::End => "an end of the segment is no junction",
+            Reason::Event => "the event names no junction, segment or kind of event",
+            Reason::OpenTwice => "the event opens an open segment",
+            Reason::NotOpen => "the event closes a closed segment",
+            Reason::Entry => "the active entry is no node",
+            Reason::Other(_) => "this package has no name for the reason",
+        };
+        write!(f, "refused {} at {}: {}", self.reason.code(), self.place, reason)
+    }
+}
+
+impl error::Error for Refusal {}
+
+/// Why a call has no result.
+#[derive(Clone, Copy, Debug, PartialEq, Eq, Hash)]
+#[non_exhaustive]
+pub enum Error {
+    /// The call is refused.
+    Refused(Refusal),
+    /// The archive has other calls than this package was written for, and none was made.
+    Version {
+        /// The version of the archive's calls.
+        archive: u32,
+    },
+}
+
+impl Error {
+    /// The refusal, where it is one.
+    pub fn refusal(self) -> Option<Refusal> {
+        match self {
+            Error::Refused(refusal) => Some(refusal),
+            Error::Version { .. } => None,
+        }
+    }
+}
+
+impl From<Refusal> for Error {
+    fn from(refusal: Refusal) -> Error {
+        Error::Refused(refusal)
+    }
+}
+
+impl fmt::Display for Error {
+    fn fmt(&self, f: &mut fmt::Formatter<'_>) -> fmt::Result {
+        match self {
+            Error::Refused(refusal) => refusal.fmt(f),
+            Error::Version { archive } => write!(
+                f,
+                "the archive has version {archive} of the calls, this package is for version {}",
+                crate::VERSION
+            ),
+        }
+    }
+}
+
+impl error::Error for Error {
+    fn source(&self) -> Option<&(dyn error::Error + 'static)> {
+        match self {
+            Error::Refused(refusal) => Some(refusal),
+            Error::Version { .. } => None,
+        }
+    }
+}
+
+#[cfg(test)]
+mod tests {
+    use super::*;
+
+    #[test]
+    fn each_number_is_a_reason() {
+        for code in 0..100 {
+            assert_eq!(Reason::from_code(code).code(), code);
+        }
+        assert_eq!(Reason::from_code(8), Reason::Entry);
+        assert_eq!(Reason::from_code(9), Reason::Other(9));
+        assert_eq!(Reason::from_code(usize::MAX).code(), usize::MAX);
+    }
+
+    #[test]
+    fn a_number_that_is_new_is_said() {
+        let refused = Refusal {
+            reason: Reason::from_code(12),
+            place: 3,
+        };
+        assert_eq!(
+            refused.to_string(),
+            "refused 12 at 3: this package has no name for the reason"
+        );
+        assert_eq!(Error::from(refused).refusal(), Some(refused));
+    }
+}

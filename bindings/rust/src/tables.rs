@@ -1,0 +1,244 @@
+//! The calls on tables that the caller lends. Nothing is allocated, and nothing is kept after a call.
+//!
+//! Tables may be longer than they must be. Entries past the stated sizes are ignored, and none of them
+//! changes. A refused call changes no table. A later version's call may take a table more: then its
+//! struct here has a field more, and a caller who lends none does not compile.
+//!
+//! ```
+//! use lumzhasel::tables::{answers, replay, replay_work, ReplayTables, OPENS};
+//!
+//! let mut table = [0; 5];
+//! let mut work = vec![0; replay_work(3, 5)];
+//! let totals = replay(ReplayTables {
+//!     n: 3,
+//!     m: 3,
+//!     t: 5,
+//!     p: 8,
+//!     a: &[0, 1, 2],
+//!     b: &[1, 2, 0],
+//!     x: &[OPENS, OPENS, 0, OPENS, 0],
+//!     y: &[0, 1, 2, 2, 2],
+//!     answers: &mut table,
+//!     work: &mut work,
+//! })?;
+//! assert_eq!((totals.queries, totals.open, totals.kept), (2, 3, 19));
+//! assert_eq!(answers(&table, 5)?, [3, 3, 1, 3, 2]);
+//! # Ok::<(), lumzhasel::Error>(())
+//! ```
+
+use crate::error::{Error, Reason, Refusal};
+use crate::raw;
+use std::sync::OnceLock;
+
+/// The x of an event that opens the segment in its y.
+pub const OPENS: u16 = 65535;
+/// The x of an event that closes the segment in its y.
+pub const CLOSES: u16 = 65534;
+
+/// The answer byte of two junctions that are not joined.
+pub const NOT_JOINED: u8 = 0;
+/// The answer byte of two junctions that some single removal of an open segment parts.
+pub const JOINED_ONCE: u8 = 1;
+/// The answer byte of two junctions that stay joined whichever single open segment is removed.
+pub const JOINED_TWICE: u8 = 2;
+/// The byte of an event that opens or closes.
+pub const NO_QUERY: u8 = 3;
+
+/// The least length of the work table of a replay of `t` events over `n` junctions.
+pub const fn replay_work(n: usize, t: usize) -> usize {
+    t.saturating_mul(256)
+        .saturating_add(n.saturating_mul(32))
+        .saturating_add(2048)
+}
+
+/// The least length of the work table of a contraction of `n` nodes and `m` edges.
+pub const fn contract_work(n: usize, m: usize) -> usize {
+    n.saturating_mul(16)
+        .saturating_add(m.saturating_mul(8))
+        .saturating_add(512)
+}
+
+/// Sizes within the limits.
+#[derive(Clone, Copy, Debug, PartialEq, Eq, Hash)]
+#[non_exhaustive]
+pub struct Sizes {
+    /// Junctions or nodes.
+    pub n: usize,
+    /// Segments or edges.
+    pub m: usize,
+    /// Events.
+    pub t: usize,
+    /// Active entries.
+    pub k: usize,
+}
+
+/// What an accepted replay returns.
+#[derive(Clone, Copy, Debug, PartialEq, Eq, Hash)]
+#[non_exhaustive]
+pub struct Totals {
+    /// The queries in the list.
+    pub queries: usize,
+    /// The segments that are open at its end.
+    pub open: usize,
+    /// The nodes of the small graphs, summed over all windows.
+    pub kept: usize,
+}
+
+/// What an accepted contraction returns.
+#[derive(Clone, Copy, Debug, PartialEq, Eq, Hash)]
+#[non_exhaustive]
+pub struct Contracted {
+    /// The nodes of the small graph.
+    pub nodes: usize,
+    /// Its edges: the entries that were written to each edge table.
+    pub edges: usize,
+}
+
+/// What a replay is lent: `t` events over `n` junctions and `m` segments, with the share `p`, 4 to 12. Segment s
+/// joins `a[s]` and `b[s]`, both ways; every segment is closed at the start. Event i is a query of the junctions
+/// `x[i]` and `y[i]`, or opens ([`OPENS`] in `x[i]`) or closes ([`CLOSES`]) the segment `y[i]`.
+#[derive(Debug)]
+pub struct ReplayTables<'a> {
+    /// The junctions.
+    pub n: usize,
+    /// The segments.
+    pub m: usize,
+    /// The events.
+    pub t: usize,
+    /// The share of a window's first part, in sixteenths. It changes `kept` and no answer.
+    pub p: usize,
+    /// One end of each segment, at least m.
+    pub a: &'a [u16],
+    /// The other end of each segment, at least m.
+    pub b: &'a [u16],
+    /// The first number of each event, at least t.
+    pub x: &'a [u16],
+    /// The second number of each event, at least t.
+    pub y: &'a [u16],
+    /// At least t. An accepted replay fills the first t: [`NOT_JOINED`], [`JOINED_ONCE`], [`JOINED_TWICE`] or [`NO_QUERY`].
+    pub answers: &'a mut [u8],
+    /// At least [`replay_work`]. An accepted replay leaves 0 over that length.
+    pub work: &'a mut [u32],
+}
+
+/// What a contraction is lent: the graph of `n` nodes and `m` edges, edge s between `from[s]` and `to[s]`, and `k`
+/// active entries. An edge may join a node to itself, parallel edges count each, and active entries may repeat.
+#[derive(Debug)]
+pub struct ContractTables<'a> {
+    /// The nodes.
+    pub n: usize,
+    /// The edges.
+    pub m: usize,
+    /// The active entries.
+    pub k: usize,
+    /// One end of each edge, at least m.
+    pub from: &'a [u16],
+    /// The other end of each edge, at least m.
+    pub to: &'a [u16],
+    /// The active nodes, at least k.
+    pub active: &'a [u16],
+    /// At least k. An accepted contraction fills the first k: the new number of each active entry.
+    pub map: &'a mut [u16],
+    /// At least 2k. An accepted contraction writes the smaller end of each edge, ascending by it, then by the larger.
+    pub out_from: &'a mut [u16],
+    /// At least 2k. An accepted contraction writes the larger end of each edge.
+    pub out_to: &'a mut [u16],
+    /// At least [`contract_work`]. An accepted contraction leaves 0 over that length.
+    pub work: &'a mut [u32],
+}
+
+fn fits(archive: u32) -> Result<(), Error> {
+    if archive == crate::VERSION {
+        return Ok(());
+    }
+    Err(Error::Version { archive })
+}
+
+// The archive is asked once.
+fn check_version() -> Result<(), Error> {
+    static ARCHIVE: OnceLock<u32> = OnceLock::new();
+    fits(*ARCHIVE.get_or_init(raw::version))
+}
+
+// The reply of a code and a place, where 0 is accepted.
+fn reply<T>(code: usize, place: usize, accepted: T) -> Result<T, Error> {
+    if code == 0 {
+        return Ok(accepted);
+    }
+    let reason = Reason::from_code(code);
+    Err(Error::Refused(Refusal { reason, place }))
+}
+
+/// Checks sizes: `n` junctions, `m` segments and `t` events of a replay (`k` is 0), or `n` nodes, `m`
+/// edges and `k` active entries of a contraction (`t` is 0). The other calls make this check themselves.
+///
+/// # Errors
+///
+/// [`Reason::Sizes`] at place 0.
+pub fn check_sizes(n: usize, m: usize, t: usize, k: usize) -> Result<Sizes, Error> {
+    check_version()?;
+    let r = raw::sizes(n, m, t, k);
+    let (n, m, t, k) = (r.n, r.m, r.t, r.k);
+    reply(r.code, r.place, Sizes { n, m, t, k })
+}
+
+/// The table's own first `t` bytes, or its empty part where `t` is larger than the table.
+///
+/// # Errors
+///
+/// [`Error::Version`] alone.
+pub fn answers(table: &[u8], t: usize) -> Result<&[u8], Error> {
+    check_version()?;
+    Ok(&table[..raw::answers(table, t)])
+}
+
+/// Contracts a graph to its active entries. The new nodes are numbered from 0: those that hold an active node in
+/// order of first appearance in `active`, then the others by their smallest node. What is not said to be written
+/// does not change.
+///
+/// # Errors
+///
+/// [`Reason::Sizes`], [`Reason::Short`], [`Reason::End`] and [`Reason::Entry`], in this order.
+pub fn contract(lent: ContractTables<'_>) -> Result<Contracted, Error> {
+    check_version()?;
+    let r = raw::contract(lent);
+    let (nodes, edges) = (r.nodes, r.edges);
+    reply(r.code, r.place, Contracted { nodes, edges })
+}
+
+/// Replays a list. What is not said to be written does not change.
+///
+/// # Errors
+///
+/// [`Reason::Sizes`], [`Reason::Short`], [`Reason::Share`] and [`Reason::End`], in this order; then the
+/// first event that shows [`Reason::Event`], [`Reason::OpenTwice`] or [`Reason::NotOpen`].
+pub fn replay(lent: ReplayTables<'_>) -> Result<Totals, Error> {
+    check_version()?;
+    let r = raw::replay(lent);
+    let (queries, open, kept) = (r.queries, r.open, r.kept);
+    reply(r.code, r.place, Totals { queries, open, kept })
+}
+
+#[cfg(test)]
+mod tests {
+    use super::*;
+
+    #[test]
+    fn an_archive_of_another_version() {
+        assert_eq!(fits(crate::VERSION), Ok(()));
+        for archive in [0, 1, crate::VERSION + 1, u32::MAX] {
+            let error = fits(archive).unwrap_err();
+            assert_eq!(error, Error::Version { archive });
+            assert_eq!(error.refusal(), None);
+            let words = format!("the archive has version {archive} of the calls, this package is for version 2");
+            assert_eq!(error.to_string(), words);
+        }
+    }
+
+    #[test]
+    fn a_code_that_is_new() {
+        let refused = reply(14, 5, ()).unwrap_err().refusal().unwrap();
+        assert_eq!((refused.reason, refused.place), (Reason::Other(14), 5));
+        assert_eq!(reply(0, 0, 7), Ok(7));
+    }
+}

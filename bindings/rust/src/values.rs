@@ -1,0 +1,322 @@
+//! Networks, lists and results as values. Each call makes the tables that it lends.
+
+use crate::error::Error;
+use crate::tables::{self, ContractTables, ReplayTables, Totals, CLOSES, OPENS};
+
+/// Junctions and the segments between them; or nodes and edges, for a contraction. Both are numbered from 0.
+///
+/// A segment may join a junction to itself, and several may join the same two. Nothing is checked before a call is
+/// made: an end that is no junction is refused then.
+#[derive(Clone, Debug, Default, PartialEq, Eq, Hash)]
+pub struct Network {
+    junctions: usize,
+    segments: Vec<(usize, usize)>,
+}
+
+impl Network {
+    /// A network without segments.
+    pub fn new(junctions: usize) -> Network {
+        Network::with_segments(junctions, [])
+    }
+
+    /// A network with these segments, by their two ends.
+    pub fn with_segments(junctions: usize, segments: impl IntoIterator<Item = (usize, usize)>) -> Network {
+        Network {
+            junctions,
+            segments: segments.into_iter().collect(),
+        }
+    }
+
+    /// Adds a segment, and says its number.
+    pub fn add_segment(&mut self, u: usize, v: usize) -> usize {
+        self.segments.push((u, v));
+        self.segments.len() - 1
+    }
+
+    /// The number of junctions.
+    pub fn junctions(&self) -> usize {
+        self.junctions
+    }
+
+    /// The segments, by their two ends.
+    pub fn segments(&self) -> &[(usize, usize)] {
+        &self.segments
+    }
+
+    // The two tables of the segments' ends.
+    fn ends(&self) -> (Vec<u16>, Vec<u16>) {
+        self.segments.iter().map(|&(u, v)| (entry(u), entry(v))).unzip()
+    }
+
+    /// Replays a list over the network, in which every segment is closed at the start.
+    ///
+    /// # Errors
+    ///
+    /// [`Reason::Sizes`](crate::Reason::Sizes), [`Reason::Share`](crate::Reason::Share) and
+    /// [`Reason::End`](crate::Reason::End), in this order; then the first event that shows
+    /// [`Reason::Event`](crate::Reason::Event), [`Reason::OpenTwice`](crate::Reason::OpenTwice) or
+    /// [`Reason::NotOpen`](crate::Reason::NotOpen).
+    pub fn replay(&self, list: &List) -> Result<Replayed, Error> {
+        let (n, m, t) = (self.junctions, self.segments.len(), list.events.len());
+        // Before any table is made, which must have a length within reason.
+        tables::check_sizes(n, m, t, 0)?;
+        let (a, b) = self.ends();
+        let (x, y): (Vec<u16>, Vec<u16>) = list.events.iter().map(|e| e.entries()).unzip();
+        let mut answers = vec![0; t];
+        let totals = tables::replay(ReplayTables {
+            n,
+            m,
+            t,
+            p: list.share,
+            a: &a,
+            b: &b,
+            x: &x,
+            y: &y,
+            answers: &mut answers,
+            work: &mut vec![0; tables::replay_work(n, t)],
+        })?;
+        let answers = tables::answers(&answers, t)?.iter().map(|&b| Answer::from_byte(b));
+        Ok(Replayed {
+            totals,
+            answers: answers.collect(),
+        })
+    }
+
+    /// Contracts the graph of all segments to the active nodes, which may repeat.
+    ///
+    /// # Errors
+    ///
+    /// [`Reason::Sizes`](crate::Reason::Sizes), [`Reason::End`](crate::Reason::End) and
+    /// [`Reason::Entry`](crate::Reason::Entry), in this order.
+    pub fn contract(&self, active: &[usize]) -> Result<SmallGraph, Error> {
+        let (n, m, k) = (self.junctions, self.segments.len(), active.len());
+        tables::check_sizes(n, m, 0, k)?;
+        let (from, to) = self.ends();
+        let active: Vec<u16> = active.iter().map(|&v| entry(v)).collect();
+        let mut map = vec![0; k];
+        let (mut out_from, mut out_to) = (vec![0; 2 * k], vec![0; 2 * k]);
+        let small = tables::contract(ContractTables {
+            n,
+            m,
+            k,
+            from: &from,
+            to: &to,
+            active: &active,
+            map: &mut map,
+            out_from: &mut out_from,
+            out_to: &mut out_to,
+            work: &mut vec![0; tables::contract_work(n, m)],
+        })?;
+        let ends = out_from.iter().zip(&out_to).take(small.edges);
+        Ok(SmallGraph {
+            nodes: small.nodes,
+            edges: ends.map(|(&u, &v)| (u.into(), v.into())).collect(),
+            map: map.into_iter().map(usize::from).collect(),
+        })
+    }
+}
+
+// A number as a table's entry. One that does not fit is far past every limit, as is the entry that stands for it, so that
+// the call refuses it in the same words; and no entry is one that opens or closes.
+fn entry(v: usize) -> u16 {
+    v.min(usize::from(CLOSES - 1)) as u16
+}
+
+/// What happens at one point of a list.
+#[derive(Clone, Copy, Debug, PartialEq, Eq, Hash)]
+#[non_exhaustive]
+pub enum Event {
+    /// The segment opens.
+    Open(usize),
+    /// The segment closes.
+    Close(usize),
+    /// The two junctions are asked about.
+    Query(usize, usize),
+}
+
+impl Event {
+    fn entries(self) -> (u16, u16) {
+        match self {
+            Event::Open(s) => (OPENS, entry(s)),
+            Event::Close(s) => (CLOSES, entry(s)),
+            Event::Query(u, v) => (entry(u), entry(v)),
+        }
+    }
+}
+
+/// A list of events, and the share by which its windows are cut.
+///
+/// ```
+/// use lumzhasel::{Event, List};
+///
+/// let mut list = List::new();
+/// list.open(4).query(0, 7).close(4);
+/// assert_eq!(list, [Event::Open(4), Event::Query(0, 7), Event::Close(4)].into_iter().collect());
+/// ```
+#[derive(Clone, Debug, PartialEq, Eq, Hash)]
+pub struct List {
+    events: Vec<Event>,
+    share: usize,
+}
+
+impl List {
+    /// The share of a list that names none.
+    pub const SHARE: usize = 8;
+
+    /// An empty list.
+    pub fn new() -> List {
+        List::from(Vec::new())
+    }
+
+    /// The same events with another share, 4 to 12. It changes `kept` and the time that a replay takes, and no answer.
+    pub fn with_share(self, share: usize) -> List {
+        List { share, ..self }
+    }
+
+    /// Adds an event.
+    pub fn push(&mut self, event: Event) -> &mut List {
+        self.events.push(event);
+        self
+    }
+
+    /// Adds the opening of a segment.
+    pub fn open(&mut self, segment: usize) -> &mut List {
+        self.push(Event::Open(segment))
+    }
+
+    /// Adds the closing of a segment.
+    pub fn close(&mut self, segment: usize) -> &mut List {
+        self.push(Event::Close(segment))
+    }
+
+    /// Adds a query of two junctions.
+    pub fn query(&mut self, u: usize, v: usize) -> &mut List {
+        self.push(Event::Query(u, v))
+    }
+
+    /// The events.
+    pub fn events(&self) -> &[Event] {
+        &self.events
+    }
+
+    /// The share.
+    pub fn share(&self) -> usize {
+        self.share
+    }
+}
+
+impl Default for List {
+    fn default() -> List {
+        List::new()
+    }
+}
+
+impl From<Vec<Event>> for List {
+    fn from(events: Vec<Event>) -> List {
+        let share = List::SHARE;
+        List { events, share }
+    }
+}
+
+impl FromIterator<Event> for List {
+    fn from_iter<I: IntoIterator<Item = Event>>(events: I) -> List {
+        List::from(Vec::from_iter(events))
+    }
+}
+
+impl Extend<Event> for List {
+    fn extend<I: IntoIterator<Item = Event>>(&mut self, events: I) {
+        self.events.extend(events);
+    }
+}
+
+/// The reply to a query.
+#[derive(Clone, Copy, Debug, PartialEq, Eq, Hash)]
+#[non_exhaustive]
+pub enum Answer {
+    /// 0: no route of open segments runs between the junctions.
+    NotJoined,
+    /// 1: they are joined, and some single removal of an open segment parts them.
+    JoinedOnce,
+    /// 2: they are joined, and stay joined whichever single open segment is removed.
+    JoinedTwice,
+    /// A byte that this package has no name for.
+    Other(u8),
+}
+
+impl Answer {
+    /// The answer byte.
+    pub const fn byte(self) -> u8 {
+        match self {
+            Answer::NotJoined => tables::NOT_JOINED,
+            Answer::JoinedOnce => tables::JOINED_ONCE,
+            Answer::JoinedTwice => tables::JOINED_TWICE,
+            Answer::Other(byte) => byte,
+        }
+    }
+
+    const fn from_byte(byte: u8) -> Option<Answer> {
+        match byte {
+            tables::NOT_JOINED => Some(Answer::NotJoined),
+            tables::JOINED_ONCE => Some(Answer::JoinedOnce),
+            tables::JOINED_TWICE => Some(Answer::JoinedTwice),
+            tables::NO_QUERY => None,
+            byte => Some(Answer::Other(byte)),
+        }
+    }
+}
+
+/// The result of a replay.
+#[derive(Clone, Debug, PartialEq, Eq, Hash)]
+#[non_exhaustive]
+pub struct Replayed {
+    /// The numbers of the whole list.
+    pub totals: Totals,
+    /// For each event its answer; none where it opens or closes.
+    pub answers: Vec<Option<Answer>>,
+}
+
+impl Replayed {
+    /// Each query's event and answer, in order.
+    pub fn queries(&self) -> impl Iterator<Item = (usize, Answer)> + '_ {
+        let each = self.answers.iter().enumerate();
+        each.filter_map(|(i, answer)| answer.map(|a| (i, a)))
+    }
+}
+
+/// The result of a contraction. Its nodes are numbered from 0: those that hold an active node in order of first
+/// appearance among the active ones, then the others by their smallest node.
+#[derive(Clone, Debug, PartialEq, Eq, Hash)]
+#[non_exhaustive]
+pub struct SmallGraph {
+    /// The number of nodes.
+    pub nodes: usize,
+    /// The edges, each with its smaller end first, ascending.
+    pub edges: Vec<(usize, usize)>,
+    /// The node that each active entry stands at.
+    pub map: Vec<usize>,
+}
+
+#[cfg(test)]
+mod tests {
+    use super::*;
+
+    #[test]
+    fn each_byte_is_an_answer_or_none() {
+        for byte in 0..=255 {
+            match Answer::from_byte(byte) {
+                Some(answer) => assert_eq!(answer.byte(), byte),
+                None => assert_eq!(byte, tables::NO_QUERY),
+            }
+        }
+    }
+
+    #[test]
+    fn no_number_becomes_an_opening() {
+        for v in [65533, 65534, 65535, 65536, 65536 + 3, usize::MAX] {
+            assert_eq!(entry(v), 65533);
+            assert_eq!(Event::Query(v, v).entries(), (65533, 65533));
+        }
+        assert_eq!(entry(8191), 8191);
+    }
+}
