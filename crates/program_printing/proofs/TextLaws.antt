@@ -1,21 +1,20 @@
--- Laws of the program's text: texts written one after the other, numbers in base ten, the lines of the queries.
+-- Laws of the program's text: texts written one after the other, numbers in base ten, the lines of the answers.
 -- Assumes nothing.
 use Prim.Native.Nat.{_%_, _+_, _/_, _<_, _^_, _≤_, suc, zero, ℕ}
-use mathlib.Core.Bool.{Bool, false, true}
+use mathlib.Core.Bool.{Bool, false, not, true}
 use mathlib.Core.List.{List, [], _++_, _∷_, append-assoc, append-nil}
 use mathlib.Core.Path.{_∙_, _≡_, ap, ap₂, refl, subst, sym}
-use lib.Dec.{ltb}
+use lib.Dec.{eqb, ltb}
 use lib.ListN.{getD, length, length-append, set, take}
 use lib.Seq.{length-sets, length-take-le, sets, take-suc}
 use native.Mathlib.Nat.{pow-suc}
 use native.Mathlib.Numerals.{add-one}
 use native.Mathlib.Omega.{arith}
-use borrow.Author.Tests.{le-ltb, lt-ltb, ltb-false, ltb-true}
+use borrow.Author.Tests.{eq-eqb, le-ltb, lt-ltb, ltb-false, ltb-true, ne-eqb}
 use Rattle.theory_graph.proofs.Booleans.{onBool}
 use Rattle.theory_graph.proofs.TableLaws.{sets-append}
-use Rattle.program_printing.specs.Printing.{Wrote}
-use Rattle.theory_timeline.specs.Events.{Event, asks}
-use Rattle.theory_timeline.specs.Program.{decimal, queryLine, queryLines, spell}
+use Rattle.program_printing.specs.Printing.{Wrote, answerLines}
+use Rattle.theory_timeline.specs.Program.{decimal, queryLine, spell}
 
 -- one byte more of a text
 pub sets-more : (a t : List ℕ) (at i : ℕ) → i < length t → set (sets a at (take i t)) (at + i) (getD t i 0) ≡ sets a at (take (i + 1) t)
@@ -92,35 +91,42 @@ decimal-more n l h =
     spell-more 19 n [] l ∙ spell-rest 19 (n / 10) ((48 + n % 10) ∷ [])
     ∙ ap (λ (x : List ℕ). x ++ ((48 + n % 10) ∷ [])) (spell-room 18 (n / 10) [] (omega arith))
 
--- ---- the lines of the queries
-pub lines-snoc : (ev : ℕ → Event) (ans : ℕ → ℕ) (i n : ℕ) → queryLines ev ans i (n + 1) ≡ queryLines ev ans i n ++ queryLines ev ans (i + n) 1
-unfolding queryLines
-lines-snoc ev ans i zero = let e : i + 0 ≡ i = omega arith in ap (λ (k : ℕ). queryLines ev ans k 1) (sym e)
-lines-snoc ev ans i (suc n) =
+-- ---- the lines of the answers
+pub lines-snoc : (bytes : List ℕ) (i n : ℕ) → answerLines bytes i (n + 1) ≡ answerLines bytes i n ++ answerLines bytes (i + n) 1
+unfolding answerLines
+lines-snoc bytes i zero = let e : i + 0 ≡ i = omega arith in ap (λ (k : ℕ). answerLines bytes k 1) (sym e)
+lines-snoc bytes i (suc n) =
     let e : suc n + 1 ≡ suc (n + 1) = omega arith in
     let f : suc i + n ≡ i + suc n = omega arith in
-    ap (queryLines ev ans i) e ∙ step (asks (ev i)) (lines-snoc ev ans (suc i) n ∙ ap (λ (k : ℕ). queryLines ev ans (suc i) n ++ queryLines ev ans k 1) f)
+    ap (answerLines bytes i) e
+    ∙ step (not (eqb (getD bytes i 0) 3)) (lines-snoc bytes (suc i) n ∙ ap (λ (k : ℕ). answerLines bytes (suc i) n ++ answerLines bytes k 1) f)
   where
-    step : (b : Bool) → queryLines ev ans (suc i) (n + 1) ≡ queryLines ev ans (suc i) n ++ queryLines ev ans (i + suc n) 1
-        → elim b as (λ x. List ℕ) [ true ↦ queryLine i (ans i) ++ queryLines ev ans (suc i) (n + 1) | false ↦ queryLines ev ans (suc i) (n + 1) ]
-        ≡ (elim b as (λ x. List ℕ) [ true ↦ queryLine i (ans i) ++ queryLines ev ans (suc i) n | false ↦ queryLines ev ans (suc i) n ]) ++ queryLines ev ans (i + suc n) 1
-    step true h = ap (λ (l : List ℕ). queryLine i (ans i) ++ l) h ∙ sym (append-assoc (queryLine i (ans i)) (queryLines ev ans (suc i) n) (queryLines ev ans (i + suc n) 1))
+    step : (b : Bool) → answerLines bytes (suc i) (n + 1) ≡ answerLines bytes (suc i) n ++ answerLines bytes (i + suc n) 1
+        → elim b as (λ x. List ℕ) [ true ↦ queryLine i (getD bytes i 0) ++ answerLines bytes (suc i) (n + 1) | false ↦ answerLines bytes (suc i) (n + 1) ]
+        ≡ (elim b as (λ x. List ℕ) [ true ↦ queryLine i (getD bytes i 0) ++ answerLines bytes (suc i) n | false ↦ answerLines bytes (suc i) n ])
+        ++ answerLines bytes (i + suc n) 1
+    step true h =
+        ap (λ (l : List ℕ). queryLine i (getD bytes i 0) ++ l) h
+        ∙ sym (append-assoc (queryLine i (getD bytes i 0)) (answerLines bytes (suc i) n) (answerLines bytes (i + suc n) 1))
     step false h = h
 
-pub lines-zero : (ev : ℕ → Event) (ans : ℕ → ℕ) → queryLines ev ans 0 0 ≡ []
-unfolding queryLines
-lines-zero ev ans = refl
+pub lines-zero : (bytes : List ℕ) → answerLines bytes 0 0 ≡ []
+unfolding answerLines
+lines-zero bytes = refl
 
-pub from-zero : (ev : ℕ → Event) (ans : ℕ → ℕ) (i : ℕ) → queryLines ev ans i 1 ≡ queryLines ev ans (0 + i) 1
-from-zero ev ans i = let e : i ≡ 0 + i = omega arith in ap (λ (k : ℕ). queryLines ev ans k 1) e
+pub from-zero : (bytes : List ℕ) (i : ℕ) → answerLines bytes i 1 ≡ answerLines bytes (0 + i) 1
+from-zero bytes i = let e : i ≡ 0 + i = omega arith in ap (λ (k : ℕ). answerLines bytes k 1) e
 
-pub lines-query : (ev : ℕ → Event) (ans : ℕ → ℕ) (i : ℕ) → asks (ev i) ≡ true → queryLines ev ans i 1 ≡ queryLine i (ans i)
-unfolding queryLines
-lines-query ev ans i h = ap (λ (b : Bool). elim b as (λ x. List ℕ) [ true ↦ queryLine i (ans i) ++ [] | false ↦ [] ]) h ∙ append-nil (queryLine i (ans i))
+lines-one : (bytes : List ℕ) (i : ℕ) {b : Bool} → eqb (getD bytes i 0) 3 ≡ b
+    → answerLines bytes i 1 ≡ elim (not b) as (λ x. List ℕ) [ true ↦ queryLine i (getD bytes i 0) ++ [] | false ↦ [] ]
+unfolding answerLines
+lines-one bytes i h = ap (λ (b : Bool). elim (not b) as (λ x. List ℕ) [ true ↦ queryLine i (getD bytes i 0) ++ [] | false ↦ [] ]) h
 
-pub lines-none : (ev : ℕ → Event) (ans : ℕ → ℕ) (i : ℕ) → asks (ev i) ≡ false → queryLines ev ans i 1 ≡ []
-unfolding queryLines
-lines-none ev ans i h = ap (λ (b : Bool). elim b as (λ x. List ℕ) [ true ↦ queryLine i (ans i) ++ [] | false ↦ [] ]) h
+pub lines-answer : (bytes : List ℕ) (i : ℕ) → ¬ (getD bytes i 0 ≡ 3) → answerLines bytes i 1 ≡ queryLine i (getD bytes i 0)
+lines-answer bytes i h = lines-one bytes i (ne-eqb (getD bytes i 0) 3 h) ∙ append-nil (queryLine i (getD bytes i 0))
+
+pub lines-none : (bytes : List ℕ) (i : ℕ) → getD bytes i 0 ≡ 3 → answerLines bytes i 1 ≡ []
+lines-none bytes i h = lines-one bytes i (eq-eqb (getD bytes i 0) 3 h)
 
 -- ---- where a text ends
 pub number-end : (n : ℕ) {at r : ℕ} {a b : List ℕ} → Wrote at (decimal n) a b r → (r ≤ at + 20) × (length b ≡ length a)

@@ -1,11 +1,8 @@
 // The output: numbers in base ten, one line for each query, the totals, or the refusal. Each function writes its text at `at` and answers where the next goes.
-ghost use mathlib.Core.Path.{_≡_};
-ghost use mathlib.Core.List.{List};
-ghost use Prim.Native.Nat.{ℕ, _+_, _*_, _<_, _≤_};
+ghost use Prim.Native.Nat.{_+_, _*_, _<_, _≤_};
 ghost use lib.ListN.{length};
-ghost use Rattle.theory_timeline.specs.Events.{asks};
-ghost use Rattle.theory_timeline.specs.Program.{decimal, queryLine, queryLines, totalsLine, refusedLine};
-ghost use Rattle.program_printing.specs.Printing.{Wrote, eventAt, byteAt};
+ghost use Rattle.theory_timeline.specs.Program.{decimal, queryLine, totalsLine, refusedLine};
+ghost use Rattle.program_printing.specs.Printing.{Wrote, answerLines};
 
 // Writes a text.
 fn put_text(out: &mut [u8], at: usize, text: &[u8]) -> usize
@@ -71,35 +68,27 @@ pub fn put_refused(out: &mut [u8], at: usize, code: usize, place: usize) -> usiz
     put_text(out, d, b"\n")
 }
 
-// Whether an event with this X asks.
-fn is_query(x: u16) -> bool
-    ensures { λ r. ⌜ ((y : ℕ) → r ≡ asks (x, y)) ⌝ }
+// Writes the line of event i, where its byte is an answer: 3 says that it opens or closes.
+fn put_event(out: &mut [u8], at: usize, i: usize, answers: &[u8]) -> usize
+    requires { ⌜ (at + 42 ≤ length (now out)) × (i < length (now answers)) ⌝ }
+    ensures { λ r. ⌜ Wrote at (answerLines (now (answers .entry)) i 1) (now (out .entry)) (now (out .exit)) r × (r ≤ at + 42) ⌝ }
 {
-    let names = replay_segments::names_segment(x);
-    !names
-}
-
-// Writes the line of event i, where it asks.
-fn put_event(out: &mut [u8], at: usize, i: usize, x: &[u16], answers: &[u8]) -> usize
-    requires { ⌜ (at + 42 ≤ length (now out)) × (i < length (now x)) × (i < length (now answers)) ⌝ }
-    ensures { λ r. ⌜ ((y : List ℕ) → Wrote at (queryLines (eventAt (now (x .entry)) y) (byteAt (now (answers .entry))) i 1) (now (out .entry)) (now (out .exit)) r) × (r ≤ at + 42) ⌝ }
-{
-    let q = is_query(x[i]);
-    if q {
-        return put_query(out, at, i, answers[i]);
+    if answers[i] == 3 {
+        return at;
     }
-    at
+    put_query(out, at, i, answers[i])
 }
 
 // Internal: writes the lines of the first t events.
-pub fn put_queries(out: &mut [u8], t: usize, x: &[u16], answers: &[u8]) -> usize
-    requires { ⌜ (42 * t ≤ length (now out)) × (t ≤ 32) × (t ≤ length (now x)) × (t ≤ length (now answers)) ⌝ }
-    ensures { λ r. ⌜ ((y : List ℕ) → Wrote 0 (queryLines (eventAt (now (x .entry)) y) (byteAt (now (answers .entry))) 0 t) (now (out .entry)) (now (out .exit)) r) × (r ≤ 42 * t) ⌝ }
+pub fn put_queries(out: &mut [u8], t: usize, answers: &[u8]) -> usize
+    requires { ⌜ (42 * t ≤ length (now out)) × (t ≤ 32) × (t ≤ length (now answers)) ⌝ }
+    ensures { λ r. ⌜ Wrote 0 (answerLines (now (answers .entry)) 0 t) (now (out .entry)) (now (out .exit)) r × (r ≤ 42 * t) ⌝ }
 {
     let mut at: usize = 0;
     let mut i: usize = 0;
+    // The lines of the first i events are written.
     while i < t {
-        at = put_event(out, at, i, x, answers);
+        at = put_event(out, at, i, answers);
         i += 1;
     }
     at

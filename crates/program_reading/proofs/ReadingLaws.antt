@@ -30,7 +30,8 @@ filled-more ws i k a b f l =
     record {
       same = length-set b k (getD ws (i + k) 0) ∙ f .same;
       inside = λ j m. onBool (eqb j k)
-          (λ t. let e = eqb-true j k t in ap (λ (x : ℕ). getD (set b k (getD ws (i + k) 0)) x 0) e ∙ getD-set-same b k (getD ws (i + k) 0) 0 (omega (arith, f .same)) ∙ ap (λ (x : ℕ). getD ws (i + x) 0) (sym e))
+          (λ t. let e = eqb-true j k t in ap (λ (x : ℕ). getD (set b k (getD ws (i + k) 0)) x 0) e
+          ∙ getD-set-same b k (getD ws (i + k) 0) 0 (omega (arith, f .same)) ∙ ap (λ (x : ℕ). getD ws (i + x) 0) (sym e))
           (λ t. let n : ¬ (j ≡ k) = eqb-false j k t in getD-set-other b k j (getD ws (i + k) 0) 0 n ∙ f .inside j (omega arith));
       above = λ j m. getD-set-other b k j (getD ws (i + k) 0) 0 (λ e. omega arith) ∙ f .above j (omega arith);
     }
@@ -90,7 +91,8 @@ module _ (I : List ℕ) where
   unfolding inputFault inputFaults
   other-length a b c e f = simp (le-ltb (length I) 8 a, le-ltb 192 N b, le-ltb 64 M c, le-ltb 32 T e, ne-eqb (length I) (2 * inputLength M T) f)
 
-  pub input-right : 8 ≤ length I → N ≤ 192 → M ≤ 64 → T ≤ 32 → length I ≡ 2 * inputLength M T → record { accepted = true; code = 0; place = 0; n = N; m = M; t = T; p = shareOf (words16 I) } ≡ checkInput I
+  pub input-right : 8 ≤ length I → N ≤ 192 → M ≤ 64 → T ≤ 32 → length I ≡ 2 * inputLength M T
+      → record { accepted = true; code = 0; place = 0; n = N; m = M; t = T; p = shareOf (words16 I) } ≡ checkInput I
   unfolding inputFault inputFaults
   input-right a b c e f = simp (le-ltb (length I) 8 a, le-ltb 192 N b, le-ltb 64 M c, le-ltb 32 T e, eq-eqb (length I) (2 * inputLength M T) f)
 
@@ -98,4 +100,5 @@ module _ (I : List ℕ) where
   pub input-read : {n m t p : ℕ} → n ≡ N → m ≡ M → t ≡ T → p ≡ shareOf (words16 I) → 8 ≤ length I → n ≤ 192 → m ≤ 64 → t ≤ 32 → length I ≡ 2 * inputLength m t
       → record { accepted = true; code = 0; place = 0; n = n; m = m; t = t; p = p } ≡ checkInput I
   input-read {n} {m} {t} {p} e f g h a b c d k =
-      (λ i. record { accepted = true; code = 0; place = 0; n = e i; m = f i; t = g i; p = h i }) ∙ input-right a (omega arith) (omega arith) (omega arith) (k ∙ ap₂ (λ (x y : ℕ). 2 * inputLength x y) f g)
+      (λ i. record { accepted = true; code = 0; place = 0; n = e i; m = f i; t = g i; p = h i })
+      ∙ input-right a (omega arith) (omega arith) (omega arith) (k ∙ ap₂ (λ (x y : ℕ). 2 * inputLength x y) f g)

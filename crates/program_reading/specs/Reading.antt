@@ -31,7 +31,15 @@ abbrev pub checkInput : List ℕ → HeaderOutcome
 checkInput bytes =
     let ws : List ℕ = words16 bytes in
     let f : Refusal = inputFault bytes in
-    record { accepted = eqb (f .0) 0; code = f .0; place = f .1; n = ifAccepted f (junctionsOf ws); m = ifAccepted f (segmentsOf ws); t = ifAccepted f (eventsOf ws); p = ifAccepted f (shareOf ws) }
+    record {
+      accepted = eqb (f .0) 0;
+      code = f .0;
+      place = f .1;
+      n = ifAccepted f (junctionsOf ws);
+      m = ifAccepted f (segmentsOf ws);
+      t = ifAccepted f (eventsOf ws);
+      p = ifAccepted f (shareOf ws);
+    }
 
 -- the first k entries of the table are the numbers ws from i on, and the others stay
 pub record Filled (ws : List ℕ) (i k : ℕ) (a b : List ℕ) : Type 0 where

@@ -1,27 +1,28 @@
--- Laws of the response: what a header says of its input, the tables that are filled from the input, and the print of a reply.
+-- Laws of the response: what a header says of its input, the tables that are filled from the input, and the reply to them.
 -- Assumes nothing.
 use Prim.Native.Nat.{_*_, _+_, _<_, _≤_, ℕ}
 use mathlib.Core.Bool.{false, true}
 use mathlib.Core.List.{List, [], _++_, _∷_}
-use mathlib.Core.Path.{_∙_, _≡_, ap, ap₂, fun-ext, sym}
+use mathlib.Core.Path.{_∙_, _≡_, ap, ap₂, refl, sym}
 use lib.Dec.{eqb, ltb}
-use lib.ListN.{List·getD-eq-default, drop, getD, length, length-append, length-drop, replicate, take}
+use lib.ListN.{drop, getD, length, length-append, replicate, take}
 use lib.Seq.{getD-take, length-take-le, take-all}
 use native.Mathlib.Omega.{arith}
 use borrow.Author.Tests.{eqb-true, ltb-false, ltb-true, not-false}
 use Rattle.theory_graph.proofs.Booleans.{onBool}
-use Rattle.theory_graph.specs.Lists.{pairs}
 use Rattle.program_reading.proofs.ReadingLaws.{filled-take, many-events, many-junctions, many-segments, other-length, words16-length, word-at}
 use Rattle.program_printing.proofs.TextLaws.{decimal-most}
-use Rattle.program_printing.specs.Printing.{eventAt, printedOf}
+use Rattle.program_printing.specs.Printing.{printedOf}
 use Rattle.program_reading.specs.Reading.{Filled, HeaderOutcome, Read, checkInput, headerOutcome}
 use Rattle.program_reading.specs.declared.Header.the-variants.{Refused, Sizes}
 use Rattle.call_sizes.proofs.RefusalLaws.{fault-silent}
-use Rattle.theory_timeline.proofs.Acceptance.{getD-pairs, length-pairs}
-use Rattle.theory_timeline.specs.Call.{lent}
-use Rattle.theory_timeline.specs.Events.{Event}
-use Rattle.theory_timeline.specs.Program.{decimal, eventsOf, inputFault, inputFaults, inputLength, inputLent, junctionsOf, outputWith, printed, refusedLine, segmentsOf, shareOf, totalsLine, words16}
-use Rattle.theory_timeline.specs.Replay.{Lent, Outcome, given, replay}
+use Rattle.theory_timeline.specs.Call.{lent, outcome}
+use Rattle.theory_timeline.specs.Program.{decimal, eventsOf, inputFault, inputFaults, inputLength, inputLent, junctionsOf}
+use Rattle.theory_timeline.specs.Program.{outputWith, printed, refusedLine, segmentsOf, shareOf, totalsLine, words16}
+use Rattle.theory_timeline.specs.Replay.{Lent, Outcome, replay}
+use Rattle.theory_timeline.specs.declared.ReplayReply.{ReplayReply}
+use Rattle.program_response.proofs.PrintLaws.{outcome-work, replay-printed}
+use Rattle.program_response.specs.Response.{workAfter}
 
 -- ---- the header
 module _ (I : List ℕ) where
@@ -59,11 +60,19 @@ module _ (I : List ℕ) where
     unfolding outputWith
     output-accepted work = rw (outputWith, accepts) (ap (λ (q : ℕ). printed (inputLent work I) (replay (inputLent work I) q)) header-share)
 
+    pub work-accepted : (work : List ℕ) {left : List ℕ} → left ≡ (replay (inputLent work I) p) .work → left ≡ workAfter work I
+    unfolding workAfter
+    work-accepted work h = rw (workAfter, accepts) (h ∙ ap (λ (q : ℕ). (replay (inputLent work I) q) .work) header-share)
+
   pub output-refused : {c : ℕ} → headerOutcome (Refused c) ≡ checkInput I → (work : List ℕ) → refusedLine c 0 ≡ outputWith work I
   unfolding outputWith
   output-refused e work =
       let r : eqb (inputFault I .0) 0 ≡ false = sym (ap (λ (o : HeaderOutcome). o .accepted) e) in
       rw (outputWith, r) (ap₂ refusedLine (ap (λ (o : HeaderOutcome). o .code) e) (ap (λ (o : HeaderOutcome). o .place) e))
+
+  pub work-refused : {c : ℕ} → headerOutcome (Refused c) ≡ checkInput I → (work : List ℕ) → work ≡ workAfter work I
+  unfolding workAfter
+  work-refused e work = let r : eqb (inputFault I .0) 0 ≡ false = sym (ap (λ (o : HeaderOutcome). o .accepted) e) in rw (workAfter, r) refl
 
   -- ---- the tables
   module _ {n m t : ℕ} (r : Read n m t I) where
@@ -84,28 +93,19 @@ module _ (I : List ℕ) where
         (take (r .events i) (drop (4 + 2 * r .segments i) (words16 I))) (take (r .events i) (drop (4 + 2 * r .segments i + r .events i) (words16 I)))
         (replicate 32 0) work)
 
--- ---- the print
-events-at : (t : ℕ) (x y : List ℕ) → length x ≡ t → length y ≡ t → (i : ℕ) → eventAt x y i ≡ getD (pairs (take t x) (take t y)) i (0, 0)
-events-at t x y a b i = onBool (ltb i t)
-    (λ e. sym (getD-pairs t x y i (omega arith) (omega arith) (ltb-true i t e)))
-    (λ e.
-    let l = ltb-false i t e in
-    ap₂ (λ (u v : ℕ). (u, v)) (List·getD-eq-default x 0 (omega arith)) (List·getD-eq-default y 0 (omega arith))
-    ∙ sym (List·getD-eq-default (pairs (take t x) (take t y)) (0, 0) (omega (arith, length-pairs t x y (omega arith) (omega arith)))))
-
-pub reply-printed : (n m t p : ℕ) (a b x y answers work : List ℕ) {o : Outcome} → length x ≡ t → length y ≡ t → o ≡ replay (lent n m t a b x y answers work) p
-    → printedOf (eventAt x y) t o ≡ printed (lent n m t a b x y answers work) (replay (lent n m t a b x y answers work) p)
-unfolding printed given
-reply-printed n m t p a b x y answers work f g e = ap₂ (λ (ev : ℕ → Event) (o : Outcome). printedOf ev t o) (fun-ext (events-at t x y f g)) e
-
-pub replied : (I : List ℕ) {n m t : ℕ} (r : Read n m t I) (p : ℕ) (work : List ℕ) {a b x y : List ℕ} → a ≡ take m (drop 4 (words16 I)) → b ≡ take m (drop (4 + m) (words16 I))
-    → x ≡ take t (drop (4 + 2 * m) (words16 I)) → y ≡ take t (drop (4 + 2 * m + t) (words16 I)) → {o : Outcome} → o ≡ replay (lent n m t a b x y (replicate 32 0) work) p
-    → printedOf (eventAt x y) t o ≡ printed (inputLent work I) (replay (inputLent work I) p)
-replied I {n} {m} {t} r p work {a} {b} {x} {y} ea eb ex ey {o} e =
-    let long = numbers I r in
-    let lx : length x ≡ t = ap length ex ∙ length-take-le t (drop (4 + 2 * m) (words16 I)) (omega (arith, length-drop (4 + 2 * m) (words16 I))) in
-    let ly : length y ≡ t = ap length ey ∙ length-take-le t (drop (4 + 2 * m + t) (words16 I)) (omega (arith, length-drop (4 + 2 * m + t) (words16 I))) in
-    reply-printed n m t p a b x y (replicate 32 0) work lx ly e ∙ ap (λ (l : Lent). printed l (replay l p)) (lent-input I r work ea eb ex ey)
+-- ---- the reply
+-- to what an input lends: its print, and the work table
+pub replied : (I : List ℕ) {n m t : ℕ} (r : Read n m t I) (p : ℕ) (work : List ℕ) {a b x y : List ℕ}
+    → a ≡ take m (drop 4 (words16 I)) → b ≡ take m (drop (4 + m) (words16 I))
+    → x ≡ take t (drop (4 + 2 * m) (words16 I)) → y ≡ take t (drop (4 + 2 * m + t) (words16 I))
+    → (reply : ReplayReply) (answers left : List ℕ) → outcome reply answers left ≡ replay (lent n m t a b x y (replicate 32 0) work) p
+    → (printedOf t (outcome reply answers left) ≡ printed (inputLent work I) (replay (inputLent work I) p)) × (left ≡ (replay (inputLent work I) p) .work)
+unfolding inputLent
+replied I {n} {m} {t} r p work ea eb ex ey reply answers left e =
+    let f = e ∙ ap (λ (l : Lent). replay l p) (lent-input I r work ea eb ex ey) in (
+      ap₂ printedOf (r .events) f ∙ replay-printed (inputLent work I) p,
+      sym (outcome-work reply answers left) ∙ ap (λ (o : Outcome). o .work) f,
+    )
 
 -- ---- where a line ends
 pub totals-most : (q o k : ℕ) → length (totalsLine q o k) ≤ 78
@@ -126,7 +126,8 @@ unfolding refusedLine
 refused-most c i = omega (arith, decimal-most c, decimal-most i, length-append (decimal c) (32 ∷ 97 ∷ 116 ∷ 32 ∷ (decimal i ++ (10 ∷ []))), length-append (decimal i) (10 ∷ []))
 
 -- ---- reading 512 bytes is enough: an input longer than any list is refused in the same words whatever follows
-longer : (work I J : List ℕ) → 392 < length I → 392 < length J → junctionsOf (words16 I) ≡ junctionsOf (words16 J) → segmentsOf (words16 I) ≡ segmentsOf (words16 J) → eventsOf (words16 I) ≡ eventsOf (words16 J)
+longer : (work I J : List ℕ) → 392 < length I → 392 < length J → junctionsOf (words16 I) ≡ junctionsOf (words16 J) → segmentsOf (words16 I) ≡ segmentsOf (words16 J)
+    → eventsOf (words16 I) ≡ eventsOf (words16 J)
     → outputWith work I ≡ outputWith work J
 longer work I J a b e f g =
     onBool (ltb 192 (junctionsOf (words16 I)))
@@ -152,6 +153,7 @@ enough work bytes = onBool (ltb 512 (length bytes))
     let l = ltb-true 512 (length bytes) h in
     let e : length (take 512 bytes) ≡ 512 = length-take-le 512 bytes (omega arith) in
     let at : (i : ℕ) → i < 3 → getD (words16 (take 512 bytes)) i 0 ≡ getD (words16 bytes) i 0 = λ i b.
-    word-at (take 512 bytes) i (omega arith) ∙ ap₂ (λ (x y : ℕ). x + 256 * y) (getD-take 512 bytes (2 * i) 0 (omega arith)) (getD-take 512 bytes (2 * i + 1) 0 (omega arith)) ∙ sym (word-at bytes i (omega arith)) in
+    word-at (take 512 bytes) i (omega arith)
+    ∙ ap₂ (λ (x y : ℕ). x + 256 * y) (getD-take 512 bytes (2 * i) 0 (omega arith)) (getD-take 512 bytes (2 * i + 1) 0 (omega arith)) ∙ sym (word-at bytes i (omega arith)) in
     longer work (take 512 bytes) bytes (omega arith) (omega arith) (at 0 (omega arith)) (at 1 (omega arith)) (at 2 (omega arith)))
     (λ h. ap (outputWith work) (take-all 512 bytes (ltb-false 512 (length bytes) h)))

@@ -1,27 +1,28 @@
 // The response to an input of the right length: the tables filled from it, the replay, and its reply in print.
+ghost use mathlib.Core.Path.{_≡_};
 ghost use mathlib.Core.List.{List};
-ghost use Prim.Native.Nat.{ℕ, _*_, _≤_};
+ghost use Prim.Native.Nat.{ℕ, _≤_};
 ghost use lib.ListN.{length};
 ghost use Rattle.theory_timeline.specs.Call.{outcome};
 ghost use Rattle.theory_timeline.specs.Program.{inputLent, printed};
 ghost use Rattle.theory_timeline.specs.Replay.{replay};
-ghost use Rattle.program_printing.specs.Printing.{Wrote, eventAt, printedOf};
+ghost use Rattle.program_printing.specs.Printing.{Wrote, printedOf};
 ghost use Rattle.program_reading.specs.Reading.{Read};
 
 // Prints a reply to t events.
 pub(crate) fn put_reply(
     out: &mut [u8],
     t: usize,
-    x: &[u16],
     answers: &[u8],
     reply: theory_timeline::ReplayReply,
 ) -> usize
-    requires { ⌜ (2048 ≤ length (now out)) × (t ≤ 32) × (t ≤ length (now x)) × (t ≤ length (now answers)) ⌝ }
-    ensures { λ r. ⌜ ((y work : List ℕ) → Wrote 0 (printedOf (eventAt (now (x .entry)) y) t (outcome reply (now (answers .entry)) work)) (now (out .entry)) (now (out .exit)) r) × (r ≤ 2048) ⌝ }
+    requires { ⌜ (2048 ≤ length (now out)) × (t ≤ 32) × (t ≤ length (now answers)) ⌝ }
+    ensures { λ r. ⌜ ((work : List ℕ) → Wrote 0 (printedOf t (outcome reply (now (answers .entry)) work)) (now (out .entry)) (now (out .exit)) r)
+        × (r ≤ 2048) ⌝ }
 {
     match reply {
         theory_timeline::ReplayReply::Done(totals) => {
-            let at = program_printing::put_queries(out, t, x, answers);
+            let at = program_printing::put_queries(out, t, answers);
             return program_printing::put_totals(out, at, totals.queries, totals.open, totals.kept);
         }
         theory_timeline::ReplayReply::Refused(code, place) => {
@@ -41,7 +42,9 @@ pub(crate) fn replay_input(
     out: &mut [u8],
 ) -> usize
     requires { ⌜ Read n m t (now input) × (2048 ≤ length (now out)) ⌝ }
-    ensures { λ r. ⌜ Wrote 0 (printed (inputLent (now (work .entry)) (now (input .entry))) (replay (inputLent (now (work .entry)) (now (input .entry))) p)) (now (out .entry)) (now (out .exit)) r × (r ≤ 2048) ⌝ }
+    ensures { λ r. ⌜ Wrote 0 (printed (inputLent (now (work .entry)) (now (input .entry))) (replay (inputLent (now (work .entry)) (now (input .entry))) p))
+        (now (out .entry)) (now (out .exit)) r × (r ≤ 2048) ⌝ }
+    ensures { λ r. ⌜ now (work .exit) ≡ (replay (inputLent (now (work .entry)) (now (input .entry))) p) .work ⌝ }
 {
     let mut a = [0u16; 64];
     let mut b = [0u16; 64];
@@ -52,7 +55,6 @@ pub(crate) fn replay_input(
     program_reading::fill(input, 4 + m, m, &mut b);
     program_reading::fill(input, 4 + 2 * m, t, &mut x);
     program_reading::fill(input, 4 + 2 * m + t, t, &mut y);
-    let xs = &x[..t];
     let reply = call_replay::replay(
         n,
         m,
@@ -60,10 +62,10 @@ pub(crate) fn replay_input(
         p,
         &a[..m],
         &b[..m],
-        xs,
+        &x[..t],
         &y[..t],
         &mut answers,
         work,
     );
-    put_reply(out, t, xs, &answers, reply)
+    put_reply(out, t, &answers, reply)
 }

@@ -9,37 +9,62 @@ use Rattle.program_printing.proofs.put_query.Tie as tie
 put-number-requires : tie.Need-put-number-requires
 put-number-requires c κs = omega (arith, decimal-most (c .before .before .args .i))
 
-slice-aggregate-put-text : tie.Need-slice-aggregate-put-text
-slice-aggregate-put-text c = search needs
-
 put-text-requires : tie.Need-put-text-requires
-put-text-requires c κs = omega (arith, number-end (c .before .before .before .before .before .before .before .args .i) (c .before .before .before .before .put-number .ensures))
+put-text-requires c κs =
+    let at-put-number = c .before .before .before .before in
+    let start = at-put-number .before .before .before in
+    omega (arith, number-end (start .args .i) (at-put-number .put-number .ensures))
 
 put-number-requires-2 : tie.Need-put-number-requires-2
-put-number-requires-2 c κs = omega (arith, number-end (c .before .before .before .before .before .before .before .before .before .before .before .args .i) (c .before .before .before .before .before .before .before .before .put-number .ensures), text-end (32 ∷ []) (c .before .before .before .put-text .ensures), decimal-most (c .before .before .before .before .before .before .before .before .before .before .before .args .answer))
-
-slice-aggregate-put-text-2 : tie.Need-slice-aggregate-put-text-2
-slice-aggregate-put-text-2 c = search needs
+put-number-requires-2 c κs =
+    let at-put-text = c .before .before .before in
+    let at-put-number = at-put-text .before .before .before .before .before in
+    let start = at-put-number .before .before .before in
+    omega (arith, number-end (start .args .i) (at-put-number .put-number .ensures), text-end (32 ∷ []) (at-put-text .put-text .ensures), decimal-most (start .args .answer))
 
 put-text-requires-2 : tie.Need-put-text-requires-2
-put-text-requires-2 c κs = omega (arith, number-end (c .before .before .before .before .before .before .before .before .before .before .before .before .before .before .before .before .args .i) (c .before .before .before .before .before .before .before .before .before .before .before .before .before .put-number .ensures), text-end (32 ∷ []) (c .before .before .before .before .before .before .before .before .put-text .ensures), number-end (c .before .before .before .before .before .before .before .before .before .before .before .before .before .before .before .before .args .answer) (c .before .before .before .before .put-number2 .ensures))
-
-same-length : tie.Need-same-length
-same-length c = search needs
+put-text-requires-2 c κs =
+    let at-put-number2 = c .before .before .before .before in
+    let at-put-text = at-put-number2 .before .before .before .before in
+    let at-put-number = at-put-text .before .before .before .before .before in
+    let start = at-put-number .before .before .before in
+    omega (
+      arith,
+      number-end (start .args .i) (at-put-number .put-number .ensures),
+      text-end (32 ∷ []) (at-put-text .put-text .ensures),
+      number-end (start .args .answer) (at-put-number2 .put-number2 .ensures),
+    )
 
 returns : tie.Need-returns
 unfolding queryLine
-returns c = (wrote-then (decimal (c .before .before .before .before .before .before .before .before .before .before .before .before .before .before .before .before .before .before .before .args .i)) (32 ∷ decimal (c .before .before .before .before .before .before .before .before .before .before .before .before .before .before .before .before .before .before .before .args .answer) ++ (10 ∷ [])) (c .before .before .before .before .before .before .before .before .before .before .before .before .before .before .before .before .put-number .ensures) (wrote-then (32 ∷ []) _ (c .before .before .before .before .before .before .before .before .before .before .before .put-text .ensures) (wrote-then (decimal (c .before .before .before .before .before .before .before .before .before .before .before .before .before .before .before .before .before .before .before .args .answer)) _ (c .before .before .before .before .before .before .before .put-number2 .ensures) (c .before .before .put-text2 .ensures))), omega (arith, number-end (c .before .before .before .before .before .before .before .before .before .before .before .before .before .before .before .before .before .before .before .args .i) (c .before .before .before .before .before .before .before .before .before .before .before .before .before .before .before .before .put-number .ensures), text-end (32 ∷ []) (c .before .before .before .before .before .before .before .before .before .before .before .put-text .ensures), number-end (c .before .before .before .before .before .before .before .before .before .before .before .before .before .before .before .before .before .before .before .args .answer) (c .before .before .before .before .before .before .before .put-number2 .ensures), text-end (10 ∷ []) (c .before .before .put-text2 .ensures)))
+returns c =
+    let at-put-text2 = c .before .before in
+    let at-put-number2 = at-put-text2 .before .before .before .before .before in
+    let at-put-text = at-put-number2 .before .before .before .before in
+    let at-put-number = at-put-text .before .before .before .before .before in
+    let start = at-put-number .before .before .before in
+    let a = start .args in (
+      wrote-then (decimal (a .i)) (32 ∷ decimal (a .answer) ++ (10 ∷ [])) (at-put-number .put-number .ensures)
+          (wrote-then (32 ∷ []) _ (at-put-text .put-text .ensures)
+          (wrote-then (decimal (a .answer)) _ (at-put-number2 .put-number2 .ensures) (at-put-text2 .put-text2 .ensures))),
+      omega (
+        arith,
+        number-end (a .i) (at-put-number .put-number .ensures),
+        text-end (32 ∷ []) (at-put-text .put-text .ensures),
+        number-end (a .answer) (at-put-number2 .put-number2 .ensures),
+        text-end (10 ∷ []) (at-put-text2 .put-text2 .ensures),
+      ),
+    )
 
 pub put-query-spec : {M : Type 1} → statement M
 put-query-spec =
     tie.close
     (tie.spec
     put-number-requires
-    slice-aggregate-put-text
+    (λ c. search needs)
     put-text-requires
     put-number-requires-2
-    slice-aggregate-put-text-2
+    (λ c. search needs)
     put-text-requires-2
-    same-length
+    (λ c. search needs)
     returns)

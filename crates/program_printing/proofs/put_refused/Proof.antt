@@ -6,48 +6,73 @@ use Rattle.program_printing.proofs.put_refused.Statement.{statement}
 use Rattle.theory_timeline.specs.Program.{decimal, refusedLine}
 use Rattle.program_printing.proofs.put_refused.Tie as tie
 
-slice-aggregate-put-text : tie.Need-slice-aggregate-put-text
-slice-aggregate-put-text c = search needs
-
-put-text-requires : tie.Need-put-text-requires
-put-text-requires c κs = search needs
-
 put-number-requires : tie.Need-put-number-requires
-put-number-requires c κs = omega (arith, text-end (114 ∷ 101 ∷ 102 ∷ 117 ∷ 115 ∷ 101 ∷ 100 ∷ 32 ∷ []) (c .before .before .before .put-text .ensures), decimal-most (c .before .before .before .before .before .before .before .args .code))
-
-slice-aggregate-put-text-2 : tie.Need-slice-aggregate-put-text-2
-slice-aggregate-put-text-2 c = search needs
+put-number-requires c κs =
+    let at-put-text = c .before .before .before in
+    let start = at-put-text .before .before .before .before in
+    omega (arith, text-end (114 ∷ 101 ∷ 102 ∷ 117 ∷ 115 ∷ 101 ∷ 100 ∷ 32 ∷ []) (at-put-text .put-text .ensures), decimal-most (start .args .code))
 
 put-text-requires-2 : tie.Need-put-text-requires-2
-put-text-requires-2 c κs = omega (arith, text-end (114 ∷ 101 ∷ 102 ∷ 117 ∷ 115 ∷ 101 ∷ 100 ∷ 32 ∷ []) (c .before .before .before .before .before .before .before .before .put-text .ensures), number-end (c .before .before .before .before .before .before .before .before .before .before .before .before .args .code) (c .before .before .before .before .put-number .ensures))
+put-text-requires-2 c κs =
+    let at-put-number = c .before .before .before .before in
+    let at-put-text = at-put-number .before .before .before .before in
+    let start = at-put-text .before .before .before .before in
+    omega (arith, text-end (114 ∷ 101 ∷ 102 ∷ 117 ∷ 115 ∷ 101 ∷ 100 ∷ 32 ∷ []) (at-put-text .put-text .ensures), number-end (start .args .code) (at-put-number .put-number .ensures))
 
 put-number-requires-2 : tie.Need-put-number-requires-2
-put-number-requires-2 c κs = omega (arith, text-end (114 ∷ 101 ∷ 102 ∷ 117 ∷ 115 ∷ 101 ∷ 100 ∷ 32 ∷ []) (c .before .before .before .before .before .before .before .before .before .before .before .before .put-text .ensures), number-end (c .before .before .before .before .before .before .before .before .before .before .before .before .before .before .before .before .args .code) (c .before .before .before .before .before .before .before .before .put-number .ensures), text-end (32 ∷ 97 ∷ 116 ∷ 32 ∷ []) (c .before .before .before .put-text2 .ensures), decimal-most (c .before .before .before .before .before .before .before .before .before .before .before .before .before .before .before .before .args .place))
-
-slice-aggregate-put-text-3 : tie.Need-slice-aggregate-put-text-3
-slice-aggregate-put-text-3 c = search needs
+put-number-requires-2 c κs =
+    let at-put-text2 = c .before .before .before in
+    let at-put-number = at-put-text2 .before .before .before .before .before in
+    let at-put-text = at-put-number .before .before .before .before in
+    let start = at-put-text .before .before .before .before in
+    omega (
+      arith,
+      text-end (114 ∷ 101 ∷ 102 ∷ 117 ∷ 115 ∷ 101 ∷ 100 ∷ 32 ∷ []) (at-put-text .put-text .ensures),
+      number-end (start .args .code) (at-put-number .put-number .ensures),
+      text-end (32 ∷ 97 ∷ 116 ∷ 32 ∷ []) (at-put-text2 .put-text2 .ensures),
+      decimal-most (start .args .place),
+    )
 
 put-text-requires-3 : tie.Need-put-text-requires-3
-put-text-requires-3 c κs = omega (arith, text-end (114 ∷ 101 ∷ 102 ∷ 117 ∷ 115 ∷ 101 ∷ 100 ∷ 32 ∷ []) (c .before .before .before .before .before .before .before .before .before .before .before .before .before .before .before .before .before .put-text .ensures), number-end (c .before .before .before .before .before .before .before .before .before .before .before .before .before .before .before .before .before .before .before .before .before .args .code) (c .before .before .before .before .before .before .before .before .before .before .before .before .before .put-number .ensures), text-end (32 ∷ 97 ∷ 116 ∷ 32 ∷ []) (c .before .before .before .before .before .before .before .before .put-text2 .ensures), number-end (c .before .before .before .before .before .before .before .before .before .before .before .before .before .before .before .before .before .before .before .before .before .args .place) (c .before .before .before .before .put-number2 .ensures))
-
-same-length : tie.Need-same-length
-same-length c = search needs
+put-text-requires-3 c κs =
+    let at-put-number2 = c .before .before .before .before in
+    let at-put-text2 = at-put-number2 .before .before .before .before in
+    let at-put-number = at-put-text2 .before .before .before .before .before in
+    let at-put-text = at-put-number .before .before .before .before in
+    let start = at-put-text .before .before .before .before in
+    omega (
+      arith,
+      text-end (114 ∷ 101 ∷ 102 ∷ 117 ∷ 115 ∷ 101 ∷ 100 ∷ 32 ∷ []) (at-put-text .put-text .ensures),
+      number-end (start .args .code) (at-put-number .put-number .ensures),
+      text-end (32 ∷ 97 ∷ 116 ∷ 32 ∷ []) (at-put-text2 .put-text2 .ensures),
+      number-end (start .args .place) (at-put-number2 .put-number2 .ensures),
+    )
 
 returns : tie.Need-returns
 unfolding refusedLine
-returns c = wrote-then (114 ∷ 101 ∷ 102 ∷ 117 ∷ 115 ∷ 101 ∷ 100 ∷ 32 ∷ []) _ (c .before .before .before .before .before .before .before .before .before .before .before .before .before .before .before .before .before .before .before .before .put-text .ensures) (wrote-then (decimal (c .before .before .before .before .before .before .before .before .before .before .before .before .before .before .before .before .before .before .before .before .before .before .before .before .args .code)) _ (c .before .before .before .before .before .before .before .before .before .before .before .before .before .before .before .before .put-number .ensures) (wrote-then (32 ∷ 97 ∷ 116 ∷ 32 ∷ []) _ (c .before .before .before .before .before .before .before .before .before .before .before .put-text2 .ensures) (wrote-then (decimal (c .before .before .before .before .before .before .before .before .before .before .before .before .before .before .before .before .before .before .before .before .before .before .before .before .args .place)) _ (c .before .before .before .before .before .before .before .put-number2 .ensures) (c .before .before .put-text3 .ensures))))
+returns c =
+    let at-put-text3 = c .before .before in
+    let at-put-number2 = at-put-text3 .before .before .before .before .before in
+    let at-put-text2 = at-put-number2 .before .before .before .before in
+    let at-put-number = at-put-text2 .before .before .before .before .before in
+    let at-put-text = at-put-number .before .before .before .before in
+    let start = at-put-text .before .before .before .before in
+    wrote-then (114 ∷ 101 ∷ 102 ∷ 117 ∷ 115 ∷ 101 ∷ 100 ∷ 32 ∷ []) _ (at-put-text .put-text .ensures)
+    (wrote-then (decimal (start .args .code)) _ (at-put-number .put-number .ensures)
+    (wrote-then (32 ∷ 97 ∷ 116 ∷ 32 ∷ []) _ (at-put-text2 .put-text2 .ensures)
+    (wrote-then (decimal (start .args .place)) _ (at-put-number2 .put-number2 .ensures) (at-put-text3 .put-text3 .ensures))))
 
 pub put-refused-spec : {M : Type 1} → statement M
 put-refused-spec =
     tie.close
     (tie.spec
-    slice-aggregate-put-text
-    put-text-requires
+    (λ c. search needs)
+    (λ c κs. search needs)
     put-number-requires
-    slice-aggregate-put-text-2
+    (λ c. search needs)
     put-text-requires-2
     put-number-requires-2
-    slice-aggregate-put-text-3
+    (λ c. search needs)
     put-text-requires-3
-    same-length
+    (λ c. search needs)
     returns)

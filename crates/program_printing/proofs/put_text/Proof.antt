@@ -17,32 +17,35 @@ abbrev μ-loop : tie.MeasureT-loop
 loop-holds : tie.Need-loop-holds Inv-loop μ-loop
 loop-holds c = (omega arith, refl)
 
-shared-slice-read-out : tie.Need-shared-slice-read-out Inv-loop μ-loop
-shared-slice-read-out c = omega arith
-
-add-out : tie.Need-add-out Inv-loop μ-loop
-add-out c = omega arith
-
 slice-write-out : tie.Need-slice-write-out Inv-loop μ-loop
-slice-write-out c = omega (arith, ap length (c .before .before .loop .inv .1), length-sets (c .before .before .before .args .out .now) (c .before .before .before .args .at) (take (c .before .before .loop .i) (c .before .before .before .args .text .now)))
-
-add-i : tie.Need-add-i Inv-loop μ-loop
-add-i c = omega arith
-
-loop-less : tie.Need-loop-less Inv-loop μ-loop
-loop-less c = omega arith
+slice-write-out c =
+    let at-loop = c .before .before in
+    let start = at-loop .before in
+    let a = start .args in
+    omega (arith, ap length (at-loop .loop .inv .1), length-sets (a .out .now) (a .at) (take (at-loop .loop .i) (a .text .now)))
 
 loop-again : tie.Need-loop-again Inv-loop μ-loop
-loop-again c = (omega arith, ap (λ (l : List ℕ). set l (c .before .before .before .args .at + c .before .before .loop .i) (getD (c .before .before .before .args .text .now) (c .before .before .loop .i) 0)) (c .before .before .loop .inv .1) ∙ sets-more (c .before .before .before .args .out .now) (c .before .before .before .args .text .now) (c .before .before .before .args .at) (c .before .before .loop .i) (omega arith))
-
-add-result : tie.Need-add-result Inv-loop μ-loop
-add-result c = omega arith
+loop-again c =
+    let at-loop = c .before .before in
+    let start = at-loop .before in
+    let a = start .args in (
+      omega arith,
+      ap (λ (l : List ℕ). set l (a .at + at-loop .loop .i) (getD (a .text .now) (at-loop .loop .i) 0)) (at-loop .loop .inv .1)
+          ∙ sets-more (a .out .now) (a .text .now) (a .at) (at-loop .loop .i) (omega arith),
+    )
 
 same-length : tie.Need-same-length Inv-loop μ-loop
-same-length c = ap length (c .before .loop .inv .1) ∙ length-sets (c .before .before .args .out .now) (c .before .before .args .at) (take (c .before .loop .i) (c .before .before .args .text .now))
+same-length c =
+    let start = c .before .before in
+    let a = start .args in
+    ap length (c .before .loop .inv .1) ∙ length-sets (a .out .now) (a .at) (take (c .before .loop .i) (a .text .now))
 
 returns : tie.Need-returns Inv-loop μ-loop
-returns c = record { table = c .before .loop .inv .1 ∙ ap (sets (c .before .before .args .out .now) (c .before .before .args .at)) (take-all (c .before .loop .i) (c .before .before .args .text .now) (omega arith)); next = omega arith }
+returns c =
+    let start = c .before .before in
+    let a = start .args in
+    record
+    { table = c .before .loop .inv .1 ∙ ap (sets (a .out .now) (a .at)) (take-all (c .before .loop .i) (a .text .now) (omega arith)); next = omega arith }
 
 pub put-text-spec : {M : Type 1} → statement M
 put-text-spec =
@@ -51,12 +54,12 @@ put-text-spec =
     Inv-loop
     μ-loop
     loop-holds
-    shared-slice-read-out
-    add-out
+    (λ c. omega arith)
+    (λ c. omega arith)
     slice-write-out
-    add-i
-    loop-less
+    (λ c. omega arith)
+    (λ c. omega arith)
     loop-again
-    add-result
+    (λ c. omega arith)
     same-length
     returns)

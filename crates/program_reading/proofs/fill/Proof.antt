@@ -17,32 +17,28 @@ abbrev μ-loop : tie.MeasureT-loop
 loop-holds : tie.Need-loop-holds Inv-loop μ-loop
 loop-holds c = (omega arith, filled-none (words16 (c .before .before .args .input .now)) (c .before .before .args .i) (c .before .before .args .table .now))
 
-add-number : tie.Need-add-number Inv-loop μ-loop
-add-number c = omega arith
-
-number-requires : tie.Need-number-requires Inv-loop μ-loop
-number-requires c κs = omega arith
-
-mul-table : tie.Need-mul-table Inv-loop μ-loop
-mul-table c = omega arith
-
 slice-write-table : tie.Need-slice-write-table Inv-loop μ-loop
 slice-write-table c = omega (arith, c .before .before .loop .inv .1 .same)
 
-add-j : tie.Need-add-j Inv-loop μ-loop
-add-j c = omega arith
-
-loop-less : tie.Need-loop-less Inv-loop μ-loop
-loop-less c = omega arith
-
 loop-again : tie.Need-loop-again Inv-loop μ-loop
-loop-again c = (omega arith, subst (λ (x : ℕ). Filled (words16 (c .before .before .before .before .before .args .input .now)) (c .before .before .before .before .before .args .i) (c .before .before .loop .j + 1) (c .before .before .before .before .before .args .table .now) (set (c .before .before .loop .table) (c .before .before .loop .j) x)) (sym (c .number .ensures)) (filled-more _ _ _ _ _ (c .before .before .loop .inv .1) (omega arith)))
+loop-again c =
+    let at-loop = c .before .before in
+    let start = at-loop .before .before .before in
+    let a = start .args in (
+      omega arith,
+      subst (λ (x : ℕ). Filled (words16 (a .input .now)) (a .i) (at-loop .loop .j + 1) (a .table .now) (set (at-loop .loop .table) (at-loop .loop .j) x))
+          (sym (c .number .ensures)) (filled-more _ _ _ _ _ (at-loop .loop .inv .1) (omega arith)),
+    )
 
 same-length : tie.Need-same-length Inv-loop μ-loop
 same-length c = c .before .loop .inv .1 .same
 
 returns : tie.Need-returns Inv-loop μ-loop
-returns c = let e : c .before .loop .j ≡ c .before .before .before .before .args .k = omega arith in subst (λ (x : ℕ). Filled (words16 (c .before .before .before .before .args .input .now)) (c .before .before .before .before .args .i) x (c .before .before .before .before .args .table .now) (c .before .loop .table)) e (c .before .loop .inv .1)
+returns c =
+    let at-loop = c .before in
+    let a = at-loop .before .before .before .args in
+    let e : at-loop .loop .j ≡ a .k = omega arith in
+    subst (λ (x : ℕ). Filled (words16 (a .input .now)) (a .i) x (a .table .now) (at-loop .loop .table)) e (at-loop .loop .inv .1)
 
 pub fill-spec : {M : Type 1} → statement M
 fill-spec =
@@ -51,12 +47,12 @@ fill-spec =
     Inv-loop
     μ-loop
     loop-holds
-    add-number
-    number-requires
-    mul-table
+    (λ c. omega arith)
+    (λ c κs. omega arith)
+    (λ c. omega arith)
     slice-write-table
-    add-j
-    loop-less
+    (λ c. omega arith)
+    (λ c. omega arith)
     loop-again
     same-length
     returns)

@@ -6,23 +6,8 @@ use Rattle.program_reading.proofs.ReadingLaws.{word-at}
 use Rattle.program_reading.proofs.number.Statement.{statement}
 use Rattle.program_reading.proofs.number.Tie as tie
 
-mul-low : tie.Need-mul-low
-mul-low c = search needs
-
-shared-slice-read-low : tie.Need-shared-slice-read-low
-shared-slice-read-low c = search needs
-
 cast-low : tie.Need-cast-low
 cast-low c = omega (arith, c .shared-slice-known .given (2 * c .before .args .i))
-
-mul-high : tie.Need-mul-high
-mul-high c = search needs
-
-add-high : tie.Need-add-high
-add-high c = search needs
-
-shared-slice-read-high : tie.Need-shared-slice-read-high
-shared-slice-read-high c = search needs
 
 cast-high : tie.Need-cast-high
 cast-high c = omega (arith, c .shared-slice-known2 .given (2 * c .before .before .args .i + 1))
@@ -31,7 +16,9 @@ mul-result : tie.Need-mul-result
 mul-result c = omega (arith, c .shared-slice-known2 .given (2 * c .before .before .args .i + 1))
 
 add-result : tie.Need-add-result
-add-result c = omega (arith, c .shared-slice-known2 .given (2 * c .before .before .args .i + 1), c .before .shared-slice-known .given (2 * c .before .before .args .i))
+add-result c =
+    let start = c .before .before in
+    omega (arith, c .shared-slice-known2 .given (2 * start .args .i + 1), c .before .shared-slice-known .given (2 * start .args .i))
 
 returns : tie.Need-returns
 returns c = sym (word-at (c .before .before .args .input .now) (c .before .before .args .i) (c .before .before .pre))
@@ -40,12 +27,12 @@ pub number-spec : {M : Type 1} → statement M
 number-spec =
     tie.close
     (tie.spec
-    mul-low
-    shared-slice-read-low
+    (λ c. search needs)
+    (λ c. search needs)
     cast-low
-    mul-high
-    add-high
-    shared-slice-read-high
+    (λ c. search needs)
+    (λ c. search needs)
+    (λ c. search needs)
     cast-high
     mul-result
     add-result

@@ -1,53 +1,53 @@
+use mathlib.Core.Path.{_∙_, ap, sym}
+use native.Mathlib.Omega.{arith}
+use borrow.Author.Needs.{needs}
 use Rattle.program_reading.specs.Reading.{headerOutcome}
 use Rattle.program_printing.proofs.TextLaws.{wrote-as}
-use Rattle.program_response.proofs.ResponseLaws.{header-read, output-accepted, output-refused, refused-most}
-use native.Mathlib.Omega.{arith}
-use mathlib.Core.Path.{_∙_, ap, sym}
-use borrow.Author.Needs.{needs}
+use Rattle.program_response.proofs.ResponseLaws.{header-read, output-accepted, output-refused, refused-most, work-accepted, work-refused}
 use Rattle.program_response.proofs.respond.Statement.{statement}
 use Rattle.program_response.proofs.respond.Tie as tie
 
-read-header-requires : tie.Need-read-header-requires
-read-header-requires c κs = search needs
-
-enum-known-header : tie.Need-enum-known-header
-enum-known-header c = search needs
-
 replay-input-requires : tie.Need-replay-input-requires
-replay-input-requires c κs = (header-read (c .before .before .before .before .before .before .before .before .before .args .input .now) (ap headerOutcome (sym (c .before .before .before .header .given .1)) ∙ c .before .before .before .before .before .read-header .ensures), omega arith)
-
-same-length : tie.Need-same-length
-same-length c = search needs
-
-same-length-2 : tie.Need-same-length-2
-same-length-2 c = search needs
+replay-input-requires c κs =
+    let at-header = c .before .before .before in
+    let at-read = at-header .before .before in
+    (header-read (at-read .before .before .before .before .args .input .now) (ap headerOutcome (sym (at-header .header .given .1)) ∙ at-read .read-header .ensures), omega arith)
 
 returns : tie.Need-returns
-returns c = (wrote-as (output-accepted (c .before .before .before .before .before .before .before .before .before .before .before .before .before .before .args .input .now) (ap headerOutcome (sym (c .before .before .before .before .before .before .before .before .header .given .1)) ∙ c .before .before .before .before .before .before .before .before .before .before .read-header .ensures) (c .before .before .before .before .before .before .before .before .before .before .before .before .before .before .args .work .now)) (c .before .before .before .before .replay-input .ensures .0), c .before .before .before .before .replay-input .ensures .1)
-
-enum-known-header-2 : tie.Need-enum-known-header-2
-enum-known-header-2 c = search needs
-
-put-refused-requires : tie.Need-put-refused-requires
-put-refused-requires c κs = search needs
-
-same-length-3 : tie.Need-same-length-3
-same-length-3 c = search needs
+returns c =
+    let at-replay = c .before .before .before .before in
+    let at-header = at-replay .before .before .before .before in
+    let at-read = at-header .before .before in
+    let a = at-read .before .before .before .before .args in
+    let e = ap headerOutcome (sym (at-header .header .given .1)) ∙ at-read .read-header .ensures in
+    let w = at-replay .replay-input .ensures in (
+      (wrote-as (output-accepted (a .input .now) e (a .work .now)) (w .0 .0), w .0 .1),
+      work-accepted (a .input .now) e (a .work .now) (w .1),
+    )
 
 returns-2 : tie.Need-returns-2
-returns-2 c = (wrote-as (output-refused (c .before .before .before .before .before .before .before .before .before .before .before .args .input .now) (ap headerOutcome (sym (c .before .before .before .before .before .header2 .given .1)) ∙ c .before .before .before .before .before .before .before .read-header .ensures) (c .before .before .before .before .before .before .before .before .before .before .before .args .work .now)) (c .before .before .put-refused .ensures), omega (arith, c .before .before .put-refused .ensures .next, refused-most (c .before .before .before .before .before .header2 .given .0 .0) 0))
+returns-2 c =
+    let at-refused = c .before .before in
+    let at-header = at-refused .before .before .before in
+    let at-read = at-header .before .before in
+    let a = at-read .before .before .before .before .args in
+    let e = ap headerOutcome (sym (at-header .header2 .given .1)) ∙ at-read .read-header .ensures in
+    let w = at-refused .put-refused .ensures in (
+      (wrote-as (output-refused (a .input .now) e (a .work .now)) w, omega (arith, w .next, refused-most (at-header .header2 .given .0 .0) 0)),
+      work-refused (a .input .now) e (a .work .now),
+    )
 
 pub respond-spec : {M : Type 1} → statement M
 respond-spec =
     tie.close
     (tie.spec
-    read-header-requires
-    enum-known-header
+    (λ c κs. search needs)
+    (λ c. search needs)
     replay-input-requires
-    same-length
-    same-length-2
+    (λ c. search needs)
+    (λ c. search needs)
     returns
-    enum-known-header-2
-    put-refused-requires
-    same-length-3
+    (λ c. search needs)
+    (λ c κs. search needs)
+    (λ c. search needs)
     returns-2)
