@@ -9,7 +9,7 @@ use lib.ListN.{getD, length, length-replicate, replicate}
 use lib.Seq.{length-take-le}
 use native.Mathlib.Omega.{arith}
 use borrow.Author.Tests.{eqb-false, eqb-true, lt-ltb}
-use Rattle.contraction_checks.proofs.FaultLaws.{Sound}
+use Rattle.contraction_checks.proofs.FaultLaws.{Accepted}
 use Rattle.theory_graph.proofs.ActiveLists.{in-firsts}
 use Rattle.theory_graph.proofs.ActiveLists.{canonical-repeats, small-repeats}
 use Rattle.theory_graph.proofs.TableLaws.{over-equal, pairs-table, table-map, take-table}
@@ -69,7 +69,7 @@ table-at f i (suc k) j a b = onBool (eqb j i)
     (λ q. let ne : ¬ (j ≡ i) = eqb-false j i q in List·Memᴰ·tail (table-at f (suc i) k j (omega arith) (omega arith)))
 
 -- ---- the call
-module _ (l : Lent) (s : Sound l) where
+module _ (l : Lent) (s : Accepted l) where
   pub loadable : Loadable (l .n) (l .m) (l .k) (l .from) (l .to) (l .active) (l .work)
   loadable = record {
     few = omega (arith, s .within .nodes);

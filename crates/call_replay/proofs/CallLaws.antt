@@ -80,7 +80,8 @@ module _ {n p : ℕ} {a b x y answers work : List ℕ} (q : ListReady n p a b x 
         room = rw (length-take, length-drop) (omega (arith, q .room, m .events));
       }
 
-      pub list-replied : {after : List ℕ} {kept : ℕ} → WindowDone r p (take (13 * r .events) (take (length z - 5 * t) (drop (5 * t) z))) answers after kept → ListReplied n p a b x y answers after kept
+      pub list-replied : {after : List ℕ} {kept : ℕ} → WindowDone r p (take (13 * r .events) (take (length z - 5 * t) (drop (5 * t) z))) answers after kept
+          → ListReplied n p a b x y answers after kept
       list-replied d = let u = d .replied g (q .events .sound) (omega (arith, m .at, m .events, size-is (q .events))) area in rw (m .at, m .events) at u
 
 -- ---- the queries, by their bytes
@@ -123,7 +124,8 @@ queries-same-bytes g bytes (suc t) h =
     let y : 0 + t ≡ t = omega arith in
     let c : _≡_ {A = ℕ} (count f t 1) (cond (f t) 1 0) = count-one (f t) in
     let e : count f 0 (suc t) ≡ count f 0 t + count f t 1 = ap (count f 0) z ∙ count-split f 0 t 1 ∙ ap (λ (k : ℕ). count f 0 t + count f k 1) y in
-    let b : _≡_ {A = ℕ} (cond (not (eqb (getD bytes t 0) 3)) 1 0) (cond (f t) 1 0) = ap (λ (v : ℕ). cond (not (eqb v 3)) 1 0) (h t (omega arith)) ∙ ap (λ (b : Bool). cond b 1 0) (byte-asks g t) in
+    let b : _≡_ {A = ℕ} (cond (not (eqb (getD bytes t 0) 3)) 1 0) (cond (f t) 1 0) = ap (λ (v : ℕ). cond (not (eqb v 3)) 1 0) (h t (omega arith))
+    ∙ ap (λ (b : Bool). cond b 1 0) (byte-asks g t) in
     omega (arith, queries-same-bytes g bytes t (λ i l. h i (omega arith)))
   where
     count-one : (b : Bool) → length {A = ℕ} (cond b (t ∷ []) []) ≡ cond b 1 0
@@ -214,7 +216,8 @@ promise l p r e = (e, λ k q a b. demand-3 l k p q a b r (replay k q) e refl)
 pub refused-is : (l : Lent) (p : ℕ) {r : Checked} → CheckedTables l p r → 0 < r .code → Promise l p (outcome (Refused (r .code) (r .place)) (l .answers) (l .work))
 unfolding replay refused
 refused-is l p {r} c h = promise l p _ (ap (λ (f : Refusal). refused l f) (c .refusal)
-    ∙ sym (ap (λ (b : Bool). elim b as (λ x. Outcome) [ true ↦ done l p | false ↦ refused l (fault l p) ]) (ne-eqb (fault l p .0) 0 (λ z. omega (arith, ap (λ (f : Refusal). f .0) (c .refusal))))))
+    ∙ sym (ap (λ (b : Bool). elim b as (λ x. Outcome) [ true ↦ done l p | false ↦ refused l (fault l p) ])
+    (ne-eqb (fault l p .0) 0 (λ z. omega (arith, ap (λ (f : Refusal). f .0) (c .refusal))))))
 
 pub faultless : {l : Lent} {p : ℕ} {r : Checked} → CheckedTables l p r → r .code ≡ 0 → Faultless l p
 faultless c z = sym (ap (λ (f : Refusal). f .0) (c .refusal)) ∙ z
@@ -242,4 +245,5 @@ module _ {l : Lent} {p : ℕ} {r : Checked} (c : CheckedTables l p r) (z : r .co
           → Promise l p (outcome (Done (record { queries = q; «open» = r .«open»; kept = kept′ })) after cleared)
       replay-is zs q eq lz ew =
           let f = faultless c z in
-          replayed l p _ f (done-is l p f d zs q (r .«open») eq (c .open-last f) (lz ∙ ap (λ (n : ℕ). length (take n (l .work))) e) (ew ∙ ap (λ (n : ℕ). over (replicate n 0) (zs ++ drop n (l .work))) e))
+          replayed l p _ f (done-is l p f d zs q (r .«open») eq (c .open-last f) (lz ∙ ap (λ (n : ℕ). length (take n (l .work))) e)
+          (ew ∙ ap (λ (n : ℕ). over (replicate n 0) (zs ++ drop n (l .work))) e))

@@ -21,8 +21,8 @@ pub fn replay(
     answers: &mut [u8],
     work: &mut [u32],
 ) -> ReplayReply
-    ensures { λ r. ⌜ outcome r (now (answers .exit)) (now (work .exit)) ≡ replay (lent n m t (now (a .entry)) (now (b .entry)) (now (x .entry)) (now (y .entry))
-        (now (answers .entry)) (now (work .entry))) p ⌝ }
+    ensures { λ r. ⌜ outcome r (now (answers .exit)) (now (work .exit)) ≡ replay
+        (lent n m t (now (a .entry)) (now (b .entry)) (now (x .entry)) (now (y .entry)) (now (answers .entry)) (now (work .entry))) p ⌝ }
     ensures { λ r. ⌜ KeepsDemand3 (lent n m t (now (a .entry)) (now (b .entry)) (now (x .entry)) (now (y .entry))
         (now (answers .entry)) (now (work .entry))) p (outcome r (now (answers .exit)) (now (work .exit))) ⌝ }
 {

@@ -41,7 +41,7 @@ pub record LongTables (l : Lent) : Type 0 where
   pub work-length : required (l .n) (l .m) ≤ length (l .work)
 
 -- what holds where nothing is refused
-pub record Sound (l : Lent) : Type 0 where
+pub record Accepted (l : Lent) : Type 0 where
   pub within : Within (l .n) (l .m) (l .k)
   pub long : LongTables l
   pub ends : (s : ℕ) → s < l .m → (getD (l .from) s 0 < l .n) × (getD (l .to) s 0 < l .n)
@@ -93,7 +93,7 @@ module _ (l : Lent) where
       none-refused x a q i r j = sym (last ∙ rw (← q, le-ltb x (l .m) i, ← r, le-ltb a (l .k) j) refl)
 
   -- ---- where nothing is refused
-  pub sound : fault l .0 ≡ 0 → Sound l
+  pub sound : fault l .0 ≡ 0 → Accepted l
   unfolding fault faults
   sound z =
       let sizes = sizeFaults (l .n) (l .m) 0 (l .k) in

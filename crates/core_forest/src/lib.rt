@@ -96,7 +96,8 @@ fn grow_tree(work: &mut [u32], n: usize, m: usize, done: usize, seen: usize, r: 
 // The tree of the j-th active node, where it is not seen yet.
 fn start_tree(work: &mut [u32], n: usize, m: usize, k: usize, seen: usize, j: usize) -> usize
     requires { ⌜ BetweenTrees n m k (now work) seen j × (j < k) ⌝ }
-    ensures { λ s. ⌜ SearchKeeps n (now (work .entry)) (now (work .exit)) × BetweenTrees n m k (now (work .exit)) s (j + 1) ⌝ }
+    ensures { λ s. ⌜ SearchKeeps n (now (work .entry)) (now (work .exit)) ×
+        BetweenTrees n m k (now (work .exit)) s (j + 1) ⌝ }
 {
     let r = core_words::get(work, j, ACTIVE);
     let p = core_words::get(work, r, POSITION);

@@ -19,7 +19,8 @@ pub fn clear_marks(work: &mut [u32], n: usize)
 
 // Internal: enters v, where it is not entered yet; the new count of different active nodes.
 pub fn enter(work: &mut [u32], n: usize, d: usize, v: usize) -> usize
-    requires { ⌜ (n ≤ 65536) × (16 * n ≤ length (now work)) × (v < n) × ((S : List ℕ) × Entered n S d (node MARK (now work)) (node ACTIVE (now work))) ⌝ }
+    requires { ⌜ (n ≤ 65536) × (16 * n ≤ length (now work)) × (v < n) ×
+        ((S : List ℕ) × Entered n S d (node MARK (now work)) (node ACTIVE (now work))) ⌝ }
     ensures { λ r. ⌜ Entering n d v (now (work .entry)) (now (work .exit)) r ⌝ }
 {
     let mark = core_words::get(work, v, MARK);

@@ -123,7 +123,8 @@ module _ {n m t : ℕ} {a b x y : List ℕ} (q : CanCheckList n m t a b x y) (p 
               let i : ℕ = seek (λ i. not (eqb (faultOf n m (pairs (take t x) (take t y)) i) 0)) 0 t in
               row (ltb i t) (faultOf n m (pairs (take t x) (take t y)) i) i ∷ []
 
-      pub list-passed : {c i : ℕ} {held : List ℕ} → CheckedEvents n m (pairs (take t x) (take t y)) t c i held → CheckedList n m t p a b x y (record { code = c; place = i; «open» = sum (bits held) })
+      pub list-passed : {c i : ℕ} {held : List ℕ} → CheckedEvents n m (pairs (take t x) (take t y)) t c i held
+          → CheckedList n m t p a b x y (record { code = c; place = i; «open» = sum (bits held) })
       list-passed {held = held} k = record { refusal = k .refusal ∙ events-fault; last = λ z. (held, k .last z, refl) }
 
 -- ---- events
@@ -196,7 +197,9 @@ module _ {n m t : ℕ} {x y held : List ℕ} {i : ℕ} (p : Passing n m t x y he
   pub event-refused : 0 < r → CheckedEvents n m evs t r i held
   unfolding eventsFault
   event-refused h =
-      let s : i ≡ seek (λ i. not (eqb (faultOf n m evs i) 0)) 0 t = sym (seek-at (λ i. not (eqb (faultOf n m evs i) 0)) 0 t i (omega arith) (omega arith) (ap not (ne-eqb (faultOf n m evs i) 0 (λ z. omega (arith, fault-is)))) (λ u _ k. p .fine u k)) in
+      let s : i ≡ seek (λ i. not (eqb (faultOf n m evs i) 0)) 0
+      t = sym (seek-at (λ i. not (eqb (faultOf n m evs i) 0)) 0 t i (omega arith) (omega arith)
+      (ap not (ne-eqb (faultOf n m evs i) 0 (λ z. omega (arith, fault-is)))) (λ u _ k. p .fine u k)) in
       record {
         refusal = ap (λ (k : ℕ). (k, i)) fault-is
             ∙ sym (ap (λ (k : ℕ). cond (ltb k t) (faultOf n m evs k, k) (0, 0)) (sym s) ∙ ap (λ (c : Bool). cond c (faultOf n m evs i, i) (0, 0)) (lt-ltb i t l));

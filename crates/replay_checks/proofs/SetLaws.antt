@@ -42,7 +42,8 @@ module _ (words words′ : List ℕ) (s v : ℕ) (l : length words ≡ 128) (u :
       (λ t. ap (λ j. eqb j 1) (getD-set-other (bits words) s k v 0 (eqb-false k s t)) ∙ sym (ap (λ b. cond b (eqb v 1) (eqb (getD (bits words) k 0) 1)) t))
 
 -- ---- an event
-module _ (held next : List ℕ) (x y v : ℕ) (l : length held ≡ 128) (n : (eqb x 65535 || eqb x 65534) ≡ true) (u : y < 8192) (b : eqb v 1 ≡ eqb x 65535) (q : bits next ≡ set (bits held) y v) where
+module _ (held next : List ℕ) (x y v : ℕ) (l : length held ≡ 128) (n : (eqb x 65535 || eqb x 65534) ≡ true) (u : y < 8192) (b : eqb v 1 ≡ eqb x 65535)
+    (q : bits next ≡ set (bits held) y v) where
   pub event-stored : isOpen next ≡ after (x, y) (isOpen held)
   event-stored =
       fun-ext (λ k. stored held next y v l u q k ∙ ap (λ c. cond (eqb k y) c (isOpen held k)) b
@@ -119,7 +120,8 @@ open-below g o (suc i) l s h = go (names (event g i) s) refl (ap (λ (f : ℕ �
     open-suc = ap (openBefore g) (sym (add-one i))
 
     go : (b : Bool) → names (event g i) s ≡ b → cond b (opens (event g i)) (openBefore g i s) ≡ true → (openBefore g i s ≡ true → s < length (g .segments)) → s < length (g .segments)
-    go true q h f = and-elim (opens (event g i) || closes (event g i)) (eqb s (event g i .1)) q λ u v. let k = sound-fine g o i (omega arith) .segment u in omega (arith, eqb-true s (event g i .1) v)
+    go true q h f = and-elim (opens (event g i) || closes (event g i)) (eqb s (event g i .1)) q λ u v. let k = sound-fine g o i (omega arith) .segment
+        u in omega (arith, eqb-true s (event g i .1) v)
     go false q h f = f h
 
 -- ---- the ones of a set

@@ -229,7 +229,8 @@ pub fn check(
     answers: &[u8],
     work: &[u32],
 ) -> Checked
-    ensures { λ r. ⌜ CheckedTables (lent n m t (now (a .entry)) (now (b .entry)) (now (x .entry)) (now (y .entry)) (now (answers .entry)) (now (work .entry))) p r ⌝ }
+    ensures { λ r. ⌜ CheckedTables (lent n m t (now (a .entry)) (now (b .entry)) (now (x .entry)) (now (y .entry))
+        (now (answers .entry)) (now (work .entry))) p r ⌝ }
 {
     let f = call_sizes::size_fault(n, m, t, 0);
     if f.code > 0 {

@@ -29,7 +29,8 @@ use Rattle.theory_timeline.specs.declared.Kind.the-variants.{Closes, Nothing, O
 use Rattle.replay_step.proofs.StepLaws.{map-self}
 use Rattle.replay_step.proofs.WordLaws.{front-get, mid-sets}
 use Rattle.replay_step.specs.Area.{EventsIn}
-use Rattle.replay_events.specs.Writing.{CanWriteEvents, EventsWritten, LinkRoom, LinkedEvent, TagsFit, Written, endsBy, isQuery, junctionsBy, keyOf, lastBy, listOf, namesTag, nextBy, tagBy, tagsBy, tagsIn}
+use Rattle.replay_events.specs.Writing.{CanWriteEvents, EventsWritten, LinkRoom, LinkedEvent, TagsFit, Written, endsBy, isQuery, junctionsBy}
+use Rattle.replay_events.specs.Writing.{keyOf, lastBy, listOf, namesTag, nextBy, tagBy, tagsBy, tagsIn}
 
 -- ---- kinds
 -- what the kind of an event without a fault says of it
@@ -126,7 +127,8 @@ module _ (g : Timeline) (T : ℕ → ℕ) (h : (j : ℕ) → j < size g → T j 
 
     pub next-word : nextBy T (size g) j ≡ word g 1 j
     unfolding nextBy next
-    next-word = by-tag (λ k. seek (namesTag T k) (j + 1) (size g - (j + 1))) 1 (next g j) (λ a. word-change g j a .1) (λ a. seek-same _ _ (j + 1) (size g - (j + 1)) (λ i u b. names-tag (key g j) i (omega arith)))
+    next-word = by-tag (λ k. seek (namesTag T k) (j + 1) (size g - (j + 1))) 1 (next g j) (λ a. word-change g j a .1)
+        (λ a. seek-same _ _ (j + 1) (size g - (j + 1)) (λ i u b. names-tag (key g j) i (omega arith)))
 
 -- ---- words one after another
 module _ {t k : ℕ} {f : ℕ → ℕ} {a b : ℕ} {w z : List ℕ} (q : Written t k f a b w z) (i x : ℕ) (e : x ≡ f i) (fits : 2 * t + 3 * i + k < length z) where
@@ -143,10 +145,12 @@ module _ {t k : ℕ} {f : ℕ → ℕ} {a b : ℕ} {w z : List ℕ} (q : Written
 pub written-none : (t k : ℕ) (f : ℕ → ℕ) (a : ℕ) (w : List ℕ) → Written t k f a a w w
 written-none t k f a w = record { long = refl; here = λ j c d. absurd (omega arith); else = λ d h. refl }
 
-pub written-up : {t k : ℕ} {f : ℕ → ℕ} {i : ℕ} {w z : List ℕ} → Written t k f 0 i w z → (x : ℕ) → x ≡ f i → 2 * t + 3 * i + k < length z → Written t k f 0 (i + 1) w (set z (2 * t + 3 * i + k) x)
+pub written-up : {t k : ℕ} {f : ℕ → ℕ} {i : ℕ} {w z : List ℕ} → Written t k f 0 i w z → (x : ℕ) → x ≡ f i → 2 * t + 3 * i + k < length z
+    → Written t k f 0 (i + 1) w (set z (2 * t + 3 * i + k) x)
 written-up {i = i} q x e l = written-put q i x e l 0 (i + 1) (λ j c d n. (omega arith, omega arith)) (λ j c d. (omega arith, omega arith)) (omega arith, omega arith)
 
-pub written-down : {t k : ℕ} {f : ℕ → ℕ} {i b : ℕ} {w z : List ℕ} → Written t k f (i + 1) b w z → i < b → (x : ℕ) → x ≡ f i → 2 * t + 3 * i + k < length z → Written t k f i b w (set z (2 * t + 3 * i + k) x)
+pub written-down : {t k : ℕ} {f : ℕ → ℕ} {i b : ℕ} {w z : List ℕ} → Written t k f (i + 1) b w z → i < b → (x : ℕ) → x ≡ f i → 2 * t + 3 * i + k < length z
+    → Written t k f i b w (set z (2 * t + 3 * i + k) x)
 written-down {i = i} {b} q h x e l = written-put q i x e l i b (λ j c d n. (omega arith, omega arith)) (λ j c d. (omega arith, omega arith)) (omega arith, omega arith)
 
 -- the tags are not touched by another word
@@ -197,7 +201,8 @@ pairs-most (u ∷ x) [] i l = omega arith
 pairs-most (u ∷ x) (v ∷ y) zero l = absurd (omega arith)
 pairs-most (u ∷ x) (v ∷ y) (suc i) l = omega (arith, pairs-most x y i (omega arith))
 
-junctions-all : (n : ℕ) (segs : List Edge) (x y : List ℕ) (i : ℕ) (w z : List ℕ) → i ≡ length x → z ≡ sets w 0 (junctionsBy n segs (take i (pairs x y))) → z ≡ sets w 0 (junctionsBy n segs (pairs x y))
+junctions-all : (n : ℕ) (segs : List Edge) (x y : List ℕ) (i : ℕ) (w z : List ℕ) → i ≡ length x → z ≡ sets w 0 (junctionsBy n segs (take i (pairs x y)))
+    → z ≡ sets w 0 (junctionsBy n segs (pairs x y))
 junctions-all n segs x y i w z l e = e ∙ ap (λ l. sets w 0 (junctionsBy n segs l)) (take-all i (pairs x y) (pairs-most x y i (omega arith)))
 
 pub placed-more : {n : ℕ} {a b x y w z : List ℕ} {i : ℕ} → Placed n a b x y w z i → i < length x → length y ≡ length x → {z′ : List ℕ}
@@ -208,7 +213,8 @@ pub placed-all : {n : ℕ} {a b x y w z : List ℕ} {i : ℕ} → Placed n a b x
 placed-all {n} {a} {b} {x} {y} {w} {z} {i} q e = junctions-all n (pairs a b) x y i w z e (q .is)
 
 -- of a list without a fault they are its active junctions
-junctions-same : (n : ℕ) (segs : List Edge) (evs : List Event) → ((i : ℕ) → i < length evs → endsBy n segs (getD evs i (0, 0)) ≡ ends segs (getD evs i (0, 0))) → junctionsBy n segs evs ≡ activeOf segs evs
+junctions-same : (n : ℕ) (segs : List Edge) (evs : List Event) → ((i : ℕ) → i < length evs → endsBy n segs (getD evs i (0, 0)) ≡ ends segs (getD evs i (0, 0)))
+    → junctionsBy n segs evs ≡ activeOf segs evs
 unfolding junctionsBy activeOf
 junctions-same n segs [] h = refl
 junctions-same n segs (e ∷ evs) h = ap₂ (λ (p : ℕ × ℕ) (l : List ℕ). p .0 ∷ p .1 ∷ l) (h 0 (omega arith)) (junctions-same n segs evs (λ i l. h (suc i) (omega arith)))
@@ -225,7 +231,8 @@ pub ends-put : (w : List ℕ) (i u v : ℕ) (e : Event) → e ≡ (u, v) → set
 ends-put w i u v e q = ap (λ (e : Event). set (set w (2 * i) (e .0)) (2 * i + 1) (e .1)) (sym q)
 
 -- one tag more
-pub tag-more : (n : ℕ) (x y : List ℕ) {t i x′ : ℕ} {w z : List ℕ} → Written t 0 (tagsBy n x y) 0 i w z → x′ ≡ tagsBy n x y i → 2 * t + 3 * i < length z → Written t 0 (tagsBy n x y) 0 (i + 1) w (set z (2 * t + 3 * i) x′)
+pub tag-more : (n : ℕ) (x y : List ℕ) {t i x′ : ℕ} {w z : List ℕ} → Written t 0 (tagsBy n x y) 0 i w z → x′ ≡ tagsBy n x y i → 2 * t + 3 * i < length z
+    → Written t 0 (tagsBy n x y) 0 (i + 1) w (set z (2 * t + 3 * i) x′)
 tag-more n x y {t} {i} {x′} {w} {z} q e l =
     let s : 2 * t + 3 * i + 0 ≡ 2 * t + 3 * i = omega arith in
     subst (λ (k : ℕ). Written t 0 (tagsBy n x y) 0 (i + 1) w (set z k x′)) s (written-up q x′ e (omega arith))
@@ -235,7 +242,8 @@ tag-more n x y {t} {i} {x′} {w} {z} q e l =
 pub link-none : {t i k v : ℕ} {heads w : List ℕ} → tagsIn t w i ≡ 0 → LinkedEvent t i k v heads w heads (set w (2 * t + 3 * i + k) 0)
 link-none {t} {i} {w = w} e = record { change = λ h. let z = ltb-true 0 (tagsIn t w i) h in absurd (omega arith); query = λ h. (refl, refl) }
 
-pub link-put : {t i k v : ℕ} {heads w : List ℕ} → ¬ (tagsIn t w i ≡ 0) → LinkedEvent t i k v heads w (set heads (keyOf (tagsIn t w i)) v) (set w (2 * t + 3 * i + k) (getD heads (keyOf (tagsIn t w i)) 0))
+pub link-put : {t i k v : ℕ} {heads w : List ℕ} → ¬ (tagsIn t w i ≡ 0)
+    → LinkedEvent t i k v heads w (set heads (keyOf (tagsIn t w i)) v) (set w (2 * t + 3 * i + k) (getD heads (keyOf (tagsIn t w i)) 0))
 link-put {t} {i} {w = w} n = record { change = λ h. (refl, refl); query = λ h. let z = ltb-false 0 (tagsIn t w i) h in absurd (n (omega arith)) }
 
 -- the first i events are linked to the last before them
@@ -256,7 +264,8 @@ pub nexts-at : {t i j : ℕ} {w₀ H w : List ℕ} → Nexts t w₀ H w i → i 
 nexts-at a e = rw e at a
 
 -- the head of each key, one event more: v at the event's own key
-heads-at : (P : ℕ → ℕ → Type 0) (heads : List ℕ) (k v : ℕ) → length heads ≡ 8192 → P k v → ((s : ℕ) → s < 8192 → ¬ (s ≡ k) → P s (getD heads s 0)) → (s : ℕ) → s < 8192 → P s (getD (set heads k v) s 0)
+heads-at : (P : ℕ → ℕ → Type 0) (heads : List ℕ) (k v : ℕ) → length heads ≡ 8192 → P k v → ((s : ℕ) → s < 8192 → ¬ (s ≡ k) → P s (getD heads s 0)) → (s : ℕ)
+    → s < 8192 → P s (getD (set heads k v) s 0)
 heads-at P heads k v l a b s u = onBool (eqb s k)
     (λ q. let e = eqb-true s k q in
     subst (λ (n : ℕ). P s n) (sym (ap (λ (j : ℕ). getD (set heads k v) j 0) e ∙ getD-set-same heads k v 0 (omega arith))) (subst (λ (j : ℕ). P j v) (sym e) a))
@@ -311,12 +320,25 @@ lasts-none t w₀ = record { most = omega arith; long = length-replicate {A = �
     getD-zero s u = getD-replicate {A = ℕ} 8192 s 0 0 u
 
 pub nexts-none : (t : ℕ) (w₀ : List ℕ) → Nexts t w₀ (replicate 8192 t) w₀ t
-nexts-none t w₀ = record { most = omega arith; long = length-replicate 8192 t; written = written-none t 1 _ t w₀; heads = λ s u. getD-replicate 8192 s t 0 u ∙ sym (seek-past (namesTag (tagsIn t w₀) s) t t (omega arith)) }
+nexts-none t w₀ = record {
+  most = omega arith;
+  long = length-replicate 8192 t;
+  written = written-none t 1 _ t w₀;
+  heads = λ s u. getD-replicate 8192 s t 0 u
+      ∙ sym (seek-past (namesTag (tagsIn t w₀) s) t t (omega arith));
+}
 
 module _ {t i : ℕ} {w₀ heads w : List ℕ} (fit : TagsFit t w₀) where
   pub lasts-need : Lasts t w₀ heads w i → i < t → LinkRoom t i 2 w × (length heads ≡ 8192)
   lasts-need a l = (
-    record { less = l; part = omega arith; some = omega arith; much = fit .much; room = omega (arith, fit .room, a .written .long); key = omega (arith, fit .keys i l, tags-stay (a .written) (omega arith) (omega arith) i) },
+    record {
+      less = l;
+      part = omega arith;
+      some = omega arith;
+      much = fit .much;
+      room = omega (arith, fit .room, a .written .long);
+      key = omega (arith, fit .keys i l, tags-stay (a .written) (omega arith) (omega arith) i);
+    },
     a .long,
   )
 
@@ -340,7 +362,14 @@ module _ {t i : ℕ} {w₀ heads w : List ℕ} (fit : TagsFit t w₀) where
 
   pub nexts-need : Nexts t w₀ heads w (i + 1) → LinkRoom t i 1 w × (length heads ≡ 8192)
   nexts-need a = let m = a .most in (
-    record { less = omega arith; part = omega arith; some = omega arith; much = fit .much; room = omega (arith, fit .room, a .written .long); key = omega (arith, fit .keys i (omega arith), tags-stay (a .written) (omega arith) (omega arith) i) },
+    record {
+      less = omega arith;
+      part = omega arith;
+      some = omega arith;
+      much = fit .much;
+      room = omega (arith, fit .room, a .written .long);
+      key = omega (arith, fit .keys i (omega arith), tags-stay (a .written) (omega arith) (omega arith) i);
+    },
     a .long,
   )
 

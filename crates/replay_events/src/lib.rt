@@ -74,7 +74,8 @@ fn tag_of(x: u16, y: usize, n: usize) -> usize
 // The tags of all events.
 fn put_tags(n: usize, x: &[u16], y: &[u16], work: &mut [u32])
     requires { ⌜ (length (now y) ≡ length (now x)) × (5 * length (now x) ≤ length (now work)) × (length (now x) ≤ 4096) ⌝ }
-    ensures { λ _. ⌜ Written (length (now (x .entry))) 0 (tagsBy n (now (x .entry)) (now (y .entry))) 0 (length (now (x .entry))) (now (work .entry)) (now (work .exit)) ⌝ }
+    ensures { λ _. ⌜ Written (length (now (x .entry))) 0 (tagsBy n (now (x .entry)) (now (y .entry))) 0
+        (length (now (x .entry))) (now (work .entry)) (now (work .exit)) ⌝ }
 {
     let t = x.len();
     let mut i: usize = 0;

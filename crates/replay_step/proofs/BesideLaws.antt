@@ -74,7 +74,8 @@ module _ {w : Window} {p : Part} {i m : ℕ} {v : List ℕ} (q : AddReady w p i 
       let lb = q .nodes (2 * i + 1) (omega (arith, q .inside)) in
       (rw (length-take, length-drop) (omega (arith, q .room)), omega (arith, q .many), omega (arith, q .many), q .many, omega (arith, q .few))
 
-  pub add-put : addsIn w p v i ≡ true → (a b : ℕ) → a ≡ getD v (2 * i) 0 → b ≡ getD v (2 * i + 1) 0 → (zs : List ℕ) → PutEdge (w .nodes) m a b (take (length v - scratch p) (drop (scratch p) v)) zs
+  pub add-put : addsIn w p v i ≡ true → (a b : ℕ) → a ≡ getD v (2 * i) 0 → b ≡ getD v (2 * i + 1) 0 → (zs : List ℕ)
+      → PutEdge (w .nodes) m a b (take (length v - scratch p) (drop (scratch p) v)) zs
       → Added w p i (i + 1) m v (putMid (scratch p) (length v - scratch p) v zs) (m + 1)
   add-put e a b ea eb zs k =
       let s = scratch p in

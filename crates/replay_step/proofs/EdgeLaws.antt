@@ -67,7 +67,8 @@ module _ {s n j a b : ℕ} {w z zs : List ℕ} (k : Edged s n j w z) (p : PutEdg
       ap₂ (λ y m. cut U (edgesIn n m y)) behind (add-one j)
       ∙ edges-suc U (λ e. (half n TO zs (2 * e), half n TO zs (2 * e + 1))) 0 j
       ∙ ap (λ (k : ℕ). crosses (U (half n TO zs (2 * k))) (U (half n TO zs (2 * k + 1))) + cut U (edgesIn n j zs)) y
-      ∙ ap₂ _+_ (ap₂ (λ x y. crosses (U x) (U y)) (p .first) (p .second)) (ap (cut U) (edges-ext n j 0 (drop s z) zs (λ h u. p .else h (omega arith) ∙ ap (λ y. half n TO y h) (take-whole s z))))
+      ∙ ap₂ _+_ (ap₂ (λ x y. crosses (U x) (U y)) (p .first) (p .second))
+      (ap (cut U) (edges-ext n j 0 (drop s z) zs (λ h u. p .else h (omega arith) ∙ ap (λ y. half n TO y h) (take-whole s z))))
 
 -- ---- the copied edges
 pairs-snoc : (a b : List ℕ) (x y : ℕ) → length a ≡ length b → pairs (a ++ (x ∷ [])) (b ++ (y ∷ [])) ≡ pairs a b ++ ((x, y) ∷ [])
@@ -83,7 +84,8 @@ copied-more U e j v h l =
     let lb : j < length (drop (9 * e) v) = rw length-drop (omega arith) in
     ap (λ k. cut U (areaEdges e k v)) (add-one j)
     ∙ ap₂ (λ x y. cut U (pairs x y)) (take-suc (drop (5 * e) v) j 0 la) (take-suc (drop (9 * e) v) j 0 lb)
-    ∙ ap (cut U) (pairs-snoc (take j (drop (5 * e) v)) (take j (drop (9 * e) v)) (getD (drop (5 * e) v) j 0) (getD (drop (9 * e) v) j 0) (length-take-le j (drop (5 * e) v) (omega arith) ∙ sym (length-take-le j (drop (9 * e) v) (omega arith))))
+    ∙ ap (cut U) (pairs-snoc (take j (drop (5 * e) v)) (take j (drop (9 * e) v)) (getD (drop (5 * e) v) j 0) (getD (drop (9 * e) v) j 0)
+    (length-take-le j (drop (5 * e) v) (omega arith) ∙ sym (length-take-le j (drop (9 * e) v) (omega arith))))
     ∙ cut-append U (areaEdges e j v) ((getD (drop (5 * e) v) j 0, getD (drop (9 * e) v) j 0) ∷ [])
     ∙ ap (λ k. cut U (areaEdges e j v) + k) (tail ∙ ap₂ (λ x y. crosses (U x) (U y)) (getD-drop (5 * e) v j 0) (getD-drop (9 * e) v j 0))
   where
@@ -110,7 +112,13 @@ module _ {e m s n j : ℕ} {w z : List ℕ} (q : EdgesReady e m s n w) (k : Copy
       (omega (arith, r .0, reads (5 * e + j) (omega (arith, q .few))), omega (arith, r .1, reads (9 * e + j) (omega (arith, q .few))))
 
   pub copying-need : (16 * n + 4 * j + 4 ≤ length (take (length z - s) (drop s z))) × (getD z (5 * e + j) 0 < 65536) × (getD z (9 * e + j) 0 < 65536) × (n ≤ 65536) × (j < 32768)
-  copying-need = (rw (length-take, length-drop) (omega (arith, q .room, k .long)), omega (arith, copying-ends .0, q .many), omega (arith, copying-ends .1, q .many), q .many, omega (arith, q .few, q .much))
+  copying-need = (
+    rw (length-take, length-drop) (omega (arith, q .room, k .long)),
+    omega (arith, copying-ends .0, q .many),
+    omega (arith, copying-ends .1, q .many),
+    q .many,
+    omega (arith, q .few, q .much),
+  )
 
   pub copying-more : (zs : List ℕ) → PutEdge n j (getD z (5 * e + j) 0) (getD z (9 * e + j) 0) (take (length z - s) (drop s z)) zs → Copying e m s n w (putMid s (length z - s) z zs) (j + 1)
   copying-more zs p =

@@ -47,7 +47,8 @@ module _ {from count s n k i : ℕ} {w z : List ℕ} (q : Needs from count s n w
   entering-more r zs f =
       let h : s ≤ length z = omega (arith, q .0 .room, e .long) in
       let t : take i (drop from w) ++ (getD z (from + i) 0 ∷ []) ≡ take (i + 1) (drop from w) =
-      ap (λ y. take i (drop from w) ++ (y ∷ [])) (reads ∙ sym (getD-drop from w i 0)) ∙ sym (ap (λ y. take y (drop from w)) (add-one i) ∙ take-suc (drop from w) i 0 (rw length-drop (omega (arith, q .0 .front, q .0 .room)))) in
+      ap (λ y. take i (drop from w) ++ (y ∷ [])) (reads ∙ sym (getD-drop from w i 0))
+      ∙ sym (ap (λ y. take y (drop from w)) (add-one i) ∙ take-suc (drop from w) i 0 (rw length-drop (omega (arith, q .0 .front, q .0 .room)))) in
       record {
         low = omega arith;
         long = same-len-mid s (length z - s) z zs (f .same) ∙ e .long;
@@ -72,6 +73,11 @@ pub clear-need : (from count s n : ℕ) (w zs : List ℕ) → ActiveReady from c
 clear-need from count s n w zs q c =
     let h : s ≤ length w = omega arith in
     let lc = same-len-mid s (length w - s) w zs (c .same) in (
-      record { front = q .front; room = omega (arith, lc, q .room); many = q .many; nodes = λ i l. rw (front-get s (from + i) w (putMid s (length w - s) w zs) (take-put s (length w - s) w zs h) (omega arith)) (q .nodes i l) },
+      record {
+        front = q .front;
+        room = omega (arith, lc, q .room);
+        many = q .many;
+        nodes = λ i l. rw (front-get s (from + i) w (putMid s (length w - s) w zs) (take-put s (length w - s) w zs h) (omega arith)) (q .nodes i l);
+      },
       rw (drop-back s w zs h) (c .unmarked),
     )

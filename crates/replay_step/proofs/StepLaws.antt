@@ -94,7 +94,8 @@ part-places g w c h σ =
     ∙ ap (λ l. map σ (activeOf (g .segments) l)) (middle g w c h)
 
 -- active nodes that are entered, seen through other words
-entered-same : {n k : ℕ} {S : List ℕ} {mark act mark′ act′ : ℕ → ℕ} → Entered n S k mark act → ((v : ℕ) → v < n → mark′ v ≡ mark v) → ((v : ℕ) → v < n → act′ v ≡ act v) → Entered n S k mark′ act′
+entered-same : {n k : ℕ} {S : List ℕ} {mark act mark′ act′ : ℕ → ℕ} → Entered n S k mark act → ((v : ℕ) → v < n → mark′ v ≡ mark v)
+    → ((v : ℕ) → v < n → act′ v ≡ act v) → Entered n S k mark′ act′
 entered-same {n} {k} {S} {mark} {act} {mark′} {act′} e f h =
     let m = entered-most e in
     record {
@@ -164,7 +165,8 @@ module _ {w : Window} {p : Part} {v : List ℕ} (st : StepReady w (p .at) (p .ev
     );
   }
 
-  pub events-need : (i j m : ℕ) (z : List ℕ) → i ≤ j → j ≤ n → m ≤ w .edges + i → take s z ≡ take s v → length z ≡ length v → ((h : ℕ) → h < 2 * m → half (w .nodes) TO (drop s z) h < w .nodes)
+  pub events-need : (i j m : ℕ) (z : List ℕ) → i ≤ j → j ≤ n → m ≤ w .edges + i → take s z ≡ take s v → length z ≡ length v
+      → ((h : ℕ) → h < 2 * m → half (w .nodes) TO (drop s z) h < w .nodes)
       → AddReady w p i j m z × (p .at + p .events ≤ 4096)
   events-need i j m z a b l f e h = (
     record {
@@ -216,7 +218,8 @@ module _ {w : Window} {p : Part} {v : List ℕ} (st : StepReady w (p .at) (p .ev
         many = st .many;
         few = omega (arith, C .most, D .most, st .area .few, st .much, st .starts, st .ends);
         nodes = λ i l. omega (arith, active-need .nodes i l, front-get s (p .places + i) v w₄ front-4 (omega (arith, active-need .front)));
-        entered = rw (mid-less (p .places) (2 * p .events) s v w₄ (omega (arith, active-need .front)) (omega (arith, active-need .front, st .room, C .long, D .long, scratch-is)) (omega (arith, active-need .front, st .room, scratch-is)) front-4)
+        entered = rw (mid-less (p .places) (2 * p .events) s v w₄ (omega (arith, active-need .front))
+            (omega (arith, active-need .front, st .room, C .long, D .long, scratch-is)) (omega (arith, active-need .front, st .room, scratch-is)) front-4)
             (entered-same (A₁ .entered) (fields MARK (omega arith)) (fields ACTIVE (omega arith)));
         ends = D .edged .ends;
       };
@@ -244,7 +247,8 @@ small-area g sound r {σ = σ} s e = record {
   events = e;
 }
 
-module _ {w : Window} {p : Part} {v : List ℕ} (st : StepReady w (p .at) (p .events) v) (ip : IsPart w p) {z : List ℕ} {l : Graph} (pl : PartLoaded w p v z l) (lz : length z ≡ length v) {y : List ℕ} {r : Window}
+module _ {w : Window} {p : Part} {v : List ℕ} (st : StepReady w (p .at) (p .events) v) (ip : IsPart w p) {z : List ℕ} {l : Graph} (pl : PartLoaded w p v z l)
+    (lz : length z ≡ length v) {y : List ℕ} {r : Window}
     (am : AreaMade p l z y r) where
   abbrev c : ℕ
   c = p .events
@@ -267,7 +271,8 @@ module _ {w : Window} {p : Part} {v : List ℕ} (st : StepReady w (p .at) (p .ev
   -- the part's places and words, in the window's area
   places-z : take (2 * c) (drop (p .places) z) ≡ take (2 * c) (drop (2 * B) (take (2 * w .events) u))
   places-z =
-      mid-less (p .places) (2 * c) S v z (omega (arith, pl .ready .places)) (omega (arith, pl .ready .places, pl .ready .room)) (omega (arith, pl .ready .places, pl .ready .room, lz)) (pl .front)
+      mid-less (p .places) (2 * c) S v z (omega (arith, pl .ready .places)) (omega (arith, pl .ready .places, pl .ready .room))
+      (omega (arith, pl .ready .places, pl .ready .room, lz)) (pl .front)
       ∙ ap (λ k. take (2 * c) (drop k v)) (ip .places)
       ∙ sym (ap (λ l. take (2 * c) (drop (2 * B) l)) (take-take (2 * w .events) (13 * w .events) v (omega arith))
       ∙ mid-take (2 * B) (2 * c) (2 * w .events) v (omega (arith, st .starts, st .ends)) (omega (arith, st .room)))
@@ -275,7 +280,8 @@ module _ {w : Window} {p : Part} {v : List ℕ} (st : StepReady w (p .at) (p .ev
   words-z : take (3 * c) (drop (p .words) z) ≡ take (3 * c) (drop (3 * B) (take (3 * w .events) (drop (2 * w .events) u)))
   words-z =
       let e : 2 * w .events + 3 * B ≡ 3 * B + 2 * w .events = omega arith in
-      mid-less (p .words) (3 * c) S v z (omega (arith, pl .ready .words)) (omega (arith, pl .ready .words, pl .ready .room)) (omega (arith, pl .ready .words, pl .ready .room, lz)) (pl .front)
+      mid-less (p .words) (3 * c) S v z (omega (arith, pl .ready .words)) (omega (arith, pl .ready .words, pl .ready .room))
+      (omega (arith, pl .ready .words, pl .ready .room, lz)) (pl .front)
       ∙ ap (λ k. take (3 * c) (drop k v)) (ip .words)
       ∙ sym (mid-take (3 * B) (3 * c) (3 * w .events) (drop (2 * w .events) u) (omega (arith, st .starts, st .ends)) (rw (length-drop, length-take) (omega (arith, st .room)))
       ∙ ap (take (3 * c)) (drop-more (3 * B) (2 * w .events) u)
@@ -295,7 +301,8 @@ module _ {w : Window} {p : Part} {v : List ℕ} (st : StepReady w (p .at) (p .ev
     beside : (U : NodeSet) (i k : ℕ) → i + k ≤ w .events
         → cut U (pickEvents (addsIn w p v) (placesIn v) i k) ≡ cut U (image (a .σ) (pickEvents (addsEvent g (span w) (p .at, c)) (endsAt g) (w .at + i) k))
     beside U i k h =
-        ap (cut U) (pick-shift (addsIn w p v) (addsEvent g (span w) (p .at, c)) (placesIn v) (λ j. (a .σ (endsAt g j .0), a .σ (endsAt g j .1))) (w .at) i k λ j x y. (adds-at j (omega arith), nodes-at j (omega arith)))
+        ap (cut U) (pick-shift (addsIn w p v) (addsEvent g (span w) (p .at, c)) (placesIn v) (λ j. (a .σ (endsAt g j .0), a .σ (endsAt g j .1))) (w .at) i k
+        λ j x y. (adds-at j (omega arith), nodes-at j (omega arith)))
         ∙ ap (cut U) (pick-image (addsEvent g (span w) (p .at, c)) (endsAt g) (a .σ) (w .at + i) k)
       where
         read : (d : ℕ) → d < 13 * w .events → getD v d 0 ≡ getD u d 0
@@ -303,7 +310,8 @@ module _ {w : Window} {p : Part} {v : List ℕ} (st : StepReady w (p .at) (p .ev
 
         word-at : (j d : ℕ) → j < w .events → d < 3 → getD v (2 * w .events + (3 * j + d)) 0 ≡ word g d (w .at + j)
         word-at j d x y =
-            read (2 * w .events + (3 * j + d)) (omega arith) ∙ sym (getD-take (3 * w .events) (drop (2 * w .events) u) (3 * j + d) 0 (omega arith) ∙ getD-drop (2 * w .events) u (3 * j + d) 0)
+            read (2 * w .events + (3 * j + d)) (omega arith)
+            ∙ sym (getD-take (3 * w .events) (drop (2 * w .events) u) (3 * j + d) 0 (omega arith) ∙ getD-drop (2 * w .events) u (3 * j + d) 0)
             ∙ ap (λ l. getD l (3 * j + d) 0) (a .events .words) ∙ words-at g (w .at) (w .events) j d x y
 
         adds-at : (j : ℕ) → j < w .events → addsIn w p v j ≡ addsEvent g (span w) (p .at, c) (w .at + j)
@@ -311,7 +319,8 @@ module _ {w : Window} {p : Part} {v : List ℕ} (st : StepReady w (p .at) (p .ev
             let z0 : 2 * w .events + 3 * j ≡ 2 * w .events + (3 * j + 0) = omega arith in
             let z1 : 2 * w .events + 3 * j + 1 ≡ 2 * w .events + (3 * j + 1) = omega arith in
             let z2 : 2 * w .events + 3 * j + 2 ≡ 2 * w .events + (3 * j + 2) = omega arith in
-            adds-same (span w) (p .at, c) (w .at + j) (ap (λ k. getD v k 0) z0 ∙ word-at j 0 x (omega arith)) (ap (λ k. getD v k 0) z1 ∙ word-at j 1 x (omega arith)) (ap (λ k. getD v k 0) z2 ∙ word-at j 2 x (omega arith))
+            adds-same (span w) (p .at, c) (w .at + j) (ap (λ k. getD v k 0) z0 ∙ word-at j 0 x (omega arith))
+            (ap (λ k. getD v k 0) z1 ∙ word-at j 1 x (omega arith)) (ap (λ k. getD v k 0) z2 ∙ word-at j 2 x (omega arith))
 
         node-at : (d : ℕ) → d < 2 * w .events → getD v d 0 ≡ getD (map (a .σ) (active g (span w))) d 0
         node-at d x = read d (omega arith) ∙ sym (getD-take (2 * w .events) u d 0 x) ∙ ap (λ l. getD l d 0) (a .events .places)
@@ -346,10 +355,13 @@ module _ {w : Window} {p : Part} {v : List ℕ} (st : StepReady w (p .at) (p .ev
 
     pub part-made : SmallArea g r (take (13 * c) (drop (13 * w .events) y))
     part-made =
-        let T : take (2 * c) (drop (p .places) z) ≡ map (a .σ) (active g (p .at, c)) = places-z ∙ ap (λ l. take (2 * c) (drop (2 * B) l)) (a .events .places) ∙ part-places g (span w) (p .at, c) part (a .σ) in
-        let g1 : SmallGraph (edgesIn (l .nodes) (l .edges) (drop S z)) (map (a .σ) (active g (p .at, c))) (r .nodes) (areaEdges c (r .edges) (take (13 * c) (drop (p .area) y))) (am .ρ) (am .σ) =
+        let T : take (2 * c) (drop (p .places) z) ≡ map (a .σ) (active g (p .at, c)) = places-z ∙ ap (λ l. take (2 * c) (drop (2 * B) l)) (a .events .places)
+        ∙ part-places g (span w) (p .at, c) part (a .σ) in
+        let g1 : SmallGraph (edgesIn (l .nodes) (l .edges) (drop S z)) (map (a .σ) (active g (p .at, c))) (r .nodes)
+        (areaEdges c (r .edges) (take (13 * c) (drop (p .area) y))) (am .ρ) (am .σ) =
         rw T at (definition-small _ _ _ _ _ _ (am .small)) in
-        let g2 = part-small g (span w) (p .at, c) part (w .nodes) (areaEdges (w .events) (w .edges) u) (a .ρ) (a .σ) (a .carries) (r .nodes) _ (am .ρ) (am .σ) (small-cuts-equal _ _ edges-are _ _ _ _ _ g1) in
+        let g2 = part-small g (span w) (p .at, c) part (w .nodes) (areaEdges (w .events) (w .edges) u) (a .ρ) (a .σ) (a .carries) (r .nodes) _ (am .ρ) (am .σ)
+        (small-cuts-equal _ _ edges-are _ _ _ _ _ g1) in
         subst (λ (k : ℕ). SmallArea g r (take (13 * c) (drop k y))) (ip .area)
         (subst (λ (q : Window). SmallArea g q (take (13 * c) (drop (p .area) y))) (same-window r (p .at) c (am .at) (am .events))
         (small-area g sound (record { at = p .at; events = c; nodes = r .nodes; edges = r .edges }) g2 (record {
@@ -418,7 +430,8 @@ module _ {n t : ℕ} {v : List ℕ} (q : WholeReady n t v) where
         events = am .events;
         made = λ g sound j all ev.
             let T : take (2 * t) (drop 0 z) ≡ active g (0, t) = front-z 0 (2 * t) (omega arith) ∙ ev .places ∙ map-self (active g (0, t)) in
-            let E : edgesIn (l .nodes) (l .edges) (drop (5 * t + 13 * t) z) ≡ network g (0, t) = ap (λ (k : ℕ). edgesIn (l .nodes) k (drop (5 * t + 13 * t) z)) (wl .edges) ∙ sym (network-start g t) in
+            let E : edgesIn (l .nodes) (l .edges) (drop (5 * t + 13 * t) z) ≡ network g (0, t) = ap (λ (k : ℕ). edgesIn (l .nodes) k (drop (5 * t + 13 * t) z))
+            (wl .edges) ∙ sym (network-start g t) in
             let s : SmallGraph (network g (0, t)) (active g (0, t)) (r .nodes) (areaEdges t (r .edges) (take (13 * t) (drop (5 * t) y))) (am .ρ) (am .σ) =
             rw (E, T) at (definition-small _ _ _ _ _ _ (am .small)) in
             subst (λ (w : Window). SmallArea g w (take (13 * t) (drop (5 * t) y))) (same-window r 0 t (am .at) (am .events))

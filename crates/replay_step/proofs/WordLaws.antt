@@ -52,7 +52,8 @@ drop-sets (v ∷ vs) l q k h = drop-sets vs (set l q v) (suc q) k (omega arith) 
 -- what was written
 pub mid-sets : (vs l : List ℕ) (q : ℕ) → q + length vs ≤ length l → take (length vs) (drop q (sets l q vs)) ≡ vs
 mid-sets vs l q h =
-    ap (λ k. take (length vs) (drop q k)) (sets-eq vs l q h ∙ append-assoc (take q l) vs (drop (q + length vs) l)) ∙ ap (take (length vs)) (drop-at (take q l) (vs ++ drop (q + length vs) l) q (length-take-le q l (omega arith)))
+    ap (λ k. take (length vs) (drop q k)) (sets-eq vs l q h ∙ append-assoc (take q l) vs (drop (q + length vs) l))
+    ∙ ap (take (length vs)) (drop-at (take q l) (vs ++ drop (q + length vs) l) q (length-take-le q l (omega arith)))
     ∙ take-at vs (drop (q + length vs) l) (length vs) refl
 
 -- what lies between is as it was
@@ -86,10 +87,12 @@ map-table g w range count h = let z : range ≡ range + 0 = omega arith in ap (�
     go zero i h = refl
     go (suc k) i h =
         let z : suc (range + i) ≡ range + suc i = omega arith in
-        ap (λ l. map g (take (suc k) l)) (drop-cons w (range + i) 0 (omega arith)) ∙ ap (λ l. g (getD w (range + i) 0) ∷ l) (ap (λ j. map g (take k (drop j w))) z ∙ go k (suc i) (omega arith))
+        ap (λ l. map g (take (suc k) l)) (drop-cons w (range + i) 0 (omega arith))
+        ∙ ap (λ l. g (getD w (range + i) 0) ∷ l) (ap (λ j. map g (take k (drop j w))) z ∙ go k (suc i) (omega arith))
 
 pub map-step : (l w : List ℕ) (s q range i : ℕ) → w ≡ sets l q (table (λ j. node MAPPED (drop s l) (getD l (range + j) 0)) 0 i) → q + i ≤ s → range + i < q
-    → (getD w (range + i) 0 ≡ getD l (range + i) 0) × (set w (q + i) (getD w (s + 16 * getD w (range + i) 0) 0) ≡ sets l q (table (λ j. node MAPPED (drop s l) (getD l (range + j) 0)) 0 (i + 1)))
+    → (getD w (range + i) 0 ≡ getD l (range + i) 0)
+    × (set w (q + i) (getD w (s + 16 * getD w (range + i) 0) 0) ≡ sets l q (table (λ j. node MAPPED (drop s l) (getD l (range + j) 0)) 0 (i + 1)))
 map-step l w s q range i e h b =
     let f : ℕ → ℕ = λ j. node MAPPED (drop s l) (getD l (range + j) 0) in
     let g : getD w (range + i) 0 ≡ getD l (range + i) 0 = ap (λ v. getD v (range + i) 0) e ∙ getD-sets-before (table f 0 i) l q (range + i) b in

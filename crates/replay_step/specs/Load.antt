@@ -120,7 +120,8 @@ pub record PartLoaded (w : Window) (p : Part) (v z : List ℕ) (l : Graph) : Typ
   pub ready : MakeReady p l z
   pub edges : (U : NodeSet) → cut U (edgesIn (l .nodes) (l .edges) (drop (scratch p) z))
       ≡ cut U (areaEdges (w .events) (w .edges) (take (13 * w .events) v))
-      + (cut U (pickEvents (addsIn w p v) (placesIn v) 0 (p .at - w .at)) + cut U (pickEvents (addsIn w p v) (placesIn v) (p .at - w .at + p .events) (w .events - (p .at - w .at + p .events))))
+      + (cut U (pickEvents (addsIn w p v) (placesIn v) 0 (p .at - w .at)) + cut U
+      (pickEvents (addsIn w p v) (placesIn v) (p .at - w .at + p .events) (w .events - (p .at - w .at + p .events))))
 
 -- for the whole list: n junctions and no edge
 pub record WholeLoaded (n : ℕ) (p : Part) (v z : List ℕ) (l : Graph) : Type 0 where

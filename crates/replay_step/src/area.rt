@@ -10,8 +10,10 @@ ghost use Rattle.replay_step.specs.Load.{AreaMade, MakeReady};
 
 // Writes the new numbers of the nodes at the `count` words from `from` on, at q.
 pub(crate) fn put_map(work: &mut [u32], from: usize, count: usize, s: usize, q: usize, n: usize)
-    requires { ⌜ (from + count ≤ q) × (q + count ≤ s) × (s + 16 * n ≤ length (now work)) × ((i : ℕ) → i < count → getD (now work) (from + i) 0 < n) ⌝ }
-    ensures { λ _. ⌜ now (work .exit) ≡ sets (now (work .entry)) q (map (node MAPPED (drop s (now (work .entry)))) (take count (drop from (now (work .entry))))) ⌝ }
+    requires { ⌜ (from + count ≤ q) × (q + count ≤ s) × (s + 16 * n ≤ length (now work)) ×
+        ((i : ℕ) → i < count → getD (now work) (from + i) 0 < n) ⌝ }
+    ensures { λ _. ⌜ now (work .exit) ≡ sets (now (work .entry)) q
+        (map (node MAPPED (drop s (now (work .entry)))) (take count (drop from (now (work .entry))))) ⌝ }
 {
     let mut i: usize = 0;
     // The first i numbers are written; before and behind them nothing has changed.

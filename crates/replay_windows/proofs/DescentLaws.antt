@@ -105,10 +105,12 @@ module _ (p : ℕ) (a : Allowed p) where
       let two = ltb-false n 2 t in
       let s = shares p n two a in
       large-one p a k at n two
-      ∙ ap₂ (λ (u v : List Window). (at, n) ∷ u ++ v) (windows-same k l at (firstPart p n) (omega arith) (omega arith) (omega arith)) (windows-same k l (at + firstPart p n) (n - firstPart p n) (omega arith) (omega arith) (omega arith))
+      ∙ ap₂ (λ (u v : List Window). (at, n) ∷ u ++ v) (windows-same k l at (firstPart p n) (omega arith) (omega arith) (omega arith))
+      (windows-same k l (at + firstPart p n) (n - firstPart p n) (omega arith) (omega arith) (omega arith))
       ∙ sym (large-one p a l at n two))
 
-  windows-two : (at n : ℕ) → 2 ≤ n → windowsFrom p n at n ≡ (at, n) ∷ windowsFrom p (firstPart p n) at (firstPart p n) ++ windowsFrom p (n - firstPart p n) (at + firstPart p n) (n - firstPart p n)
+  windows-two : (at n : ℕ) → 2 ≤ n → windowsFrom p n at n ≡ (at, n) ∷ windowsFrom p (firstPart p n) at (firstPart p n) ++ windowsFrom p (n - firstPart p n)
+      (at + firstPart p n) (n - firstPart p n)
   windows-two at zero h = absurd (omega arith)
   windows-two at (suc k) h =
       let s = shares p (suc k) h a in
@@ -161,7 +163,8 @@ module _ {w : W.Window} {p : ℕ} {answers v : List ℕ} (r : WindowReady w p an
       }
 
   -- what a step leaves for the part, in the words that are lent on
-  module _ {lo c : ℕ} {y z : List ℕ} {k : W.Window} (t : Stepped w lo c y z k) (f : take (13 * n) y ≡ take (13 * n) v) (e : length z ≡ length v) (b : lo + c ≤ w .at + n) (lo-ok : w .at ≤ lo) where
+  module _ {lo c : ℕ} {y z : List ℕ} {k : W.Window} (t : Stepped w lo c y z k) (f : take (13 * n) y ≡ take (13 * n) v) (e : length z ≡ length v)
+      (b : lo + c ≤ w .at + n) (lo-ok : w .at ≤ lo) where
     part-area : (g : Timeline) → Sound g → w .at + n ≤ size g → SmallArea g w (take (13 * n) v) → SmallArea g k (take (13 * k .events) (take (length z - 13 * n) (drop (13 * n) z)))
     part-area g sound i a =
         let x : 13 * n + 13 * k .events ≤ length z = omega (arith, r .room, t .events) in
@@ -213,7 +216,8 @@ module _ {w : W.Window} {p : ℕ} {answers v : List ℕ} (r : WindowReady w p an
                 let x = rw (t .at, t .events) at (j .replied g o (omega (arith, t .at, t .events)) (part-area t f l₃ (omega arith) (omega arith) g o h z)) in
                 record {
                   answers = x .answers ∙ ap (λ m. sets m (w .at + c) (table (byte g) (w .at + c) (n - c))) (u .answers) ∙ sym (sets-two (byte g) answers (w .at) n c cn);
-                  kept = ap₂ (λ (a b : ℕ). a + b) (ap₂ (λ (a b : ℕ). a + b) (area-small z (r .some)) (u .kept)) (x .kept) ∙ sym (sum-two p (r .share) (λ w. (small g w) .nodes) (w .at) n c two q);
+                  kept = ap₂ (λ (a b : ℕ). a + b) (ap₂ (λ (a b : ℕ). a + b) (area-small z (r .some)) (u .kept)) (x .kept)
+                      ∙ sym (sum-two p (r .share) (λ w. (small g w) .nodes) (w .at) n c two q);
                 };
           }
 

@@ -194,7 +194,9 @@ module _ (E : List Edge) (s : ℕ) (S : List ℕ) where
       at-s : (u : ℕ) → Role u → TwoEdgeConnected E u s
       at-s u (inl p) = p
       at-s u (inr q) =
-          absurd (q .new (kept-class E S u (q .a) (median-same E (q .a) s u (subst (λ (v : ℕ). Median E (q .a) v s u) (sym (e (q .a) (q .b) (q .in-a) (q .in-b))) (median-swap23 E _ _ _ u (median-swap12 E _ _ _ u (q .mid))))) (kept-active E S (q .a) (q .in-a))))
+          absurd (q .new (kept-class E S u (q .a)
+          (median-same E (q .a) s u (subst (λ (v : ℕ). Median E (q .a) v s u) (sym (e (q .a) (q .b) (q .in-a) (q .in-b)))
+          (median-swap23 E _ _ _ u (median-swap12 E _ _ _ u (q .mid))))) (kept-active E S (q .a) (q .in-a))))
 
 -- the bound by clauses: each new active node from the third on adds two
 abbrev pub limit : ℕ → ℕ
@@ -214,7 +216,8 @@ kept-bound E (s ∷ S) L a k =
     let f = keptByCuts E S in
     let g : ℕ → Bool = λ x. not (f x) in
     let r : All (Role E s S) (filter g L) =
-    all-map (filter g L) (λ u p. role E s S u (p .0) (λ q. contradict (p .1) (ap not (keptByCuts-complete E S u q)))) (all-and (Kept E (s ∷ S)) (λ u. g u ≡ true) (filter g L) (all-filter (Kept E (s ∷ S)) g L k) (filter-all g L)) in
+    all-map (filter g L) (λ u p. role E s S u (p .0) (λ q. contradict (p .1) (ap not (keptByCuts-complete E S u q))))
+    (all-and (Kept E (s ∷ S)) (λ u. g u ≡ true) (filter g L) (all-filter (Kept E (s ∷ S)) g L k) (filter-all g L)) in
     limit-step S (length L) (length (filter f L)) (length (filter g L)) (filter-length f L)
     (kept-bound E S (filter f L) (apart-filter E f L a) (all-map (filter f L) (keptByCuts-sound E S) (filter-all f L)))
     (most-two E s S (filter g L) (apart-filter E g L a) r) (λ e. most-one E s S e (filter g L) (apart-filter E g L a) r)

@@ -17,7 +17,8 @@ use Rattle.theory_graph.specs.Lists.{any}
 use Rattle.theory_graph.specs.Route.{back}
 use Rattle.theory_graph.specs.SmallGraph.{Canonical, Idle}
 
-module _ (E : List Edge) (S : List ℕ) (h : ℕ) (H : List Edge) (ρ σ : ℕ → ℕ) (g : SmallGraph E S h H ρ σ) (c : Canonical E S h ρ σ) (H′ : List Edge) (ρ′ σ′ : ℕ → ℕ) (g′ : SmallGraph E S h H′ ρ′ σ′) (c′ : Canonical E S h ρ′ σ′) where
+module _ (E : List Edge) (S : List ℕ) (h : ℕ) (H : List Edge) (ρ σ : ℕ → ℕ) (g : SmallGraph E S h H ρ σ) (c : Canonical E S h ρ σ) (H′ : List Edge) (ρ′ σ′ : ℕ → ℕ)
+    (g′ : SmallGraph E S h H′ ρ′ σ′) (c′ : Canonical E S h ρ′ σ′) where
   -- an idle number has the same node under some idle number of the other
   other : (i : ℕ) → i < h → Idle S σ i → (j : ℕ) × (j < h) × Idle S σ′ j × (ρ i ≡ ρ′ j)
   other i l n =
@@ -30,7 +31,8 @@ module _ (E : List Edge) (S : List ℕ) (h : ℕ) (H : List Edge) (ρ σ : ℕ �
       let q = c′ .least j (ρ i) lj n′ t in
       (j, lj, n′, omega arith)
 
-module _ (E : List Edge) (S : List ℕ) (h : ℕ) (H : List Edge) (ρ σ : ℕ → ℕ) (g : SmallGraph E S h H ρ σ) (c : Canonical E S h ρ σ) (H′ : List Edge) (ρ′ σ′ : ℕ → ℕ) (g′ : SmallGraph E S h H′ ρ′ σ′) (c′ : Canonical E S h ρ′ σ′) where
+module _ (E : List Edge) (S : List ℕ) (h : ℕ) (H : List Edge) (ρ σ : ℕ → ℕ) (g : SmallGraph E S h H ρ σ) (c : Canonical E S h ρ σ) (H′ : List Edge) (ρ′ σ′ : ℕ → ℕ)
+    (g′ : SmallGraph E S h H′ ρ′ σ′) (c′ : Canonical E S h ρ′ σ′) where
   same-idle : (n i : ℕ) → i < n → i < h → Idle S σ i → Idle S σ′ i → ρ i ≡ ρ′ i
   same-idle zero i k l d e = absurd (omega arith)
   same-idle (suc n) i k l id id′ =

@@ -11,7 +11,8 @@ use native.Mathlib.Omega.{arith}
 use Rattle.theory_graph.proofs.ContractionIsSmall.{contract-small, kept-low, nth}
 use Rattle.theory_graph.proofs.Definitions.{kept-from, twoEdge-to}
 use Rattle.theory_graph.proofs.Kept.{Kept, kept-class}
-use Rattle.theory_graph.proofs.Lists.{Ordered, all-give, entry, firsts-before, in-filter, in-nth, mem-append, nth-entry, nth-low, ordered-filter, ordered-firsts, ordered-map, ordered-nth, range-mem, range-ordered}
+use Rattle.theory_graph.proofs.Lists.{Ordered, all-give, entry, firsts-before, in-filter, in-nth, mem-append, nth-entry}
+use Rattle.theory_graph.proofs.Lists.{nth-low, ordered-filter, ordered-firsts, ordered-map, ordered-nth, range-mem, range-ordered}
 use Rattle.theory_graph.proofs.Published.{twoEdge-refl, twoEdge-trans}
 use Rattle.theory_graph.proofs.Separation.{insep-sym, insep-trans}
 use Rattle.theory_graph.proofs.SmallGraphs.{SmallGraph}

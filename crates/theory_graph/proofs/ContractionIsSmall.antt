@@ -14,7 +14,8 @@ use Rattle.theory_graph.proofs.Definitions.{kept-from, kept-to, twoEdge
 use Rattle.theory_graph.proofs.Ends.{endsIn-closed}
 use Rattle.theory_graph.proofs.Kept.{Kept, kept-active}
 use Rattle.theory_graph.proofs.Links.{linked-from, linked-to}
-use Rattle.theory_graph.proofs.Lists.{Nth, Pairwise, entry, entry-nth, filter-in, filter-true, firsts-cover, firsts-in, firsts-pairwise, in-filter, mem-append, nth-entry, nth-in, nth-low, pairwise-nth, position-nth, range-mem}
+use Rattle.theory_graph.proofs.Lists.{Nth, Pairwise, entry, entry-nth, filter-in, filter-true, firsts-cover, firsts-in, firsts-pairwise}
+use Rattle.theory_graph.proofs.Lists.{in-filter, mem-append, nth-entry, nth-in, nth-low, pairwise-nth, position-nth, range-mem}
 use Rattle.theory_graph.proofs.Numbering.{in-order, links-ascends, links-in, links-out}
 use Rattle.theory_graph.proofs.Published.{twoEdge-refl, twoEdge-trans}
 use Rattle.theory_graph.proofs.Separation.{insep-sym}
@@ -73,7 +74,8 @@ module _ (n : ℕ) (E : List Edge) (S : List ℕ) (wE : endsIn (λ v. ltb v n) E
   unfolding keptClasses
   class-order =
       in-order (twoEdge E) (twoEdge-refl E) (twoEdge-trans E) σ (filter (kept E S) (range 0 n)) S (λ x. true) 0 (λ x c p q. refl)
-      (λ a p. let e : σ a ≡ 0 + σ a = omega arith in e ∙ ap (λ l. 0 + position (λ c. twoEdge E c a) l) (sym (filter-true (firsts (twoEdge E) (S ++ filter (kept E S) (range 0 n)))))) (λ a p. contradict refl p)
+      (λ a p. let e : σ a ≡ 0 + σ a = omega arith in e
+      ∙ ap (λ l. 0 + position (λ c. twoEdge E c a) l) (sym (filter-true (firsts (twoEdge E) (S ++ filter (kept E S) (range 0 n)))))) (λ a p. contradict refl p)
 
   pub class-at : (z : ℕ) → Kept E S z → (position (λ c. twoEdge E c z) cs < h) × TwoEdgeConnected E z (ρ (position (λ c. twoEdge E c z) cs))
   class-at z k =

@@ -66,7 +66,11 @@ answerByCuts-is E x y = go (reach E x y) (cutOff E x y y) refl refl
   where
     go : (a b : Bool) → reach E x y ≡ a → cutOff E x y y ≡ b → IsAnswer E x y (cond a (cond b 1 2) 0)
     go false b p q = (omega arith, λ j l. (λ h. separated-weaken E (omega arith) (reach-separated E x y p), λ s. omega arith))
-    go true true p q = (omega arith, λ j l. (λ h. let t = cutOff-sound E x y y q in (t .0, t .1, t .2, omega arith), λ s. omega (arith, insep-cut E (reach-connected E x y p) (s .0) (s .1) (s .2))))
+    go true true p q = (
+      omega arith,
+      λ j l.
+          (λ h. let t = cutOff-sound E x y y q in (t .0, t .1, t .2, omega arith), λ s. omega (arith, insep-cut E (reach-connected E x y p) (s .0) (s .1) (s .2))),
+    )
     go true false p q = (omega arith, λ j l. (λ h. absurd (omega arith), λ s. absurd (true≢false (sym (cutOff-complete E x y y (s .0, s .1, s .2, s .2, omega arith)) ∙ q))))
 
 -- a query has one answer

@@ -140,8 +140,10 @@ in-crossing U e {H = f ∷ H} (List·Memᴰ·tail m) c = omega (arith, in-crossi
 -- a small cut has one edge
 pub crossing-one : (U : NodeSet) (e f : Edge) {H : List Edge} → cut U H ≤ 1 → List·Memᴰ e H → List·Memᴰ f H → 0 < crossing U e → 0 < crossing U f → e ≡ f
 crossing-one U e f h (List·Memᴰ·head p) (List·Memᴰ·head q) a b = p ∙ sym q
-crossing-one U e f {H = g ∷ H} h (List·Memᴰ·head p) (List·Memᴰ·tail n) a b = let a′ : 0 < crossing U g = subst (λ (g : Edge). 0 < crossing U g) p a in absurd (omega (arith, in-crossing U f n b))
-crossing-one U e f {H = g ∷ H} h (List·Memᴰ·tail m) (List·Memᴰ·head q) a b = let b′ : 0 < crossing U g = subst (λ (g : Edge). 0 < crossing U g) q b in absurd (omega (arith, in-crossing U e m a))
+crossing-one U e f {H = g ∷ H} h (List·Memᴰ·head p) (List·Memᴰ·tail n) a b = let a′ : 0 < crossing U g = subst (λ (g : Edge). 0 < crossing U g) p
+    a in absurd (omega (arith, in-crossing U f n b))
+crossing-one U e f {H = g ∷ H} h (List·Memᴰ·tail m) (List·Memᴰ·head q) a b = let b′ : 0 < crossing U g = subst (λ (g : Edge). 0 < crossing U g) q
+    b in absurd (omega (arith, in-crossing U e m a))
 crossing-one U e f {H = g ∷ H} h (List·Memᴰ·tail m) (List·Memᴰ·tail n) a b = crossing-one U e f (omega arith) m n a b
 
 pub closed-all : (F : List Edge) → cut (λ v. true) F ≤ 0

@@ -48,7 +48,11 @@ rep-closed : (E : List Edge) (f : ℕ → Bool) → cut (λ v. f (rep E v)) E �
 unfolding rep
 rep-closed [] f = omega arith
 rep-closed (e ∷ E) f =
-    omega (arith, crosses-same (ap f (merge-left (rep E (e .0)) (rep E (e .1)) ∙ sym (merge-right (rep E (e .0)) (rep E (e .1))))), rep-closed E (λ v. f (cond (eqb v (rep E (e .1))) (rep E (e .0)) v)))
+    omega (
+      arith,
+      crosses-same (ap f (merge-left (rep E (e .0)) (rep E (e .1)) ∙ sym (merge-right (rep E (e .0)) (rep E (e .1))))),
+      rep-closed E (λ v. f (cond (eqb v (rep E (e .1))) (rep E (e .0)) v)),
+    )
 
 pub joined-to : (E : List Edge) (x y : ℕ) → joined E x y ≡ true → Connected E x y
 unfolding joined
@@ -135,7 +139,18 @@ module _ (E : List Edge) (S : List ℕ) (z : ℕ) where
       let (ia, ta) = act a ma in
       let (ib, tb) = act b mb in
       let (ic, tc) = act c mc in
-      record { a = a; b = b; c = c; in-a = ia; in-b = ib; in-c = ic; to-a = ta; to-b = tb; to-c = tc; mid = between-median E a b c z (far a b ta tb ab) (far b c tb tc bc) (far a c ta tc ac) }
+      record {
+        a = a;
+        b = b;
+        c = c;
+        in-a = ia;
+        in-b = ib;
+        in-c = ic;
+        to-a = ta;
+        to-b = tb;
+        to-c = tc;
+        mid = between-median E a b c z (far a b ta tb ab) (far b c tb tc bc) (far a c ta tc ac);
+      }
     where
       act : (a : ℕ) → List·Memᴰ a (firsts R (filter f S)) → List·Memᴰ a S × Connected E z a
       act a m = let (i, t) = filter-in f a S (firsts-in R a (filter f S) m) in (i, and-elim (joined E z a) (not (twoEdge E z a)) t λ p q. joined-to E z a p)
@@ -176,7 +191,9 @@ pub answer-is : (E : List Edge) (x y : ℕ) → answer E x y ≡ answerByCuts E 
 unfolding answer answerByCuts
 answer-is E x y = ap₂ (λ a b. cond a b 0) j (onTwoEdge E x y
     (λ s. ap (λ b. cond b 2 1) (twoEdge-not E x y s) ∙ sym (ap (λ b. cond b 1 2) (cutOff-complete E x y y (s .0, s .1, s .2, s .2, s .3))))
-    (λ t. ap (λ b. cond b 2 1) (twoEdge-from E x y t) ∙ sym (ap (λ b. cond b 1 2) (onBool (cutOff E x y y) (λ h. let s = cutOff-sound E x y y h in absurd (t (s .0, s .1, s .2, s .4))) (λ f. f)))))
+    (λ t. ap (λ b. cond b 2 1) (twoEdge-from E x y t)
+    ∙ sym (ap (λ b. cond b 1 2) (onBool (cutOff E x y y) (λ h. let s = cutOff-sound E x y y h in absurd (t (s .0, s .1, s .2, s .4))) (λ f. f)))))
   where
     j : joined E x y ≡ reach E x y
-    j = onBool (reach E x y) (λ r. joined-from E x y (reach-connected E x y r) ∙ sym r) λ r. onBool (joined E x y) (λ q. contradict (connected-reach E x y (joined-to E x y q)) r) (λ f. f ∙ sym r)
+    j = onBool (reach E x y) (λ r. joined-from E x y (reach-connected E x y r) ∙ sym r) λ r. onBool (joined E x y)
+        (λ q. contradict (connected-reach E x y (joined-to E x y q)) r) (λ f. f ∙ sym r)

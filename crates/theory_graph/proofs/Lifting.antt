@@ -10,7 +10,8 @@ use native.Mathlib.Omega.{arith}
 use borrow.Author.Tests.{eqb-false, eqb-true, ltb-false, ltb-true}
 use Rattle.theory_graph.proofs.Booleans.{and-elim, contradict, onBool, or-elim}
 use Rattle.theory_graph.proofs.CutOffs.{onCutOff, onTwoEdge}
-use Rattle.theory_graph.proofs.Cuts.{closed-empty, closed-union, closed-when, crosses-one, crossing-in, crossing-one, cut-complement, cut-posimodular, cut-submodular, in-crossing, when}
+use Rattle.theory_graph.proofs.Cuts.{closed-empty, closed-union, closed-when, crosses-one, crossing-in, crossing-one}
+use Rattle.theory_graph.proofs.Cuts.{cut-complement, cut-posimodular, cut-submodular, in-crossing, when}
 use Rattle.theory_graph.proofs.Medians.{between-both, between-connected, between-end, between-inside, between-sym}
 use Rattle.theory_graph.proofs.Reach.{connected-reach, reach, reach-closed, reach-connected, reach-self}
 use Rattle.theory_graph.proofs.Separation.{insep-refl, insep-sym, insep-trans}

@@ -82,7 +82,8 @@ avoid E x y Z xy Zx Zy s =
     let Rq : R q ≡ true = onBool (R q) (λ t. t) (λ f. contradict (sym (adj-closed Y (adj-induced Q n (ap not Rp) (ap not f)) (reach-closed L y)) ∙ Yp) Yq) in
     let Zp : Z p ≡ true = onBool (Z p) (λ t. t) (λ f. contradict (adj-closed R (adj-induced P n (ap not f) (in-P q Rq)) (reach-closed K x) ∙ Rq) Rp) in
     let (U, Up, Ux, Uy, c) = s p Zp in
-    let far : 0 < cut U L = onBool (leb (cut U L) 0) (λ t. contradict (reach-least L (∁ U) (omega (arith, cut-complement U L, leb-true (cut U L) 0 t)) y p (ap not Uy) Yp) (ap not Up)) (λ f. leb-false (cut U L) 0 f) in
+    let far : 0 < cut U L = onBool (leb (cut U L) 0)
+    (λ t. contradict (reach-least L (∁ U) (omega (arith, cut-complement U L, leb-true (cut U L) 0 t)) y p (ap not Uy) Yp) (ap not Up)) (λ f. leb-false (cut U L) 0 f) in
     onBool (U q)
     (λ Uq.
     let near : 0 < cut (U ∩ R) K = insep-cut K (insep-sym K (reach-connected K x q Rq)) (U ∩ R) (ap₂ _&&_ Uq Rq) (ap (λ (b : Bool). b && R x) Ux) in
@@ -145,7 +146,8 @@ module _ (E : List Edge) (S : List ℕ) (h : ℕ) (ρ : ℕ → ℕ) (g : OnePer
   linked-from n l =
       ap₂ _&&_ (ap not (apart i j li lj n)) (joined-from (induced (∁ Z) E) x y (avoid E x y Z (l .to)
       (ap (λ (b : Bool). kept E S x && (not b && not (twoEdge E x y))) (twoEdge-from E x x (insep-refl E x)) ∙ off (kept E S x))
-      (ap (λ (b : Bool). kept E S y && (not (twoEdge E y x) && not b)) (twoEdge-from E y y (insep-refl E y)) ∙ ap (λ (b : Bool). kept E S y && b) (off (not (twoEdge E y x))) ∙ off (kept E S y))
+      (ap (λ (b : Bool). kept E S y && (not (twoEdge E y x) && not b)) (twoEdge-from E y y (insep-refl E y))
+      ∙ ap (λ (b : Bool). kept E S y && b) (off (not (twoEdge E y x))) ∙ off (kept E S y))
       λ z zz. onCutOff E z x y (λ s. s) λ b.
       and-elim (kept E S z) (not (twoEdge E z x) && not (twoEdge E z y)) zz λ kz r. and-elim (not (twoEdge E z x)) (not (twoEdge E z y)) r λ zx zy.
       let (k, lk, t) = g .all z (kept-to E S z kz) in

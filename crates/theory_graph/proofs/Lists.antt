@@ -128,7 +128,17 @@ pub take-three : (R : ℕ → ℕ → Bool) (l : List ℕ) → Pairwise R l → 
 take-three R [] p h = absurd (omega arith)
 take-three R (a ∷ []) p h = absurd (omega arith)
 take-three R (a ∷ b ∷ []) p h = absurd (omega arith)
-take-three R (a ∷ b ∷ c ∷ l) p h = (a, b, c, List·Memᴰ·head refl, List·Memᴰ·tail (List·Memᴰ·head refl), List·Memᴰ·tail (List·Memᴰ·tail (List·Memᴰ·head refl)), p .0 .0, p .1 .0 .0, p .0 .1 .0)
+take-three R (a ∷ b ∷ c ∷ l) p h = (
+  a,
+  b,
+  c,
+  List·Memᴰ·head refl,
+  List·Memᴰ·tail (List·Memᴰ·head refl),
+  List·Memᴰ·tail (List·Memᴰ·tail (List·Memᴰ·head refl)),
+  p .0 .0,
+  p .1 .0 .0,
+  p .0 .1 .0,
+)
 
 pub one-in : {x : ℕ} {l : List ℕ} → List·Memᴰ x l → 1 ≤ length l
 one-in (List·Memᴰ·head p) = omega arith
@@ -223,12 +233,14 @@ filter-true (x ∷ l) = ap (λ m. x ∷ m) (filter-true l)
 
 pub range-mem : (z i n : ℕ) → i ≤ z → z < i + n → List·Memᴰ z (range i n)
 range-mem z i zero a b = absurd (omega arith)
-range-mem z i (suc n) a b = onBool (eqb z i) (λ t. List·Memᴰ·head (eqb-true z i t)) λ t. let e : ¬ (z ≡ i) = eqb-false z i t in List·Memᴰ·tail (range-mem z (suc i) n (omega arith) (omega arith))
+range-mem z i (suc n) a b = onBool (eqb z i) (λ t. List·Memᴰ·head (eqb-true z i t)) λ t. let e : ¬ (z ≡ i) = eqb-false z i t in List·Memᴰ·tail
+    (range-mem z (suc i) n (omega arith) (omega arith))
 
 pub position-nth : (f : ℕ → Bool) (i c : ℕ) (xs : List ℕ) → List·Memᴰ c xs → f c ≡ true → (s : ℕ) × Nth s i xs (i + position f xs) × (f s ≡ true)
 position-nth f i c (x ∷ xs) m p = go (f x) refl m (λ n. position-nth f (suc i) c xs n p)
   where
-    go : (b : Bool) → f x ≡ b → List·Memᴰ c (x ∷ xs) → (List·Memᴰ c xs → (s : ℕ) × Nth s (suc i) xs (suc i + position f xs) × (f s ≡ true)) → (s : ℕ) × Nth s i (x ∷ xs) (i + cond b 0 (suc (position f xs))) × (f s ≡ true)
+    go : (b : Bool) → f x ≡ b → List·Memᴰ c (x ∷ xs) → (List·Memᴰ c xs → (s : ℕ) × Nth s (suc i) xs (suc i + position f xs) × (f s ≡ true)) → (s : ℕ)
+        × Nth s i (x ∷ xs) (i + cond b 0 (suc (position f xs))) × (f s ≡ true)
     go true e m k = let z : i ≡ i + 0 = omega arith in (x, subst (λ (v : ℕ). Nth x i (x ∷ xs) v) z here, e)
     go false e (List·Memᴰ·head q) k = contradict (ap f (sym q) ∙ p) e
     go false e (List·Memᴰ·tail m) k =
@@ -247,7 +259,8 @@ table-all P ρ i (suc n) f = (f i (omega arith) (omega arith), table-all P ρ (s
 
 pub table-in : (ρ : ℕ → ℕ) (i n k : ℕ) → i ≤ k → k < i + n → List·Memᴰ (ρ k) (table ρ i n)
 table-in ρ i zero k a b = absurd (omega arith)
-table-in ρ i (suc n) k a b = onBool (eqb k i) (λ t. List·Memᴰ·head (ap ρ (eqb-true k i t))) λ t. let e : ¬ (k ≡ i) = eqb-false k i t in List·Memᴰ·tail (table-in ρ (suc i) n k (omega arith) (omega arith))
+table-in ρ i (suc n) k a b = onBool (eqb k i) (λ t. List·Memᴰ·head (ap ρ (eqb-true k i t))) λ t. let e : ¬ (k ≡ i) = eqb-false k i t in List·Memᴰ·tail
+    (table-in ρ (suc i) n k (omega arith) (omega arith))
 
 pub table-mem : (ρ : ℕ → ℕ) (i n x : ℕ) → List·Memᴰ x (table ρ i n) → (k : ℕ) × (k < i + n) × (x ≡ ρ k)
 table-mem ρ i zero x m = absurd (elim m [ ])
@@ -273,7 +286,10 @@ all-firsts P R (x ∷ xs) a = (a .0, all-filter P (λ y. not (R x y)) (firsts R 
 
 pub ordered-firsts : (P : ℕ → ℕ → Type 0) (R : ℕ → ℕ → Bool) (xs : List ℕ) → Ordered P xs → Ordered P (firsts R xs)
 ordered-firsts P R [] o = tt
-ordered-firsts P R (x ∷ xs) o = (all-filter (P x) (λ y. not (R x y)) (firsts R xs) (all-firsts (P x) R xs (o .0)), ordered-filter P (λ y. not (R x y)) (firsts R xs) (ordered-firsts P R xs (o .1)))
+ordered-firsts P R (x ∷ xs) o = (
+  all-filter (P x) (λ y. not (R x y)) (firsts R xs) (all-firsts (P x) R xs (o .0)),
+  ordered-filter P (λ y. not (R x y)) (firsts R xs) (ordered-firsts P R xs (o .1)),
+)
 
 all-at : (P : ℕ → Type 0) (a : ℕ) (xs : List ℕ) → All P xs → List·Memᴰ a xs → P a
 all-at P a (x ∷ xs) o (List·Memᴰ·head p) = subst P (sym p) (o .0)

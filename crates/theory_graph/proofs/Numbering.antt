@@ -110,12 +110,15 @@ module _ (R : ℕ → ℕ → Bool) (r : (x : ℕ) → R x x ≡ true) (t : (x y
       in-order S fk (suc n)
       (λ y c q w. and-elim (f c) (k c) w λ u v.
       ap₂ _&&_ (sat y c q u) (onBool (R x y) (λ z. contradict v (ap not (t x y c z q))) (λ z. ap not z)))
-      (λ a w. and-elim (f a) (k a) w λ u v. val a u ∙ ap (λ b. n + cond b 0 (suc (position (λ c. R c a) (filter fk rest)))) (no-true (R x a) v) ∙ plus-suc n (position (λ c. R c a) (filter fk rest)))
+      (λ a w. and-elim (f a) (k a) w λ u v. val a u ∙ ap (λ b. n + cond b 0 (suc (position (λ c. R c a) (filter fk rest)))) (no-true (R x a) v)
+      ∙ plus-suc n (position (λ c. R c a) (filter fk rest)))
       (λ a w.
-      onBool (f a) (λ u. let z : R x a ≡ true = yes-true (f a) (R x a) u w in omega (arith, val a u ∙ ap (λ b. n + cond b 0 (suc (position (λ c. R c a) (filter fk rest)))) z)) (λ u. omega (arith, off-f a u))) in
+      onBool (f a) (λ u. let z : R x a ≡ true = yes-true (f a) (R x a) u
+      w in omega (arith, val a u ∙ ap (λ b. n + cond b 0 (suc (position (λ c. R c a) (filter fk rest)))) z)) (λ u. omega (arith, off-f a u))) in
       ap (λ b. ltb (σ x) n && inOrder n (map σ S) || b) (ap₂ _&&_ (eq-eqb (σ x) n e) ih) ∙ or-true (ltb (σ x) n && inOrder n (map σ S)))
       (λ p.
-      let E2 : filter f (x ∷ filter k rest) ≡ filter f rest = ap (λ b. cond b (x ∷ filter f (filter k rest)) (filter f (filter k rest))) p ∙ filter-both f k f (λ c. same (f c) (R x c) (λ u v. contradict (sat x c v u) p)) rest in
+      let E2 : filter f (x ∷ filter k rest) ≡ filter f rest = ap (λ b. cond b (x ∷ filter f (filter k rest)) (filter f (filter k rest))) p
+      ∙ filter-both f k f (λ c. same (f c) (R x c) (λ u v. contradict (sat x c v u) p)) rest in
       let ih : inOrder n (map σ S) ≡ true = in-order S f n sat (λ a q. at-f a q ∙ ap (λ l. n + position (λ c. R c a) l) E2) off-f in
       ap (λ b. b || eqb (σ x) n && inOrder (suc n) (map σ S)) (ap₂ _&&_ (lt-ltb (σ x) n (off-f x p)) ih))
     where

@@ -43,7 +43,12 @@ reach-closed [] x = omega arith
 reach-closed (e ∷ E) x =
     let same : reach (e ∷ E) x (e .0) ≡ reach (e ∷ E) x (e .1) =
     rw (reach-self E (e .0), reach-self E (e .1)) (first-edge (reach E x (e .0)) (reach E x (e .1)) (reach E (e .1) (e .0)) (reach E (e .0) (e .1))) in
-    omega (arith, crosses-same same, closed-union _ _ E (reach-closed E x) (closed-union _ _ E (closed-when (reach E x (e .0)) _ E (reach-closed E (e .1))) (closed-when (reach E x (e .1)) _ E (reach-closed E (e .0)))))
+    omega (
+      arith,
+      crosses-same same,
+      closed-union _ _ E (reach-closed E x)
+          (closed-union _ _ E (closed-when (reach E x (e .0)) _ E (reach-closed E (e .1))) (closed-when (reach E x (e .1)) _ E (reach-closed E (e .0)))),
+    )
 
 -- joined is decided by reach
 pub reach-connected : (E : List Edge) (x y : ℕ) → reach E x y ≡ true → Connected E x y

@@ -38,7 +38,8 @@ answer-read E S h H ρ σ g x y mx my =
     onBool (eqb (σ x) (σ y))
     (λ e.
     let t : TwoEdgeConnected E x y = insep-trans E (subst (λ (v : ℕ). TwoEdgeConnected E x (ρ v)) (eqb-true (σ x) (σ y) e) tx) (insep-sym E ty) in
-    ap₂ (λ a b. cond a (cond b 1 2) 0) (connected-reach E x y (twoEdge-connected E t)) (onBool (cutOff E x y y) (λ u. let w = cutOff-sound E x y y u in absurd (t (w .0, w .1, w .2, w .4))) (λ f. f))
+    ap₂ (λ a b. cond a (cond b 1 2) 0) (connected-reach E x y (twoEdge-connected E t))
+    (onBool (cutOff E x y y) (λ u. let w = cutOff-sound E x y y u in absurd (t (w .0, w .1, w .2, w .4))) (λ f. f))
     ∙ sym (ap (λ c. cond c 2 (cond (reach H (σ x) (σ y)) 1 0)) e))
     (λ e.
     let apart : cutOff E x y y ≡ true =
@@ -122,7 +123,8 @@ module _ (E : List Edge) (x y h : ℕ) (H : List Edge) (ρ σ : ℕ → ℕ) (g 
       go (inr p) (inr q) e = n (p ∙ sym q)
 
   edges-join : ¬ (σ x ≡ σ y) → (K : List Edge) → H ≡ K → _≡_ {A = ℕ} (cond (reach K (σ x) (σ y)) 1 0) (cond (noEdge K) 0 1)
-  edges-join n [] e = ap (λ (b : Bool). cond b 1 0) (onBool (reach [] (σ x) (σ y)) (λ t. absurd (omega (arith, insep-cut [] (reach-connected [] (σ x) (σ y) t) (eqb (σ x)) (eq-eqb (σ x) (σ x) refl) (ne-eqb (σ x) (σ y) n)))) (λ f. f))
+  edges-join n [] e = ap (λ (b : Bool). cond b 1 0)
+      (onBool (reach [] (σ x) (σ y)) (λ t. absurd (omega (arith, insep-cut [] (reach-connected [] (σ x) (σ y) t) (eqb (σ x)) (eq-eqb (σ x) (σ x) refl) (ne-eqb (σ x) (σ y) n)))) (λ f. f))
   edges-join n (f ∷ K) e =
       let (lt, lj, _) = g .edge (f .0) (f .1) (subst (λ (l : List Edge). List·Memᴰ f l) (sym e) (List·Memᴰ·head refl)) in
       let ne : ¬ (f .0 ≡ f .1) = λ q. omega arith in

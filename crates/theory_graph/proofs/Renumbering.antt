@@ -34,7 +34,8 @@ linked-flip E h ρ i j l = record { to = insep-sym E (l .to); third = λ k lk b.
     swap (inr b) = inl b
 
 -- an edge between two numbers, smaller number first
-written : (E : List Edge) (S : List ℕ) (h : ℕ) (H : List Edge) (ρ σ : ℕ → ℕ) → SmallGraph E S h H ρ σ → (i j : ℕ) → i < h → j < h → ¬ (i ≡ j) → Linked E h ρ i j ↔ List·Memᴰ (min i j, max i j) H
+written : (E : List Edge) (S : List ℕ) (h : ℕ) (H : List Edge) (ρ σ : ℕ → ℕ) → SmallGraph E S h H ρ σ → (i j : ℕ) → i < h → j < h → ¬ (i ≡ j)
+    → Linked E h ρ i j ↔ List·Memᴰ (min i j, max i j) H
 written E S h H ρ σ g i j li lj n = onBool (ltb i j)
     (λ t. let l : i < j = ltb-true i j t in
     let a : min i j ≡ i = omega arith in
@@ -56,7 +57,8 @@ module _ (E : List Edge) (S : List ℕ) (h : ℕ) (H : List Edge) (ρ σ : ℕ �
         to = insep-trans E (insep-sym E (twoEdge-connected E p)) (insep-trans E (l .to) (twoEdge-connected E q));
         third = λ k lk b.
             let (m, lm, t) = g .all (ρ′ k) (g′ .kept k lk) in
-            which k m lk t (l .third m lm (λ (U, a, c, e, f). b (U, same-side E (ρ′ k) (ρ m) t U f ∙ a, sym (same-side E (ρ i) (ρ′ u) p U f) ∙ c, sym (same-side E (ρ j) (ρ′ v) q U f) ∙ e, f)));
+            which k m lk t (l .third m lm (λ (U, a, c, e, f). b
+            (U, same-side E (ρ′ k) (ρ m) t U f ∙ a, sym (same-side E (ρ i) (ρ′ u) p U f) ∙ c, sym (same-side E (ρ j) (ρ′ v) q U f) ∙ e, f)));
       }
     where
       which : (k m : ℕ) → k < h′ → TwoEdgeConnected E (ρ′ k) (ρ m) → (m ≡ i) ⊎ (m ≡ j) → (k ≡ u) ⊎ (k ≡ v)

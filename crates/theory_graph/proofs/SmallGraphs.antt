@@ -51,7 +51,15 @@ cross-two : (U : NodeSet) (H : List Edge) → Ascends H → 1 < cut U H → (e f
 cross-two U [] a h = absurd (omega arith)
 cross-two U (e ∷ H) a h =
     onBool (ltb 0 (crossing U e))
-    (λ t. let (f, m, c) = crossing-in U H (omega (arith, crosses-le (U (e .0)) (U (e .1)))) in (e, f, List·Memᴰ·head refl, List·Memᴰ·tail m, lessAll-in e f (a .0) m, ltb-true 0 (crossing U e) t, c)) λ t.
+    (λ t. let (f, m, c) = crossing-in U H (omega (arith, crosses-le (U (e .0)) (U (e .1)))) in (
+      e,
+      f,
+      List·Memᴰ·head refl,
+      List·Memᴰ·tail m,
+      lessAll-in e f (a .0) m,
+      ltb-true 0 (crossing U e) t,
+      c,
+    )) λ t.
     let (f, g, m, n, l, p, q) = cross-two U H (a .1) (omega (arith, ltb-false 0 (crossing U e) t)) in (f, g, List·Memᴰ·tail m, List·Memᴰ·tail n, l, p, q)
 
 module _ (E : List Edge) (S : List ℕ) (h : ℕ) (H : List Edge) (ρ σ : ℕ → ℕ) (g : SmallGraph E S h H ρ σ) where
@@ -116,7 +124,10 @@ module _ (E : List Edge) (S : List ℕ) (h : ℕ) (H : List Edge) (ρ σ : ℕ �
       let c′ : cut (∁ U) E ≤ 1 = omega (arith, cut-complement U E) in
       crosses-one (U (ρ i)) (U (ρ j)) a
       (λ Ui Uj. crosses-one (U (ρ k)) (U (ρ l)) b
-      (λ Uk Ul. (meeting-end U i j k l li lj lk ll c p q Ui Uj Uk Ul, meeting-end (∁ U) j i l k lj li ll lk c′ (linked-sym i j p) (linked-sym k l q) (ap not Uj) (ap not Ui) (ap not Ul) (ap not Uk)))
+      (λ Uk Ul. (
+        meeting-end U i j k l li lj lk ll c p q Ui Uj Uk Ul,
+        meeting-end (∁ U) j i l k lj li ll lk c′ (linked-sym i j p) (linked-sym k l q) (ap not Uj) (ap not Ui) (ap not Ul) (ap not Uk),
+      ))
       (λ Uk Ul. absurd (omega (
         arith,
         (g .edge i j m) .0,
@@ -132,7 +143,10 @@ module _ (E : List Edge) (S : List ℕ) (h : ℕ) (H : List Edge) (ρ σ : ℕ �
         meeting-end U j i k l lj li lk ll c (linked-sym i j p) q Uj Ui Uk Ul,
         meeting-end (∁ U) i j l k li lj ll lk c′ p (linked-sym k l q) (ap not Ui) (ap not Uj) (ap not Ul) (ap not Uk),
       )))
-      (λ Uk Ul. (meeting-end (∁ U) i j k l li lj lk ll c′ p q (ap not Ui) (ap not Uj) (ap not Uk) (ap not Ul), meeting-end U j i l k lj li ll lk c (linked-sym i j p) (linked-sym k l q) Uj Ui Ul Uk)))
+      (λ Uk Ul. (
+        meeting-end (∁ U) i j k l li lj lk ll c′ p q (ap not Ui) (ap not Uj) (ap not Uk) (ap not Ul),
+        meeting-end U j i l k lj li ll lk c (linked-sym i j p) (linked-sym k l q) Uj Ui Ul Uk,
+      )))
 
   pub small-down : (U : NodeSet) → cut U E ≤ 1 → cut (U ∘ ρ) H ≤ cut U E
   small-down U c =

@@ -21,7 +21,8 @@ use Rattle.theory_graph.specs.Graph.{Edge, NodeSet}
 use Rattle.theory_graph.specs.Route.{Adjacent}
 
 -- a cut whose one edge ends at z's class, outside: z lies between what is inside and what is outside
-pub between-branch : (E : List Edge) (D : NodeSet) (t p a z b : ℕ) → Adjacent t p E → cut D E ≤ 1 → D t ≡ true → D p ≡ false → TwoEdgeConnected E p z → Connected E a z → Connected E b z → D a ≡ true → D b ≡ false → Between E a z b
+pub between-branch : (E : List Edge) (D : NodeSet) (t p a z b : ℕ) → Adjacent t p E → cut D E ≤ 1 → D t ≡ true → D p ≡ false → TwoEdgeConnected E p z
+    → Connected E a z → Connected E b z → D a ≡ true → D b ≡ false → Between E a z b
 between-branch E D t p a z b n c Dt Dp pz az bz Da Db (U, Uz, Ua, Ub, h) =
     let W = ∁ U in
     let Wp : W p ≡ false = ap not (same-side E p z pz U h ∙ Uz) in
@@ -135,7 +136,8 @@ module _ (E : List Edge) (S : List ℕ) (T : ClassForest E S) where
     child-outside t k = sym (same-side E (par t) c (parent-class t k) (below t) (T .top-cut t (k .on) (k .is-top))) ∙ parent-outside t (k .on) (k .no-root)
 
     child-connected : (t x : ℕ) → ChildClass c t → seen x ≡ true → below t x ≡ true → Connected E x c
-    child-connected t x k s h = insep-trans E (below-connected (suc (pos x)) t x (omega arith) s h) (insep-trans E (adjacent-connected (T .par-adj t (k .on) (k .no-root))) (twoEdge-connected E (parent-class t k)))
+    child-connected t x k s h = insep-trans E (below-connected (suc (pos x)) t x (omega arith) s h)
+        (insep-trans E (adjacent-connected (T .par-adj t (k .on) (k .no-root))) (twoEdge-connected E (parent-class t k)))
 
     -- of two children, neither holds the other
     child-not-below : (t u : ℕ) → ChildClass c t → ChildClass c u → ¬ (t ≡ u) → below u t ≡ true → ⊥
@@ -151,7 +153,8 @@ module _ (E : List Edge) (S : List ℕ) (T : ClassForest E S) where
 
     pub branch-between : (t a b : ℕ) → ChildClass c t → seen a ≡ true → below t a ≡ true → below t b ≡ false → Connected E b c → Between E a c b
     branch-between t a b k s h n bc =
-        between-branch E (below t) t (par t) a c b (T .par-adj t (k .on) (k .no-root)) (T .top-cut t (k .on) (k .is-top)) (T .below-self t) (parent-outside t (k .on) (k .no-root)) (parent-class t k) (child-connected t a k s h) bc h n
+        between-branch E (below t) t (par t) a c b (T .par-adj t (k .on) (k .no-root)) (T .top-cut t (k .on) (k .is-top)) (T .below-self t)
+        (parent-outside t (k .on) (k .no-root)) (parent-class t k) (child-connected t a k s h) bc h n
 
     -- two branches with an active node
     pub branches-kept : (t u a b : ℕ) → ChildClass c t → ChildClass c u → ¬ (t ≡ u) → List·Memᴰ a S → List·Memᴰ b S → below t a ≡ true → below u b ≡ true → Kept E S c
@@ -212,7 +215,9 @@ module _ (E : List Edge) (S : List ℕ) (T : ClassForest E S) where
     pub kept-branches : Kept E S c → ((a : ℕ) → List·Memᴰ a S → ¬ (top a ≡ c)) → TwoBranches
     kept-branches k no-act =
         go (where-is (k .a) (k .in-a)) (where-is (k .b) (k .in-b)) (where-is (k .c) (k .in-c))
-        (median-between E _ _ (k .c) c (k .mid)) (median-between E _ _ (k .a) c (median-swap23 E (k .b) (k .a) (k .c) c (median-swap12 E (k .a) (k .b) (k .c) c (k .mid)))) (median-between E _ _ (k .b) c (median-swap23 E _ _ _ c (k .mid))) (k .in-a) (k .in-b) (k .in-c)
+        (median-between E _ _ (k .c) c (k .mid))
+        (median-between E _ _ (k .a) c (median-swap23 E (k .b) (k .a) (k .c) c (median-swap12 E (k .a) (k .b) (k .c) c (k .mid))))
+        (median-between E _ _ (k .b) c (median-swap23 E _ _ _ c (k .mid))) (k .in-a) (k .in-b) (k .in-c)
       where
         where-is : (x : ℕ) → List·Memᴰ x S → Placed x
         where-is x m = onBool (below c x) (λ h. inr (branch-of (suc (pos x)) x (omega arith) (T .active x m) h (no-act x m))) inl
@@ -223,7 +228,13 @@ module _ (E : List Edge) (S : List ℕ) (T : ClassForest E S) where
         make : (x y : ℕ) → List·Memᴰ x S → List·Memᴰ y S → (t : ℕ) × ChildClass c t × (below t x ≡ true) → (t : ℕ) × ChildClass c t × (below t y ≡ true) → Between E x c y → TwoBranches
         make x y mx my (t, k, h) (u, l, w) n =
             onEq t u
-            (λ e. absurd (n (∁ (below t), ap not (child-outside t k), ap not h, ap not (subst (λ (v : ℕ). below v y ≡ true) (sym e) w), omega (arith, cut-complement (below t) E, T .top-cut t (k .on) (k .is-top)))))
+            (λ e. absurd (n (
+              ∁ (below t),
+              ap not (child-outside t k),
+              ap not h,
+              ap not (subst (λ (v : ℕ). below v y ≡ true) (sym e) w),
+              omega (arith, cut-complement (below t) E, T .top-cut t (k .on) (k .is-top)),
+            )))
             (λ ne. record { t = t; u = u; a = x; b = y; ct = k; cu = l; differ = ne; in-a = mx; in-b = my; has-a = h; has-b = w })
 
         go : {x y z : ℕ} → Placed x → Placed y → Placed z → Between E x c y → Between E y c z → Between E x c z → List·Memᴰ x S → List·Memᴰ y S → List·Memᴰ z S → TwoBranches
@@ -294,7 +305,8 @@ module _ (E : List Edge) (S : List ℕ) (T : ClassForest E S) where
             onBool (below z e) (λ t. t) λ f.
             onBool (below e z) (λ q.
             let (t, k, w) = branch-of z (mz .on) (mz .is-top) (suc (pos c)) c (omega arith) (mc .on) p (λ i. nz (sym i ∙ mc .is-top)) in
-            let te : below t e ≡ false = onBool (below t e) (λ r. contradict (below-trans (suc (pos z)) t e z (omega arith) (mz .on) r q) (child-outside z (mz .on) (mz .is-top) t k)) (λ f. f) in
+            let te : below t e ≡ false = onBool (below t e)
+            (λ r. contradict (below-trans (suc (pos z)) t e z (omega arith) (mz .on) r q) (child-outside z (mz .on) (mz .is-top) t k)) (λ f. f) in
             let b : Between E c z e = branch-between z (mz .on) (mz .is-top) t c e k (mc .on) w te (insep-sym E (below-connected (suc (pos z)) e z (omega arith) (mz .on) q)) in
             absurd (pick z nz f (no-z z mz b)))
             (λ q. absurd (clash-chain (ancestors-chain (suc (pos c)) e z c (omega arith) (mc .on) o p) f q));

@@ -84,7 +84,8 @@ over-equal xs t u e f = ap (λ l. xs ++ l) (ext-getD 0 (drop (length xs) t) (dro
 over-suc : (f : ℕ → ℕ) (j k : ℕ) (t : List ℕ) → k < length t → set (over (table f j k) t) k (f (j + k)) ≡ over (table f j (suc k)) t
 over-suc f j k [] l = absurd (omega arith)
 over-suc f j zero (x ∷ t) l = let e : j + 0 ≡ j = omega arith in ap (λ i. f i ∷ t) e
-over-suc f j (suc k) (x ∷ t) l = let e : j + suc k ≡ suc j + k = omega arith in ap (λ (u : List ℕ). f j ∷ u) (ap (λ i. set (over (table f (suc j) k) t) k (f i)) e ∙ over-suc f (suc j) k t (omega arith))
+over-suc f j (suc k) (x ∷ t) l = let e : j + suc k ≡ suc j + k = omega arith in ap (λ (u : List ℕ). f j ∷ u)
+    (ap (λ i. set (over (table f (suc j) k) t) k (f i)) e ∙ over-suc f (suc j) k t (omega arith))
 
 -- one more entry is written
 pub over-more : (f : ℕ → ℕ) (k : ℕ) (t : List ℕ) → k < length t → set (over (table f 0 k) t) k (f k) ≡ over (table f 0 (k + 1)) t

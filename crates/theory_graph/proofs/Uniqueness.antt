@@ -39,7 +39,8 @@ small-bound E S h H ρ σ g =
     let in-T : (a : ℕ) → List·Memᴰ a S → List·Memᴰ a T =
     λ a m. let (c, n, e) = firsts-cover eqb (λ x. eq-eqb x x refl) (λ x y z p q. eq-eqb x z (eqb-true x y p ∙ eqb-true y z q)) a S m in subst (λ (v : ℕ). List·Memᴰ v T) (eqb-true c a e) n in
     let b : length (table ρ 0 h) ≤ limit (length T) =
-    kept-bound E T (table ρ 0 h) (table-apart E ρ 0 h (λ j k a b. g .once j k (omega arith) (omega arith))) (table-all (Kept E T) ρ 0 h (λ j a b. kept-sub E S T (ρ j) in-T (g .kept j (omega arith)))) in
+    kept-bound E T (table ρ 0 h) (table-apart E ρ 0 h (λ j k a b. g .once j k (omega arith) (omega arith)))
+    (table-all (Kept E T) ρ 0 h (λ j a b. kept-sub E S T (ρ j) in-T (g .kept j (omega arith)))) in
     subst (λ (k : ℕ). h ≤ k) (limit-is (length T)) (omega (arith, table-length ρ 0 h))
 
 -- ---- a list of nodes in different classes, each in the class of one of M
@@ -138,7 +139,8 @@ ascends-same [] (e ∷ H) a b f k = let m = k e (List·Memᴰ·head refl) in abs
 ascends-same (e ∷ G) [] a b f k = let m = f e (List·Memᴰ·head refl) in absurd (elim m [ ])
 ascends-same (x ∷ G) (y ∷ H) a b f k =
     let e : x ≡ y = first (f x (List·Memᴰ·head refl)) (k y (List·Memᴰ·head refl)) in
-    ap₂ _∷_ e (ascends-same G H (a .1) (b .1) (λ z m. later z y (f z (List·Memᴰ·tail m)) (λ p. less-self x z (e ∙ sym p) (lessAll-in x z (a .0) m))) (λ z m. later z x (k z (List·Memᴰ·tail m)) (λ p. less-self y z (sym e ∙ sym p) (lessAll-in y z (b .0) m))))
+    ap₂ _∷_ e (ascends-same G H (a .1) (b .1) (λ z m. later z y (f z (List·Memᴰ·tail m)) (λ p. less-self x z (e ∙ sym p) (lessAll-in x z (a .0) m)))
+    (λ z m. later z x (k z (List·Memᴰ·tail m)) (λ p. less-self y z (sym e ∙ sym p) (lessAll-in y z (b .0) m))))
   where
     first : List·Memᴰ x (y ∷ H) → List·Memᴰ y (x ∷ G) → x ≡ y
     first (List·Memᴰ·head p) n = p
@@ -152,12 +154,14 @@ ascends-same (x ∷ G) (y ∷ H) a b f k =
 -- the edges follow from the nodes' classes
 pub edges-same : (E : List Edge) (S : List ℕ) (h : ℕ) (H H′ : List Edge) (ρ ρ′ σ σ′ : ℕ → ℕ) → SmallGraph E S h H ρ σ → SmallGraph E S h H′ ρ′ σ′
     → ((i : ℕ) → i < h → TwoEdgeConnected E (ρ i) (ρ′ i)) → H ≡ H′
-edges-same E S h H H′ ρ ρ′ σ σ′ g g′ t = ascends-same H H′ (g .ascends) (g′ .ascends) (λ e m. there H H′ ρ ρ′ σ σ′ g g′ t e m) (λ e m. there H′ H ρ′ ρ σ′ σ g′ g (λ i l. insep-sym E (t i l)) e m)
+edges-same E S h H H′ ρ ρ′ σ σ′ g g′ t = ascends-same H H′ (g .ascends) (g′ .ascends) (λ e m. there H H′ ρ ρ′ σ σ′ g g′ t e m)
+    (λ e m. there H′ H ρ′ ρ σ′ σ g′ g (λ i l. insep-sym E (t i l)) e m)
   where
     btw-all : (x z y u v w : ℕ) → TwoEdgeConnected E x u → TwoEdgeConnected E z v → TwoEdgeConnected E y w → Between E u v w → Between E x z y
     btw-all x z y u v w p q r b (U, s, m, n, c) = b (U, sym (same-side E z v q U c) ∙ s, sym (same-side E x u p U c) ∙ m, sym (same-side E y w r U c) ∙ n, c)
 
-    there : (H H′ : List Edge) (ρ ρ′ σ σ′ : ℕ → ℕ) → SmallGraph E S h H ρ σ → SmallGraph E S h H′ ρ′ σ′ → ((i : ℕ) → i < h → TwoEdgeConnected E (ρ i) (ρ′ i)) → (e : Edge) → List·Memᴰ e H → List·Memᴰ e H′
+    there : (H H′ : List Edge) (ρ ρ′ σ σ′ : ℕ → ℕ) → SmallGraph E S h H ρ σ → SmallGraph E S h H′ ρ′ σ′ → ((i : ℕ) → i < h → TwoEdgeConnected E (ρ i) (ρ′ i))
+        → (e : Edge) → List·Memᴰ e H → List·Memᴰ e H′
     there H H′ ρ ρ′ σ σ′ g g′ t e m =
         let (a, b, l) = g .edge (e .0) (e .1) m in
         let a′ : e .0 < h = omega arith in

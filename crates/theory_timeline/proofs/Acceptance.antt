@@ -15,7 +15,8 @@ use Rattle.theory_graph.proofs.Ends.{endsIn-all, endsIn-at}
 use Rattle.theory_graph.specs.Graph.{Edge, NodeSet}
 use Rattle.theory_graph.specs.Lists.{pairs}
 use Rattle.theory_graph.specs.SmallGraph.{endsIn}
-use Rattle.call_sizes.proofs.RefusalLaws.{Numbered, Silent, fault-silent, numbered-append, seek-found, seek-none, short-long, short-numbered, silent-left, silent-right, sizes-numbered, skip-silent}
+use Rattle.call_sizes.proofs.RefusalLaws.{Numbered, Silent, fault-silent, numbered-append, seek-found, seek-none}
+use Rattle.call_sizes.proofs.RefusalLaws.{short-long, short-numbered, silent-left, silent-right, sizes-numbered, skip-silent}
 use Rattle.call_sizes.specs.Refusal.{Refusal, Row, firstFault, badEnds}
 use Rattle.call_sizes.specs.Sizes.{sizeFaults}
 use Rattle.theory_timeline.specs.DemandThree.{Allowed}

@@ -11,5 +11,8 @@ use Rattle.theory_timeline.specs.Program as P
 use Rattle.theory_contraction.specs.Contraction as C
 
 pub cases : AllHold table
-unfolding rep joined removals twoEdge answer without parts kept third linked keptClasses number contract activeOf networkOf W.openBefore W.windowsFrom W.windows W.during W.network W.active W.small W.stands W.kept R.byte R.bytes R.queries R.openAtEnd R.given R.eventFault R.faultAt R.listFaults R.faults R.fault R.done R.refused R.replay P.inputFaults P.inputFault P.inputLent P.spell P.decimal P.queryLine P.queryLines P.totalsLine P.refusedLine P.printed P.outputWith P.output C.edges C.entries C.faults C.fault C.done C.refused C.contraction
+unfolding rep joined removals twoEdge answer without parts kept third linked keptClasses number contract activeOf networkOf W.openBefore W.windowsFrom W.windows
+    W.during W.network W.active W.small W.stands W.kept R.byte R.bytes R.queries R.openAtEnd R.given R.eventFault R.faultAt R.listFaults R.faults R.fault R.done
+    R.refused R.replay P.inputFaults P.inputFault P.inputLent P.spell P.decimal P.queryLine P.queryLines P.totalsLine P.refusedLine P.printed P.outputWith P.output
+    C.edges C.entries C.faults C.fault C.done C.refused C.contraction
 cases = (refl, (refl, (refl, (refl, (refl, (refl, (refl, (refl, (refl, (refl, (refl, (refl, (refl, (refl, (refl, tt)))))))))))))))

@@ -52,7 +52,8 @@ module _ (g : Timeline) (good : Good g) (w : Window) where
             let H = (small g w) .edges ++ image (stands g w) F in
             answer-is E x y
             ∙ answer-unique H (stands g w x) (stands g w y) (answerByCuts E x y) (answerByCuts H (stands g w x) (stands g w y))
-            (answer-transfer (network g w) (active g w) ((small g w) .nodes) ((small g w) .edges) _ (stands g w) (small-carries _ _ _ _ _ _ small-is) F (within-among (active g w) F h) x y (answerByCuts E x y) mx my .0 (answerByCuts-is E x y))
+            (answer-transfer (network g w) (active g w) ((small g w) .nodes) ((small g w) .edges) _ (stands g w) (small-carries _ _ _ _ _ _ small-is) F
+            (within-among (active g w) F h) x y (answerByCuts E x y) mx my .0 (answerByCuts-is E x y))
             (answerByCuts-is H (stands g w x) (stands g w y))
             ∙ sym (answer-is H (stands g w x) (stands g w y));
         nodes = small-bound (network g w) (active g w) ((small g w) .nodes) ((small g w) .edges) _ (stands g w) small-is;
@@ -119,11 +120,13 @@ both l k p q a b =
           let (e, c) = replay-done l p h in
           let (f, d) = replay-done k q j in
           let g = alike-given l k s in (
-            ap (λ (r : Outcome). take (l .t) (r .answers)) e ∙ answers-first l p c ∙ ap bytes g ∙ sym (answers-first k q d) ∙ ap (λ (t : ℕ). take t ((done k q) .answers)) (sym (s .t)) ∙ ap (λ (r : Outcome). take (l .t) (r .answers)) (sym f),
+            ap (λ (r : Outcome). take (l .t) (r .answers)) e ∙ answers-first l p c ∙ ap bytes g ∙ sym (answers-first k q d)
+                ∙ ap (λ (t : ℕ). take t ((done k q) .answers)) (sym (s .t)) ∙ ap (λ (r : Outcome). take (l .t) (r .answers)) (sym f),
             ap (λ (r : Outcome). r .queries) e ∙ ap queries g ∙ ap (λ (r : Outcome). r .queries) (sym f),
             ap (λ (r : Outcome). r .opened) e ∙ ap openAtEnd g ∙ ap (λ (r : Outcome). r .opened) (sym f),
           );
-      tables = λ e. subst (λ (k : Lent). ((replay l p) .code ≡ 0 ↔ (replay k q) .code ≡ 0) × ((replay l p) .code ≡ 0 → ((replay l p) .answers ≡ (replay k q) .answers) × ((replay l p) .work ≡ (replay k q) .work))) e same;
+      tables = λ e. subst (λ (k : Lent). ((replay l p) .code ≡ 0 ↔ (replay k q) .code ≡ 0)
+          × ((replay l p) .code ≡ 0 → ((replay l p) .answers ≡ (replay k q) .answers) × ((replay l p) .work ≡ (replay k q) .work))) e same;
     }
   where
     same : ((replay l p) .code ≡ 0 ↔ (replay l q) .code ≡ 0) × ((replay l p) .code ≡ 0 → ((replay l p) .answers ≡ (replay l q) .answers) × ((replay l p) .work ≡ (replay l q) .work))

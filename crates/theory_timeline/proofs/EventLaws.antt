@@ -34,7 +34,8 @@ after-stays (e ∷ evs) o s h = go (names e s) refl h (after-stays evs (after e 
     go true p h rest = contradict refl h
     go false p h rest = rest h ∙ ap (λ b. cond b (opens e) (o s)) p
 
-pub pick-sum : (U : NodeSet) (t a b : NodeSet) → ((s : ℕ) → ((a s ≡ t s) × (b s ≡ false)) ⊎ ((a s ≡ false) × (b s ≡ t s))) → (i : ℕ) (es : List Edge) → cut U (pick t i es) ≡ cut U (pick a i es) + cut U (pick b i es)
+pub pick-sum : (U : NodeSet) (t a b : NodeSet) → ((s : ℕ) → ((a s ≡ t s) × (b s ≡ false)) ⊎ ((a s ≡ false) × (b s ≡ t s))) → (i : ℕ) (es : List Edge)
+    → cut U (pick t i es) ≡ cut U (pick a i es) + cut U (pick b i es)
 pick-sum U t a b k i [] = refl
 pick-sum U t a b k i (e ∷ es) = go (t i) (a i) (b i) (k i) (pick-sum U t a b k (suc i) es)
   where
@@ -52,7 +53,8 @@ pick-sum U t a b k i (e ∷ es) = go (t i) (a i) (b i) (k i) (pick-sum U t a b k
     go false false true (inr (p, q)) h = contradict refl q
     go false false false m h = h
 
-pub pick-within : (N : NodeSet) (t : NodeSet) (f : ℕ → Edge) (i : ℕ) (es : List Edge) → ((k : ℕ) → getD es k (0, 0) ≡ f (i + k)) → ((s : ℕ) → t s ≡ true → (N (f s .0) ≡ true) × (N (f s .1) ≡ true)) → endsIn N (pick t i es) ≡ true
+pub pick-within : (N : NodeSet) (t : NodeSet) (f : ℕ → Edge) (i : ℕ) (es : List Edge) → ((k : ℕ) → getD es k (0, 0) ≡ f (i + k))
+    → ((s : ℕ) → t s ≡ true → (N (f s .0) ≡ true) × (N (f s .1) ≡ true)) → endsIn N (pick t i es) ≡ true
 pick-within N t f i [] g h = refl
 pick-within N t f i (e ∷ es) g h = go (t i) refl (pick-within N t f (suc i) es (λ k. g (suc k) ∙ ap f (shift k)) h)
   where
@@ -66,7 +68,8 @@ pick-within N t f i (e ∷ es) g h = go (t i) refl (pick-within N t f (suc i) es
     go true p r = let (a, b) = h i p in ap₂ _&&_ (ap (λ (e : Edge). N (e .0)) here ∙ a) (ap₂ _&&_ (ap (λ (e : Edge). N (e .1)) here ∙ b) r)
     go false p r = r
 
-pub active-named : (segs : List Edge) (evs : List Event) (s : ℕ) → named evs s ≡ true → List·Memᴰ (getD segs s (0, 0) .0) (activeOf segs evs) × List·Memᴰ (getD segs s (0, 0) .1) (activeOf segs evs)
+pub active-named : (segs : List Edge) (evs : List Event) (s : ℕ) → named evs s ≡ true → List·Memᴰ (getD segs s (0, 0) .0) (activeOf segs evs)
+    × List·Memᴰ (getD segs s (0, 0) .1) (activeOf segs evs)
 unfolding activeOf
 active-named segs [] s h = contradict h refl
 active-named segs (e ∷ evs) s h =

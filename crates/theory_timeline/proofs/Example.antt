@@ -34,7 +34,8 @@ abbrev both : Demand3 triangle triangle 8 12 (replay triangle 8) (replay triangl
 both = demand-3 triangle triangle 8 12 (omega arith, omega arith) (omega arith, omega arith) (replay triangle 8) (replay triangle 12) refl refl
 
 accepted : (replay triangle 8) .code ≡ 0
-unfolding rep joined removals twoEdge answer without parts kept third linked keptClasses number contract activeOf networkOf W.openBefore W.windowsFrom W.windows W.during W.network W.active W.small W.stands W.kept R.byte R.bytes R.queries R.openAtEnd R.given R.eventFault R.faultAt R.listFaults R.faults R.fault R.done R.refused R.replay
+unfolding rep joined removals twoEdge answer without parts kept third linked keptClasses number contract activeOf networkOf W.openBefore W.windowsFrom W.windows
+    W.during W.network W.active W.small W.stands W.kept R.byte R.bytes R.queries R.openAtEnd R.given R.eventFault R.faultAt R.listFaults R.faults R.fault R.done R.refused R.replay
 accepted = refl
 
 -- events 2 to 4 are a window: with the share 8 the second part of the whole list
@@ -61,17 +62,31 @@ example-shares = let t = both .tables refl in (t .0 .0 accepted, t .1 accepted .
 
 -- ---- the same of two calls: what `replay` replied to the triangle, with both shares
 abbrev eight : Call
-eight = record { share = 8; lends = triangle; reply = Done (record { queries = 2; «open» = 3; kept = 19 }); answers = 3 ∷ 3 ∷ 1 ∷ 3 ∷ 2 ∷ []; work = over (replicate 3424 0) (replicate 4096 7) }
+eight = record {
+  share = 8;
+  lends = triangle;
+  reply = Done (record { queries = 2; «open» = 3; kept = 19 });
+  answers = 3 ∷ 3 ∷ 1 ∷ 3 ∷ 2 ∷ [];
+  work = over (replicate 3424 0) (replicate 4096 7);
+}
 
 abbrev twelve : Call
-twelve = record { share = 12; lends = triangle; reply = Done (record { queries = 2; «open» = 3; kept = 20 }); answers = 3 ∷ 3 ∷ 1 ∷ 3 ∷ 2 ∷ []; work = over (replicate 3424 0) (replicate 4096 7) }
+twelve = record {
+  share = 12;
+  lends = triangle;
+  reply = Done (record { queries = 2; «open» = 3; kept = 20 });
+  answers = 3 ∷ 3 ∷ 1 ∷ 3 ∷ 2 ∷ [];
+  work = over (replicate 3424 0) (replicate 4096 7);
+}
 
 eight-promised : Promised eight
-unfolding rep joined removals twoEdge answer without parts kept third linked keptClasses number contract activeOf networkOf W.openBefore W.windowsFrom W.windows W.during W.network W.active W.small W.stands W.kept R.byte R.bytes R.queries R.openAtEnd R.given R.eventFault R.faultAt R.listFaults R.faults R.fault R.done R.refused R.replay
+unfolding rep joined removals twoEdge answer without parts kept third linked keptClasses number contract activeOf networkOf W.openBefore W.windowsFrom W.windows
+    W.during W.network W.active W.small W.stands W.kept R.byte R.bytes R.queries R.openAtEnd R.given R.eventFault R.faultAt R.listFaults R.faults R.fault R.done R.refused R.replay
 eight-promised = refl
 
 twelve-promised : Promised twelve
-unfolding rep joined removals twoEdge answer without parts kept third linked keptClasses number contract activeOf networkOf W.openBefore W.windowsFrom W.windows W.during W.network W.active W.small W.stands W.kept R.byte R.bytes R.queries R.openAtEnd R.given R.eventFault R.faultAt R.listFaults R.faults R.fault R.done R.refused R.replay
+unfolding rep joined removals twoEdge answer without parts kept third linked keptClasses number contract activeOf networkOf W.openBefore W.windowsFrom W.windows
+    W.during W.network W.active W.small W.stands W.kept R.byte R.bytes R.queries R.openAtEnd R.given R.eventFault R.faultAt R.listFaults R.faults R.fault R.done R.refused R.replay
 twelve-promised = refl
 
 pub example-calls : Demand3 triangle triangle 8 12 (outcomeOf eight) (outcomeOf twelve)

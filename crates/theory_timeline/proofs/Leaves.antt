@@ -34,7 +34,8 @@ unfolding networkOf activeOf
 query-read segs q o n h H ρ σ g =
     let e : ends segs q ≡ q = ap (λ c. cond c (getD segs (q .1) (0, 0)) q) n in
     ap (λ E. answerByCuts E (q .0) (q .1)) (pick-ext o (λ s. o s && not (named (q ∷ []) s)) same 0 segs)
-    ∙ answer-read (networkOf segs (q ∷ []) o) (activeOf segs (q ∷ [])) h H ρ σ g (q .0) (q .1) (List·Memᴰ·head (ap (λ (e : Edge). e .0) (sym e))) (List·Memᴰ·tail (List·Memᴰ·head (ap (λ (e : Edge). e .1) (sym e))))
+    ∙ answer-read (networkOf segs (q ∷ []) o) (activeOf segs (q ∷ [])) h H ρ σ g (q .0) (q .1) (List·Memᴰ·head (ap (λ (e : Edge). e .0) (sym e)))
+    (List·Memᴰ·tail (List·Memᴰ·head (ap (λ (e : Edge). e .1) (sym e))))
   where
     same : (s : ℕ) → o s ≡ (o s && not (((opens q || closes q) && eqb s (q .1)) || false))
     same s = go (o s) (eqb s (q .1))
@@ -98,7 +99,8 @@ demand-2 l p r e h =
           ∙ at i u
           ∙ onBool (asks (event (given l) i))
           (λ q. ap (λ (b : ℕ). cond (asks (event (given l) i)) b 3) (leaf (given l) good i u q))
-          (λ q. ap (λ (b : Bool). cond b (answer (edgesOf (given l) (openBefore (given l) i)) (event (given l) i .0) (event (given l) i .1)) 3) q ∙ sym (ap (λ (b : Bool). cond b (readOff ((small (given l) (i, 1)) .nodes) ((small (given l) (i, 1)) .edges)) 3) q));
+          (λ q. ap (λ (b : Bool). cond b (answer (edgesOf (given l) (openBefore (given l) i)) (event (given l) i .0) (event (given l) i .1)) 3) q
+          ∙ sym (ap (λ (b : Bool). cond b (readOff ((small (given l) (i, 1)) .nodes) ((small (given l) (i, 1)) .edges)) 3) q));
     }
   where
     at : (i : ℕ) → i < size (given l) → getD (bytes (given l)) i 0 ≡ byte (given l) i

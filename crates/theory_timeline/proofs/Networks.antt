@@ -65,7 +65,8 @@ module _ (segs : List Edge) (pre mid post : List Event) (o : SegmentSet) where
   pub addedOf-within : endsIn (member (activeOf segs whole)) addedOf ≡ true
   unfolding addedOf
   addedOf-within =
-      pick-within (member (activeOf segs whole)) (λ s. afterAll pre o s && (named whole s && not (named mid s))) (λ k. getD segs k (0, 0)) 0 segs (λ k. ap (λ n. getD segs n (0, 0)) (plus k)) λ s t.
+      pick-within (member (activeOf segs whole)) (λ s. afterAll pre o s && (named whole s && not (named mid s))) (λ k. getD segs k (0, 0)) 0 segs
+      (λ k. ap (λ n. getD segs n (0, 0)) (plus k)) λ s t.
       and-elim (afterAll pre o s) (named whole s && not (named mid s)) t λ a b. and-elim (named whole s) (not (named mid s)) b λ w u.
       let (p, q) = active-named segs whole s w in (mem-member _ (activeOf segs whole) p, mem-member _ (activeOf segs whole) q)
     where
@@ -138,7 +139,8 @@ module _ (g : Timeline) (w c : Window) (h : Part w c) where
   pub network-part : (U : NodeSet) → cut U (network g w ++ added g w c) ≡ cut U (network g c)
   unfolding network added addedOf
   network-part U =
-      subst₂ (λ (l : List Event) (o : SegmentSet). cut U (networkOf (g .segments) l (openBefore g (w .0)) ++ pick (λ s. o s && (named l s && not (named (during g c) s))) 0 (g .segments)) ≡ cut U (networkOf (g .segments) (during g c) o))
+      subst₂ (λ (l : List Event) (o : SegmentSet). cut U
+      (networkOf (g .segments) l (openBefore g (w .0)) ++ pick (λ s. o s && (named l s && not (named (during g c) s))) 0 (g .segments)) ≡ cut U (networkOf (g .segments) (during g c) o))
       split opened (networkOf-part (g .segments) pre (during g c) post (openBefore g (w .0)) U)
 
   pub added-active : endsIn (member (active g w)) (added g w c) ≡ true

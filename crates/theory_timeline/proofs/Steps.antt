@@ -56,8 +56,13 @@ step g w c h (n, H, σ, m) =
     let wH : endsIn (λ v. ltb v n) (H ++ image σ (added g w c)) ≡ true =
     endsIn-append (λ v. ltb v n) H (image σ (added g w c))
     (endsIn-mem (λ v. ltb v n) H (λ i j k. let (a, b, _) = s .edge i j k in (lt-ltb i n (omega arith), lt-ltb j n b)))
-    (endsIn-image (member (active g w)) (λ v. ltb v n) σ (added g w c) (added-active g w c h) (λ v k. lt-ltb (σ v) n (low v (member-mem (active g w) v k)))) in
-    (_, _, _, down m h _ (small-definition _ _ _ _ _ _ (contract-small n (H ++ image σ (added g w c)) (map σ (active g c)) wH (map-low σ n (active g c) (λ a k. low a (active-part g w c h a k))))))
+    (endsIn-image (member (active g w)) (λ v. ltb v n) σ (added g w c) (added-active g w c h) (λ v k. lt-ltb (σ v) n (low v (member-mem (active g w) v k)))) in (
+      _,
+      _,
+      _,
+      down m h _ (small-definition _ _ _ _ _ _
+          (contract-small n (H ++ image σ (added g w c)) (map σ (active g c)) wH (map-low σ n (active g c) (λ a k. low a (active-part g w c h a k))))),
+    )
 
 pub made : (g : Timeline) → Good g → (p : ℕ) → Allowed p → {at n : ℕ} → Win p (size g) at n → Some g (at, n)
 made g good p a (whole h) = (_, _, _, top _ (small-definition _ _ _ _ _ _ (contract-small (g .junctions) [] (active g (0, size g)) refl (good .active (0, size g)))))

@@ -293,7 +293,8 @@ module _ (g : Timeline) (w c : Window) (h : Part w c) (fit : w .0 + w .1 ≤ siz
   -- the edge of an event that opens or closes
   edge-is : (U : NodeSet) (i : ℕ) → asks (event g i) ≡ false
       → crosses (U (endsAt g i .0)) (U (endsAt g i .1)) ≡ crosses (U (getD segs (key g i) (0, 0) .0)) (U (getD segs (key g i) (0, 0) .1))
-  edge-is U i q = ap (λ (e : Edge). crosses (U (e .0)) (U (e .1))) (ap (λ (b : Bool). cond b (getD segs (key g i) (0, 0)) (event g i)) (not-false (opens (event g i) || closes (event g i)) q))
+  edge-is U i q = ap (λ (e : Edge). crosses (U (e .0)) (U (e .1)))
+      (ap (λ (b : Bool). cond b (getD segs (key g i) (0, 0)) (event g i)) (not-false (opens (event g i) || closes (event g i)) q))
 
   -- one event: the set with it and the set without it differ at most in its key
   module _ (U : NodeSet) (i : ℕ) (li : i < size g) (t s : SegmentSet) where
@@ -428,7 +429,8 @@ module _ (g : Timeline) (w c : Window) (h : Part w c) (fit : w .0 + w .1 ≤ siz
       let ih = back-cut U k (omega arith) in
       let i : ℕ = c .0 + c .1 + k in
       let same : (r : ℕ) → namesKey g r i ≡ false → behind (suc k) r ≡ behind k r = λ r n.
-      ap (λ (x : Bool). O r && (x && not (namesIn g (w .0) (c .0 + c .1 - w .0) r))) (named-snoc g (c .0 + c .1) k r ∙ ap (λ (x : Bool). namesIn g (c .0 + c .1) k r || x) n ∙ or-false (namesIn g (c .0 + c .1) k r)) in
+      ap (λ (x : Bool). O r && (x && not (namesIn g (w .0) (c .0 + c .1 - w .0) r)))
+      (named-snoc g (c .0 + c .1) k r ∙ ap (λ (x : Bool). namesIn g (c .0 + c .1) k r || x) n ∙ or-false (namesIn g (c .0 + c .1) k r)) in
       let one = one-event U i (omega arith) (behind (suc k)) (behind k) (λ q r. same r (names-none g i r q)) (λ r n. same r (names-other g i r n)) (back-own k (omega arith)) in
       omega (arith, pick-snoc U f (endsAt g) (c .0 + c .1) k)
 
@@ -475,7 +477,8 @@ pick-shift f f′ E E′ at i zero h = refl
 pick-shift f f′ E E′ at i (suc n) h =
     let (a, b) = h i (omega arith) (omega arith) in
     let z : at + suc i ≡ suc (at + i) = omega arith in
-    let r : pickEvents f E (suc i) n ≡ pickEvents f′ E′ (suc (at + i)) n = pick-shift f f′ E E′ at (suc i) n (λ j p q. h j (omega arith) (omega arith)) ∙ ap (λ (k : ℕ). pickEvents f′ E′ k n) z in
+    let r : pickEvents f E (suc i) n ≡ pickEvents f′ E′ (suc (at + i)) n = pick-shift f f′ E E′ at (suc i) n (λ j p q. h j (omega arith) (omega arith))
+    ∙ ap (λ (k : ℕ). pickEvents f′ E′ k n) z in
     ap₂ (λ (t : Bool) (l : List Edge). cond t (E i ∷ l) l) a r ∙ ap (λ (e : Edge). cond (f′ (at + i)) (e ∷ pickEvents f′ E′ (suc (at + i)) n) (pickEvents f′ E′ (suc (at + i)) n)) b
 
 pub pick-ext-events : (f f′ : ℕ → Bool) (E E′ : ℕ → Edge) (i n : ℕ) → ((j : ℕ) → i ≤ j → j < i + n → (f j ≡ f′ j) × (E j ≡ E′ j)) → pickEvents f E i n ≡ pickEvents f′ E′ i n

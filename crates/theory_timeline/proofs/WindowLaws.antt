@@ -41,11 +41,13 @@ module _ (p : ℕ) (a : Allowed p) where
   -- the list of windows from one down: itself, and, if it is cut, those of its parts
   pub small-one : (k at n : ℕ) → n < 2 → windowsFrom p (suc k) at n ≡ (at, n) ∷ []
   unfolding windowsFrom
-  small-one k at n h = ap (λ (b : Bool). elim b as (λ x. List Window) [ true ↦ (at, n) ∷ [] | false ↦ (at, n) ∷ windowsFrom p k at (firstPart p n) ++ windowsFrom p k (at + firstPart p n) (n - firstPart p n) ]) (lt-ltb n 2 h)
+  small-one k at n h = ap (λ (b : Bool). elim b as (λ x. List Window)
+      [ true ↦ (at, n) ∷ [] | false ↦ (at, n) ∷ windowsFrom p k at (firstPart p n) ++ windowsFrom p k (at + firstPart p n) (n - firstPart p n) ]) (lt-ltb n 2 h)
 
   pub large-one : (k at n : ℕ) → 2 ≤ n → windowsFrom p (suc k) at n ≡ (at, n) ∷ windowsFrom p k at (firstPart p n) ++ windowsFrom p k (at + firstPart p n) (n - firstPart p n)
   unfolding windowsFrom
-  large-one k at n h = ap (λ (b : Bool). elim b as (λ x. List Window) [ true ↦ (at, n) ∷ [] | false ↦ (at, n) ∷ windowsFrom p k at (firstPart p n) ++ windowsFrom p k (at + firstPart p n) (n - firstPart p n) ]) (le-ltb n 2 h)
+  large-one k at n h = ap (λ (b : Bool). elim b as (λ x. List Window)
+      [ true ↦ (at, n) ∷ [] | false ↦ (at, n) ∷ windowsFrom p k at (firstPart p n) ++ windowsFrom p k (at + firstPart p n) (n - firstPart p n) ]) (le-ltb n 2 h)
 
   -- 2n - 1 windows from a window of n events down
   count-from : (k at n : ℕ) → 1 ≤ n → n ≤ k → length (windowsFrom p k at n) + 1 ≡ 2 * n
@@ -97,7 +99,8 @@ module _ (p : ℕ) (a : Allowed p) where
       one : List·Memᴰ w ((at, n) ∷ []) → Win p t (w .0) (w .1)
       one (List·Memᴰ·head e) = same e
 
-      more : 2 ≤ n → (List·Memᴰ w (windowsFrom p k at (firstPart p n)) → Win p t (w .0) (w .1)) → (List·Memᴰ w (windowsFrom p k (at + firstPart p n) (n - firstPart p n)) → Win p t (w .0) (w .1))
+      more : 2 ≤ n → (List·Memᴰ w (windowsFrom p k at (firstPart p n)) → Win p t (w .0) (w .1))
+          → (List·Memᴰ w (windowsFrom p k (at + firstPart p n) (n - firstPart p n)) → Win p t (w .0) (w .1))
           → List·Memᴰ w ((at, n) ∷ windowsFrom p k at (firstPart p n) ++ windowsFrom p k (at + firstPart p n) (n - firstPart p n)) → Win p t (w .0) (w .1)
       more l f g (List·Memᴰ·head e) = same e
       more l f g (List·Memᴰ·tail m) = go (List·Memᴰ·append-cases (windowsFrom p k at (firstPart p n)) m)

@@ -45,25 +45,37 @@ slice-aggregate-replay-list-2 : tie.Need-slice-aggregate-replay-list-2
 slice-aggregate-replay-list-2 c = let g = grants (c .before .before .before .before .before .check .ensures) (zero (c .before .before .before)) in sym (length-take-le _ _ (g .b-long))
 
 slice-aggregate-replay-list-3 : tie.Need-slice-aggregate-replay-list-3
-slice-aggregate-replay-list-3 c = let g = grants (c .before .before .before .before .before .before .check .ensures) (zero (c .before .before .before .before)) in sym (length-take-le _ _ (g .x-long))
+slice-aggregate-replay-list-3 c = let g = grants (c .before .before .before .before .before .before .check .ensures)
+    (zero (c .before .before .before .before)) in sym (length-take-le _ _ (g .x-long))
 
 slice-aggregate-replay-list-4 : tie.Need-slice-aggregate-replay-list-4
-slice-aggregate-replay-list-4 c = let g = grants (c .before .before .before .before .before .before .before .check .ensures) (zero (c .before .before .before .before .before)) in sym (length-take-le _ _ (g .y-long))
+slice-aggregate-replay-list-4 c = let g = grants (c .before .before .before .before .before .before .before .check .ensures)
+    (zero (c .before .before .before .before .before)) in sym (length-take-le _ _ (g .y-long))
 
 slice-relend-prefix-replay-list : tie.Need-slice-relend-prefix-replay-list
-slice-relend-prefix-replay-list c = work-need (c .before .before .before .before .before .before .before .before .check .ensures) (zero (c .before .before .before .before .before .before)) _ (c .before .before .before .before .before .required .ensures)
+slice-relend-prefix-replay-list c = work-need (c .before .before .before .before .before .before .before .before .check .ensures)
+    (zero (c .before .before .before .before .before .before)) _ (c .before .before .before .before .before .required .ensures)
 
 slice-aggregate-replay-list-5 : tie.Need-slice-aggregate-replay-list-5
-slice-aggregate-replay-list-5 c = sym (length-take-le _ _ (work-need (c .before .before .before .before .before .before .before .before .before .check .ensures) (zero (c .before .before .before .before .before .before .before)) _ (c .before .before .before .before .before .before .required .ensures)))
+slice-aggregate-replay-list-5 c = sym (length-take-le _ _
+    (work-need (c .before .before .before .before .before .before .before .before .before .check .ensures)
+    (zero (c .before .before .before .before .before .before .before)) _ (c .before .before .before .before .before .before .required .ensures)))
 
 replay-list-requires : tie.Need-replay-list-requires
-replay-list-requires c κs = list-ready (c .before .before .before .before .before .before .before .before .before .check .ensures) (zero (c .before .before .before .before .before .before .before)) _ (c .before .before .before .before .before .before .required .ensures)
+replay-list-requires c κs = list-ready (c .before .before .before .before .before .before .before .before .before .check .ensures)
+    (zero (c .before .before .before .before .before .before .before)) _ (c .before .before .before .before .before .before .required .ensures)
 
 count-queries-requires : tie.Need-count-queries-requires
-count-queries-requires c κs = count-need (c .before .before .before .before .before .before .before .before .before .before .before .before .before .before .before .check .ensures) (zero (c .before .before .before .before .before .before .before .before .before .before .before .before .before)) _ (c .before .before .before .before .before .before .before .before .before .before .before .before .required .ensures) (c .before .before .before .before .before .replay-list .ensures)
+count-queries-requires c κs = count-need
+    (c .before .before .before .before .before .before .before .before .before .before .before .before .before .before .before .check .ensures)
+    (zero (c .before .before .before .before .before .before .before .before .before .before .before .before .before)) _
+    (c .before .before .before .before .before .before .before .before .before .before .before .before .required .ensures) (c .before .before .before .before .before .replay-list .ensures)
 
 clear-requires : tie.Need-clear-requires
-clear-requires c κs = let h = work-need (c .before .before .before .before .before .before .before .before .before .before .before .before .before .before .before .before .before .check .ensures) (zero (c .before .before .before .before .before .before .before .before .before .before .before .before .before .before .before)) _ (c .before .before .before .before .before .before .before .before .before .before .before .before .before .before .required .ensures) in omega arith
+clear-requires c κs = let h = work-need
+    (c .before .before .before .before .before .before .before .before .before .before .before .before .before .before .before .before .before .check .ensures)
+    (zero (c .before .before .before .before .before .before .before .before .before .before .before .before .before .before .before)) _
+    (c .before .before .before .before .before .before .before .before .before .before .before .before .before .before .required .ensures) in omega arith
 
 returns-2 : tie.Need-returns-2
 returns-2 c =

@@ -9,10 +9,16 @@ returns : tie.Need-returns
 returns c = set-asked (c .before .before .before .pre) (sym (c .before .before .kind-of .ensures) ∙ c .enum-told .given .1)
 
 returns-2 : tie.Need-returns-2
-returns-2 c = set-opened (c .before .before .before .before .pre) (sym (c .before .before .before .kind-of .ensures) ∙ c .before .enum-told2 .given .1) (c .opened .result) (c .opened .ensures)
+returns-2 c =
+    let at-kind-of = c .before .before .before in
+    let start = at-kind-of .before in
+    set-opened (start .pre) (sym (at-kind-of .kind-of .ensures) ∙ c .before .enum-told2 .given .1) (c .opened .result) (c .opened .ensures)
 
 returns-3 : tie.Need-returns-3
-returns-3 c = set-closed (c .before .before .before .before .pre) (sym (c .before .before .before .kind-of .ensures) ∙ c .before .enum-told3 .given .1) (c .closed .result) (c .closed .ensures)
+returns-3 c =
+    let at-kind-of = c .before .before .before in
+    let start = at-kind-of .before in
+    set-closed (start .pre) (sym (at-kind-of .kind-of .ensures) ∙ c .before .enum-told3 .given .1) (c .closed .result) (c .closed .ensures)
 
 returns-4 : tie.Need-returns-4
 returns-4 c = set-nothing (c .before .before .before .pre) (sym (c .before .before .kind-of .ensures) ∙ c .enum-told4 .given .1)

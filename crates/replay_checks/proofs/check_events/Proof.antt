@@ -21,21 +21,35 @@ cast-s : tie.Need-cast-s Inv-loop μ-loop
 cast-s c = omega (arith, c .shared-slice-known4 .given (c .before .before .before .loop .i))
 
 event-fault-requires : tie.Need-event-fault-requires Inv-loop μ-loop
-event-fault-requires c κs = c .before .before .before .before .loop .inv .words
+event-fault-requires c κs =
+    let at-loop = c .before .before .before .before in
+    at-loop .loop .inv .words
 
 returns : tie.Need-returns Inv-loop μ-loop
-returns c = event-refused (c .before .before .before .before .before .before .loop .inv) (omega arith) (c .before .before .before .before .before .before .before .before .before .pre) (c .before .event-fault .result) (c .before .event-fault .ensures) (omega arith)
+returns c =
+    let at-loop = c .before .before .before .before .before .before in
+    let start = at-loop .before .before .before in
+    event-refused (at-loop .loop .inv) (omega arith) (start .pre) (c .before .event-fault .result) (c .before .event-fault .ensures) (omega arith)
 
 after-event-requires : tie.Need-after-event-requires Inv-loop μ-loop
-after-event-requires c κs = event-fits (c .before .before .before .before .before .before .loop .inv) (omega arith) (c .before .before .before .before .before .before .before .before .before .pre) (c .before .event-fault .result) (c .before .event-fault .ensures) (omega arith)
+after-event-requires c κs =
+    let at-loop = c .before .before .before .before .before .before in
+    let start = at-loop .before .before .before in
+    event-fits (at-loop .loop .inv) (omega arith) (start .pre) (c .before .event-fault .result) (c .before .event-fault .ensures) (omega arith)
 
 loop-again : tie.Need-loop-again Inv-loop μ-loop
 loop-again c =
+    let at-event-fault = c .before .before in
+    let at-loop = at-event-fault .before .before .before .before .before in
+    let start = at-loop .before .before .before in
     let e = c .after-event .ensures in
-    event-passes (c .before .before .before .before .before .before .before .loop .inv) (omega arith) (c .before .before .before .before .before .before .before .before .before .before .pre) (c .before .before .event-fault .result) (c .before .before .event-fault .ensures) (omega arith) _ (e .0) (e .1)
+    event-passes (at-loop .loop .inv) (omega arith) (start .pre) (at-event-fault .event-fault .result) (at-event-fault .event-fault .ensures) (omega arith) _
+    (e .0) (e .1)
 
 returns-2 : tie.Need-returns-2 Inv-loop μ-loop
-returns-2 c = events-pass (c .before .loop .inv) (omega (arith, c .before .loop .inv .low)) (c .before .before .before .before .pre .0) (c .before .before .before .before .pre .1)
+returns-2 c =
+    let start = c .before .before .before .before in
+    events-pass (c .before .loop .inv) (omega (arith, c .before .loop .inv .low)) (start .pre .0) (start .pre .1)
 
 pub check-events-spec : {M : Type 1} → statement M
 check-events-spec =

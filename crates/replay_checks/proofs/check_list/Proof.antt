@@ -6,17 +6,26 @@ use Rattle.replay_checks.proofs.check_list.Statement.{statement}
 use Rattle.replay_checks.proofs.check_list.Tie as tie
 
 returns : tie.Need-returns
-returns c = share-low (c .before .before .before .before .before .pre) _ (omega arith)
+returns c =
+    let start = c .before .before .before .before .before in
+    share-low (start .pre) _ (omega arith)
 
 returns-2 : tie.Need-returns-2
-returns-2 c = share-high (c .before .before .before .before .before .before .pre) _ (omega arith) (omega arith)
+returns-2 c =
+    let start = c .before .before .before .before .before .before in
+    share-high (start .pre) _ (omega arith) (omega arith)
 
 returns-3 : tie.Need-returns-3
-returns-3 c = ends-refused (c .before .before .before .before .before .before .before .before .pre) _ (omega arith) (omega arith) _ (c .before .first-bad-ends .ensures) (omega arith)
+returns-3 c =
+    let start = c .before .before .before .before .before .before .before .before in
+    ends-refused (start .pre) _ (omega arith) (omega arith) _ (c .before .first-bad-ends .ensures) (omega arith)
 
 returns-4 : tie.Need-returns-4
 returns-4 c =
-    let k = list-passed (c .before .before .before .before .before .before .before .before .before .before .before .pre) (c .before .before .before .before .before .before .before .before .before .before .before .args .p) (omega arith) (omega arith) _ (c .before .before .before .before .first-bad-ends .ensures) (omega arith) (c .before .before .check-events .ensures) in
+    let at-check-events = c .before .before in
+    let at-first-bad-ends = at-check-events .before .before in
+    let start = at-first-bad-ends .before .before .before .before .before .before .before in
+    let k = list-passed (start .pre) (start .args .p) (omega arith) (omega arith) _ (at-first-bad-ends .first-bad-ends .ensures) (omega arith) (at-check-events .check-events .ensures) in
     rw (c .count .ensures) k
 
 pub check-list-spec : {M : Type 1} → statement M

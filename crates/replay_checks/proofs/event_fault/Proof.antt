@@ -13,46 +13,98 @@ enum-told : tie.Need-enum-told
 enum-told c = search needs
 
 returns : tie.Need-returns
-returns c = query-fine (c .before .before .before .before .args .n) (c .before .before .before .before .args .m) (isOpen (c .before .before .before .before .args .held .now)) (c .before .before .before .before .args .x) (c .before .before .before .before .args .y) (sym (c .before .before .before .kind-of .ensures) ∙ c .before .enum-told .given .1) (c .if1 .taken)
+returns c =
+    let at-kind-of = c .before .before .before in
+    let start = at-kind-of .before in
+    let a = start .args in
+    query-fine (a .n) (a .m) (isOpen (a .held .now)) (a .x) (a .y) (sym (at-kind-of .kind-of .ensures) ∙ c .before .enum-told .given .1) (c .if1 .taken)
 
 returns-2 : tie.Need-returns-2
-returns-2 c = query-bad (c .before .before .before .before .args .n) (c .before .before .before .before .args .m) (isOpen (c .before .before .before .before .args .held .now)) (c .before .before .before .before .args .x) (c .before .before .before .before .args .y) (sym (c .before .before .before .kind-of .ensures) ∙ c .before .enum-told .given .1) (c .if1 .left)
+returns-2 c =
+    let at-kind-of = c .before .before .before in
+    let start = at-kind-of .before in
+    let a = start .args in
+    query-bad (a .n) (a .m) (isOpen (a .held .now)) (a .x) (a .y) (sym (at-kind-of .kind-of .ensures) ∙ c .before .enum-told .given .1) (c .if1 .left)
 
 enum-told-2 : tie.Need-enum-told-2
 enum-told-2 c = search needs
 
 returns-3 : tie.Need-returns-3
-returns-3 c = opens-bad (c .before .before .before .before .args .n) (c .before .before .before .before .args .m) (isOpen (c .before .before .before .before .args .held .now)) (c .before .before .before .before .args .x) (c .before .before .before .before .args .y) (sym (c .before .before .before .kind-of .ensures) ∙ c .before .enum-told2 .given .1) (c .if2 .taken)
+returns-3 c =
+    let at-kind-of = c .before .before .before in
+    let start = at-kind-of .before in
+    let a = start .args in
+    opens-bad (a .n) (a .m) (isOpen (a .held .now)) (a .x) (a .y) (sym (at-kind-of .kind-of .ensures) ∙ c .before .enum-told2 .given .1) (c .if2 .taken)
 
 contains-requires : tie.Need-contains-requires
-contains-requires c κs = c .before .before .before .before .pre
+contains-requires c κs =
+    let start = c .before .before .before .before in
+    start .pre
 
 returns-4 : tie.Need-returns-4
-returns-4 c = opens-open (c .before .before .before .before .before .before .args .n) (c .before .before .before .before .before .before .args .m) (isOpen (c .before .before .before .before .before .before .args .held .now)) (c .before .before .before .before .before .before .args .x) (c .before .before .before .before .before .before .args .y) (sym (c .before .before .before .before .before .kind-of .ensures) ∙ c .before .before .before .enum-told2 .given .1) (c .before .before .if2 .left) (sym (c .before .contains .ensures) ∙ c .if3 .taken)
+returns-4 c =
+    let at-if2 = c .before .before in
+    let at-enum-told2 = at-if2 .before in
+    let at-kind-of = at-enum-told2 .before .before in
+    let start = at-kind-of .before in
+    let a = start .args in
+    opens-open (a .n) (a .m) (isOpen (a .held .now)) (a .x) (a .y) (sym (at-kind-of .kind-of .ensures) ∙ at-enum-told2 .enum-told2 .given .1)
+    (at-if2 .if2 .left) (sym (c .before .contains .ensures) ∙ c .if3 .taken)
 
 returns-5 : tie.Need-returns-5
-returns-5 c = opens-fine (c .before .before .before .before .before .before .args .n) (c .before .before .before .before .before .before .args .m) (isOpen (c .before .before .before .before .before .before .args .held .now)) (c .before .before .before .before .before .before .args .x) (c .before .before .before .before .before .before .args .y) (sym (c .before .before .before .before .before .kind-of .ensures) ∙ c .before .before .before .enum-told2 .given .1) (c .before .before .if2 .left) (sym (c .before .contains .ensures) ∙ c .if3 .left)
+returns-5 c =
+    let at-if2 = c .before .before in
+    let at-enum-told2 = at-if2 .before in
+    let at-kind-of = at-enum-told2 .before .before in
+    let start = at-kind-of .before in
+    let a = start .args in
+    opens-fine (a .n) (a .m) (isOpen (a .held .now)) (a .x) (a .y) (sym (at-kind-of .kind-of .ensures) ∙ at-enum-told2 .enum-told2 .given .1)
+    (at-if2 .if2 .left) (sym (c .before .contains .ensures) ∙ c .if3 .left)
 
 enum-told-3 : tie.Need-enum-told-3
 enum-told-3 c = search needs
 
 returns-6 : tie.Need-returns-6
-returns-6 c = closes-bad (c .before .before .before .before .args .n) (c .before .before .before .before .args .m) (isOpen (c .before .before .before .before .args .held .now)) (c .before .before .before .before .args .x) (c .before .before .before .before .args .y) (sym (c .before .before .before .kind-of .ensures) ∙ c .before .enum-told3 .given .1) (c .if4 .taken)
+returns-6 c =
+    let at-kind-of = c .before .before .before in
+    let start = at-kind-of .before in
+    let a = start .args in
+    closes-bad (a .n) (a .m) (isOpen (a .held .now)) (a .x) (a .y) (sym (at-kind-of .kind-of .ensures) ∙ c .before .enum-told3 .given .1) (c .if4 .taken)
 
 contains-requires-2 : tie.Need-contains-requires-2
-contains-requires-2 c κs = c .before .before .before .before .pre
+contains-requires-2 c κs =
+    let start = c .before .before .before .before in
+    start .pre
 
 returns-7 : tie.Need-returns-7
-returns-7 c = closes-fine (c .before .before .before .before .before .before .args .n) (c .before .before .before .before .before .before .args .m) (isOpen (c .before .before .before .before .before .before .args .held .now)) (c .before .before .before .before .before .before .args .x) (c .before .before .before .before .before .before .args .y) (sym (c .before .before .before .before .before .kind-of .ensures) ∙ c .before .before .before .enum-told3 .given .1) (c .before .before .if4 .left) (sym (c .before .contains2 .ensures) ∙ c .if5 .taken)
+returns-7 c =
+    let at-if4 = c .before .before in
+    let at-enum-told3 = at-if4 .before in
+    let at-kind-of = at-enum-told3 .before .before in
+    let start = at-kind-of .before in
+    let a = start .args in
+    closes-fine (a .n) (a .m) (isOpen (a .held .now)) (a .x) (a .y) (sym (at-kind-of .kind-of .ensures) ∙ at-enum-told3 .enum-told3 .given .1)
+    (at-if4 .if4 .left) (sym (c .before .contains2 .ensures) ∙ c .if5 .taken)
 
 returns-8 : tie.Need-returns-8
-returns-8 c = closes-closed (c .before .before .before .before .before .before .args .n) (c .before .before .before .before .before .before .args .m) (isOpen (c .before .before .before .before .before .before .args .held .now)) (c .before .before .before .before .before .before .args .x) (c .before .before .before .before .before .before .args .y) (sym (c .before .before .before .before .before .kind-of .ensures) ∙ c .before .before .before .enum-told3 .given .1) (c .before .before .if4 .left) (sym (c .before .contains2 .ensures) ∙ c .if5 .left)
+returns-8 c =
+    let at-if4 = c .before .before in
+    let at-enum-told3 = at-if4 .before in
+    let at-kind-of = at-enum-told3 .before .before in
+    let start = at-kind-of .before in
+    let a = start .args in
+    closes-closed (a .n) (a .m) (isOpen (a .held .now)) (a .x) (a .y) (sym (at-kind-of .kind-of .ensures) ∙ at-enum-told3 .enum-told3 .given .1)
+    (at-if4 .if4 .left) (sym (c .before .contains2 .ensures) ∙ c .if5 .left)
 
 enum-told-4 : tie.Need-enum-told-4
 enum-told-4 c = search needs
 
 returns-9 : tie.Need-returns-9
-returns-9 c = nothing-bad (c .before .before .before .args .n) (c .before .before .before .args .m) (isOpen (c .before .before .before .args .held .now)) (c .before .before .before .args .x) (c .before .before .before .args .y) (sym (c .before .before .kind-of .ensures) ∙ c .enum-told4 .given .1)
+returns-9 c =
+    let at-kind-of = c .before .before in
+    let start = at-kind-of .before in
+    let a = start .args in
+    nothing-bad (a .n) (a .m) (isOpen (a .held .now)) (a .x) (a .y) (sym (at-kind-of .kind-of .ensures) ∙ c .enum-told4 .given .1)
 
 pub event-fault-spec : {M : Type 1} → statement M
 event-fault-spec =

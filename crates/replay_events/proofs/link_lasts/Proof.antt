@@ -20,10 +20,17 @@ add-v : tie.Need-add-v Inv-loop μ-loop
 add-v c = let l = c .before .loop in omega (arith, l .inv .0, l .inv .1 .most, c .before .before .before .pre .much)
 
 link-event-requires : tie.Need-link-event-requires Inv-loop μ-loop
-link-event-requires c κs = lasts-need (c .before .before .before .before .before .pre) (c .before .before .before .loop .inv .1) (omega arith)
+link-event-requires c κs =
+    let at-loop = c .before .before .before in
+    let start = at-loop .before .before in
+    lasts-need (start .pre) (at-loop .loop .inv .1) (omega arith)
 
 loop-again : tie.Need-loop-again Inv-loop μ-loop
-loop-again c = (omega (arith, c .before .before .before .before .before .before .loop .inv .0), lasts-more (c .before .before .before .before .before .before .before .before .pre) (c .before .before .before .before .before .before .loop .inv .1) (omega arith) _ (omega (arith, c .before .before .before .before .before .before .loop .inv .0)) (c .before .before .link-event .ensures))
+loop-again c =
+    let at-link-event = c .before .before in
+    let at-loop = at-link-event .before .before .before .before in
+    let start = at-loop .before .before in
+    (omega (arith, at-loop .loop .inv .0), lasts-more (start .pre) (at-loop .loop .inv .1) (omega arith) _ (omega (arith, at-loop .loop .inv .0)) (at-link-event .link-event .ensures))
 
 same-length : tie.Need-same-length Inv-loop μ-loop
 same-length c = c .before .loop .inv .1 .written .long

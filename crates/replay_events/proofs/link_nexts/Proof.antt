@@ -22,10 +22,20 @@ sub-v : tie.Need-sub-v Inv-loop μ-loop
 sub-v c = let l = c .before .loop in omega (arith, l .inv .0)
 
 link-event-requires : tie.Need-link-event-requires Inv-loop μ-loop
-link-event-requires c κs = nexts-need (c .before .before .before .before .before .pre) (nexts-at (c .before .before .before .loop .inv .1) (omega arith))
+link-event-requires c κs =
+    let at-loop = c .before .before .before in
+    let start = at-loop .before .before in
+    nexts-need (start .pre) (nexts-at (at-loop .loop .inv .1) (omega arith))
 
 loop-again : tie.Need-loop-again Inv-loop μ-loop
-loop-again c = (omega (arith, c .before .before .before .before .before .before .loop .inv .0), nexts-more (c .before .before .before .before .before .before .before .before .pre) (nexts-at (c .before .before .before .before .before .before .loop .inv .1) (omega arith)) _ (omega (arith, c .before .before .before .before .before .before .loop .inv .0)) (c .before .before .link-event .ensures))
+loop-again c =
+    let at-link-event = c .before .before in
+    let at-loop = at-link-event .before .before .before .before in
+    let start = at-loop .before .before in (
+      omega (arith, at-loop .loop .inv .0),
+      nexts-more (start .pre) (nexts-at (at-loop .loop .inv .1) (omega arith)) _ (omega (arith, at-loop .loop .inv .0))
+          (at-link-event .link-event .ensures),
+    )
 
 same-length : tie.Need-same-length Inv-loop μ-loop
 same-length c = c .before .loop .inv .1 .written .long

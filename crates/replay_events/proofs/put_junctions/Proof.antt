@@ -17,16 +17,24 @@ loop-holds : tie.Need-loop-holds Inv-loop μ-loop
 loop-holds c = placed-none _ _ _ _ _ _
 
 shared-slice-read-other : tie.Need-shared-slice-read-other Inv-loop μ-loop
-shared-slice-read-other c = omega (arith, c .before .before .before .before .before .before .before .before .before .pre .events)
+shared-slice-read-other c =
+    let start = c .before .before .before .before .before .before .before .before .before in
+    omega (arith, start .pre .events)
 
 put-ends-requires : tie.Need-put-ends-requires Inv-loop μ-loop
 put-ends-requires c κs =
-    let q = c .before .before .before .before .before .before .before .before .before .before .pre in
-    let l = c .before .before .before .before .loop in
+    let at-loop = c .before .before .before .before in
+    let start = at-loop .before .before .before .before .before .before in
+    let q = start .pre in
+    let l = at-loop .loop in
     (omega (arith, q .room, placed-length (l .inv)), ends-need q (l .i) (omega arith))
 
 loop-again : tie.Need-loop-again Inv-loop μ-loop
-loop-again c = placed-more (c .before .before .before .before .before .before .before .loop .inv) (omega arith) (c .before .before .before .before .before .before .before .before .before .before .before .before .before .pre .events) (c .before .before .put-ends .ensures)
+loop-again c =
+    let at-put-ends = c .before .before in
+    let at-loop = at-put-ends .before .before .before .before .before in
+    let start = at-loop .before .before .before .before .before .before in
+    placed-more (at-loop .loop .inv) (omega arith) (start .pre .events) (at-put-ends .put-ends .ensures)
 
 same-length : tie.Need-same-length Inv-loop μ-loop
 same-length c = placed-length (c .before .loop .inv)

@@ -19,7 +19,9 @@ loop-holds : tie.Need-loop-holds Inv-loop μ-loop
 loop-holds c = (omega arith, written-none _ 0 _ 0 _)
 
 shared-slice-read-s : tie.Need-shared-slice-read-s Inv-loop μ-loop
-shared-slice-read-s c = omega (arith, c .before .before .before .before .before .before .before .pre .0)
+shared-slice-read-s c =
+    let start = c .before .before .before .before .before .before .before in
+    omega (arith, start .pre .0)
 
 cast-s : tie.Need-cast-s Inv-loop μ-loop
 cast-s c = omega (arith, c .shared-slice-known4 .given (c .before .before .before .loop .i))
@@ -31,18 +33,29 @@ cast-work : tie.Need-cast-work Inv-loop μ-loop
 cast-work c = omega (arith, c .tag-of .ensures .1)
 
 slice-write-work : tie.Need-slice-write-work Inv-loop μ-loop
-slice-write-work c = let l = c .before .before .before .before .loop in omega (arith, l .inv .1 .long, c .before .before .before .before .before .before .before .before .pre .1)
+slice-write-work c =
+    let at-loop = c .before .before .before .before in
+    let start = at-loop .before .before .before .before in
+    let l = at-loop .loop in
+    omega (arith, l .inv .1 .long, start .pre .1)
 
 loop-again : tie.Need-loop-again Inv-loop μ-loop
 loop-again c =
-    let l = c .before .before .before .before .loop in
-    (omega arith, tag-more (c .before .before .before .before .before .before .before .before .args .n) (c .before .before .before .before .before .before .before .before .args .x .now) (c .before .before .before .before .before .before .before .before .args .y .now) (l .inv .1) (c .tag-of .ensures .0) (omega (arith, l .inv .1 .long, c .before .before .before .before .before .before .before .before .pre .1)))
+    let at-loop = c .before .before .before .before in
+    let start = at-loop .before .before .before .before in
+    let a = start .args in
+    let l = at-loop .loop in
+    (omega arith, tag-more (a .n) (a .x .now) (a .y .now) (l .inv .1) (c .tag-of .ensures .0) (omega (arith, l .inv .1 .long, start .pre .1)))
 
 same-length : tie.Need-same-length Inv-loop μ-loop
 same-length c = c .before .loop .inv .1 .long
 
 returns : tie.Need-returns Inv-loop μ-loop
-returns c = let l = c .before .loop in let e : l .i ≡ length (c .before .before .before .before .before .args .x .now) = omega arith in rw e at (l .inv .1)
+returns c =
+    let start = c .before .before .before .before .before in
+    let l = c .before .loop in
+    let e : l .i ≡ length (start .args .x .now) = omega arith in
+    rw e at (l .inv .1)
 
 pub put-tags-spec : {M : Type 1} → statement M
 put-tags-spec =

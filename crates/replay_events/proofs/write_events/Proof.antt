@@ -5,13 +5,29 @@ use Rattle.replay_events.proofs.write_events.Statement.{statement}
 use Rattle.replay_events.proofs.write_events.Tie as tie
 
 link-lasts-requires : tie.Need-link-lasts-requires
-link-lasts-requires c κs = tags-fit (c .before .before .before .before .before .before .before .before .before .before .before .before .before .before .pre) (c .before .before .before .before .before .before .before .put-junctions .ensures) (c .before .before .before .put-tags .ensures)
+link-lasts-requires c κs =
+    let at-put-tags = c .before .before .before in
+    let at-put-junctions = at-put-tags .before .before .before .before in
+    let start = at-put-junctions .before .before .before .before .before .before .before in
+    tags-fit (start .pre) (at-put-junctions .put-junctions .ensures) (at-put-tags .put-tags .ensures)
 
 link-nexts-requires : tie.Need-link-nexts-requires
-link-nexts-requires c κs = tags-fit-3 (c .before .before .before .before .before .before .before .before .before .before .before .before .before .before .before .before .before .before .pre) (c .before .before .before .before .before .before .before .before .before .before .before .put-junctions .ensures) (c .before .before .before .before .before .before .before .put-tags .ensures) (c .before .before .before .link-lasts .ensures)
+link-nexts-requires c κs =
+    let at-link-lasts = c .before .before .before in
+    let at-put-tags = at-link-lasts .before .before .before .before in
+    let at-put-junctions = at-put-tags .before .before .before .before in
+    let start = at-put-junctions .before .before .before .before .before .before .before in
+    tags-fit-3 (start .pre) (at-put-junctions .put-junctions .ensures) (at-put-tags .put-tags .ensures) (at-link-lasts .link-lasts .ensures)
 
 returns : tie.Need-returns
-returns c = events-written (c .before .before .before .before .before .before .before .before .before .before .before .before .before .before .before .before .before .before .before .before .before .pre) (c .before .before .before .before .before .before .before .before .before .before .before .before .before .before .put-junctions .ensures) (c .before .before .before .before .before .before .before .before .before .before .put-tags .ensures) (c .before .before .before .before .before .before .link-lasts .ensures) (c .before .before .link-nexts .ensures)
+returns c =
+    let at-link-nexts = c .before .before in
+    let at-link-lasts = at-link-nexts .before .before .before .before in
+    let at-put-tags = at-link-lasts .before .before .before .before in
+    let at-put-junctions = at-put-tags .before .before .before .before in
+    let start = at-put-junctions .before .before .before .before .before .before .before in
+    events-written (start .pre) (at-put-junctions .put-junctions .ensures) (at-put-tags .put-tags .ensures) (at-link-lasts .link-lasts .ensures)
+    (at-link-nexts .link-nexts .ensures)
 
 pub write-events-spec : {M : Type 1} → statement M
 write-events-spec =

@@ -12,26 +12,51 @@ use Rattle.replay_step.proofs.load.copy_edges.Reads as copy-edges-reads
 use Rattle.replay_step.proofs.load.enter_places.Reads as enter-places-reads
 
 enter-places-requires : tie.Need-enter-places-requires
-enter-places-requires c κs = active-need (c .before .before .before .before .before .pre .0) (c .before .before .before .before .before .pre .1)
+enter-places-requires c κs =
+    let start = c .before .before .before .before .before in
+    active-need (start .pre .0) (start .pre .1)
 
 copy-edges-requires : tie.Need-copy-edges-requires
-copy-edges-requires c κs = edges-need (c .before .before .before .before .before .before .before .before .before .pre .0) (c .before .before .before .before .before .before .before .before .before .pre .1) (c .before .before .before .enter-places .last .0) (c .before .before .before .enter-places .ensures .front) (omega arith)
+copy-edges-requires c κs =
+    let at-enter-places = c .before .before .before in
+    let start = at-enter-places .before .before .before .before .before .before in
+    edges-need (start .pre .0) (start .pre .1) (at-enter-places .enter-places .last .0) (at-enter-places .enter-places .ensures .front) (omega arith)
 
 add-events-requires : tie.Need-add-events-requires
-add-events-requires c κs = events-need (c .before .before .before .before .before .before .before .before .before .before .before .before .before .before .before .pre .0) (c .before .before .before .before .before .before .before .before .before .before .before .before .before .before .before .pre .1) _ _ _ (c .before .before .before .before .before .copy-edges .last .0) (omega arith) (omega arith) (omega arith) (c .before .before .before .before .before .copy-edges .ensures .edged .front ∙ c .before .before .before .before .before .before .before .before .before .enter-places .ensures .front) (omega arith) (c .before .before .before .before .before .copy-edges .ensures .edged .ends)
+add-events-requires c κs =
+    let at-copy-edges = c .before .before .before .before .before in
+    let at-enter-places = at-copy-edges .before .before .before .before in
+    let start = at-enter-places .before .before .before .before .before .before in
+    events-need (start .pre .0) (start .pre .1) _ _ _ (at-copy-edges .copy-edges .last .0) (omega arith) (omega arith) (omega arith)
+    (at-copy-edges .copy-edges .ensures .edged .front ∙ at-enter-places .enter-places .ensures .front) (omega arith)
+    (at-copy-edges .copy-edges .ensures .edged .ends)
 
 add-add-events : tie.Need-add-add-events
-add-add-events c = let q = c .before .before .before .before .before .before .before .before .before .before .before .before .before .before .before .before .before .before .before .pre .0 in omega (arith, q .starts, q .ends, q .much)
+add-add-events c =
+    let start = c .before .before .before .before .before .before .before .before .before .before .before .before .before .before .before .before .before .before .before in
+    let q = start .pre .0 in
+    omega (arith, q .starts, q .ends, q .much)
 
 add-events-requires-2 : tie.Need-add-events-requires-2
 add-events-requires-2 c κs =
-    let q = c .before .before .before .before .before .before .before .before .before .before .before .before .before .before .before .before .before .before .before .before .pre in
-    let f = c .before .before .before .before .before .before .before .before .before .before .copy-edges .ensures .edged .front in
-    let e = c .before .before .before .before .before .before .before .before .before .before .before .before .before .before .enter-places .ensures .front in
-    behind-need (q .0) (q .1) (c .before .before .before .before .add-events .ensures) (f ∙ e) (omega arith)
+    let at-add-events = c .before .before .before .before in
+    let at-copy-edges = at-add-events .before .before .before .before .before .before in
+    let at-enter-places = at-copy-edges .before .before .before .before in
+    let start = at-enter-places .before .before .before .before .before .before in
+    let q = start .pre in
+    let f = at-copy-edges .copy-edges .ensures .edged .front in
+    let e = at-enter-places .enter-places .ensures .front in
+    behind-need (q .0) (q .1) (at-add-events .add-events .ensures) (f ∙ e) (omega arith)
 
 returns : tie.Need-returns
-returns c = part-loaded (c .before .before .before .before .before .before .before .before .before .before .before .before .before .before .before .before .before .before .before .before .before .before .before .pre .0) (c .before .before .before .before .before .before .before .before .before .before .before .before .before .before .before .before .before .before .before .before .before .before .before .pre .1) (c .before .before .before .before .before .before .before .before .before .before .before .before .before .before .before .before .before .enter-places .ensures) (c .before .before .before .before .before .before .before .before .before .before .before .before .before .copy-edges .ensures) (c .before .before .before .before .before .before .before .add-events .ensures) (c .before .before .add-events2 .ensures) (omega arith) (omega arith)
+returns c =
+    let at-add-events2 = c .before .before in
+    let at-add-events = at-add-events2 .before .before .before .before .before in
+    let at-copy-edges = at-add-events .before .before .before .before .before .before in
+    let at-enter-places = at-copy-edges .before .before .before .before in
+    let start = at-enter-places .before .before .before .before .before .before in
+    part-loaded (start .pre .0) (start .pre .1) (at-enter-places .enter-places .ensures) (at-copy-edges .copy-edges .ensures)
+    (at-add-events .add-events .ensures) (at-add-events2 .add-events2 .ensures) (omega arith) (omega arith)
 
 pub load-part-spec : {M : Type 1} → statement M
 load-part-spec =

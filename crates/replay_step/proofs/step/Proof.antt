@@ -11,7 +11,12 @@ use Rattle.replay_step.proofs.area.make_area.Reads as make-area-reads
 use Rattle.replay_step.proofs.load_part.Reads as load-part-reads
 
 returns : tie.Need-returns
-returns c = stepped (c .before .before .before .before .before .before .before .before .before .before .before .before .pre) (record { places = refl; words = refl; area = refl }) (c .before .before .before .before .before .before .load-part .ensures) (omega arith) (c .before .before .make-area .ensures)
+returns c =
+    let at-make-area = c .before .before in
+    let at-load-part = at-make-area .before .before .before .before in
+    let start = at-load-part .before .before .before .before .before .before in
+    stepped (start .pre) (record { places = refl; words = refl; area = refl }) (at-load-part .load-part .ensures) (omega arith)
+    (at-make-area .make-area .ensures)
 
 pub step-spec : {M : Type 1} → statement M
 step-spec =

@@ -13,10 +13,17 @@ load-whole-requires : tie.Need-load-whole-requires
 load-whole-requires c κs = whole-active (c .before .before .pre)
 
 make-area-requires : tie.Need-make-area-requires
-make-area-requires c κs = whole-ready (c .before .before .before .before .before .before .pre) (c .before .before .before .load-whole .ensures) (omega arith)
+make-area-requires c κs =
+    let at-load-whole = c .before .before .before in
+    let start = at-load-whole .before .before .before in
+    whole-ready (start .pre) (at-load-whole .load-whole .ensures) (omega arith)
 
 returns : tie.Need-returns
-returns c = whole-made (c .before .before .before .before .before .before .before .before .before .pre) (c .before .before .before .before .before .before .load-whole .ensures) (omega arith) (c .before .before .make-area .ensures)
+returns c =
+    let at-make-area = c .before .before in
+    let at-load-whole = at-make-area .before .before .before .before in
+    let start = at-load-whole .before .before .before in
+    whole-made (start .pre) (at-load-whole .load-whole .ensures) (omega arith) (at-make-area .make-area .ensures)
 
 pub whole-spec : {M : Type 1} → statement M
 whole-spec =

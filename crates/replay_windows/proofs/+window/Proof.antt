@@ -61,7 +61,8 @@ window-part-window-start t c = let r = c .before .before .before .before .before
 window-window-requires : (t : ℕ) → window-lts.Need-window-requires (calls t) (window-at t) window.Post
 window-window-requires t c κs =
     let r = c .before .before .before .before .before .before .before .before .before .before .pre .1 in
-    let (a, b) = first-ready r (two t (c .before .before .before .before .before .before)) (c .before .before .before .before .before .before .first-part .ensures) (c .before .before .before .before .step .ensures) (omega arith) in
+    let (a, b) = first-ready r (two t (c .before .before .before .before .before .before)) (c .before .before .before .before .before .before .first-part .ensures)
+    (c .before .before .before .before .step .ensures) (omega arith) in
     (omega (arith, a, c .before .before .before .before .before .before .before .before .before .before .pre .0), b)
 
 window-add-step : (t : ℕ) → window-lts.Need-add-step (calls t) (window-at t) window.Post
@@ -76,7 +77,9 @@ window-step-requires-2 t c κs =
     let e = c .before .before .before .before .before .before .before .before .before .before .before .before .before .first-part .ensures in
     let s = shares (c .before .before .before .before .before .before .before .before .before .before .before .before .before .before .before .before .before .args .p) (c .before .before .before .before .before .before .before .before .before .before .before .before .before .before .before .before .before .args .w .events) (two t (c .before .before .before .before .before .before .before .before .before .before .before .before .before)) (r .share) in
     step-ready r (c .before .before .before .before .before .before .before .before .before .before .before .before .before .before .before .before .before .args .w .at + c .before .before .before .before .before .before .before .before .before .before .before .before .before .first-part .result) (c .before .before .before .before .before .before .before .before .before .before .before .before .before .before .before .before .before .args .w .events - c .before .before .before .before .before .before .before .before .before .before .before .before .before .first-part .result) _ (omega arith) (omega arith) (omega arith) (omega arith)
-    (area-kept r (two t (c .before .before .before .before .before .before .before .before .before .before .before .before .before)) e (c .before .before .before .before .before .before .before .before .before .before .before .step .ensures) (omega arith) (c .before .before .before .before .before .before .window .last .1 .1 .1 .0))
+    (area-kept r (two t (c .before .before .before .before .before .before .before .before .before .before .before .before .before)) e
+    (c .before .before .before .before .before .before .before .before .before .before .before .step .ensures) (omega arith)
+    (c .before .before .before .before .before .before .window .last .1 .1 .1 .0))
 
 window-mul-window-2 : (t : ℕ) → window-lts.Need-mul-window-2 (calls t) (window-at t) window.Post
 window-mul-window-2 t c = let r = c .before .before .before .before .before .before .before .before .before .before .before .before .before .before .before .before .before .before .before .before .before .pre .1 in omega (arith, r .much)
@@ -101,7 +104,13 @@ window-add-result t c =
     let s = shares (c .before .before .before .before .before .before .before .before .before .before .before .before .before .before .before .before .before .before .before .before .before .before .before .before .before .before .before .before .args .p) (c .before .before .before .before .before .before .before .before .before .before .before .before .before .before .before .before .before .before .before .before .before .before .before .before .before .before .before .before .args .w .events) (two t (c .before .before .before .before .before .before .before .before .before .before .before .before .before .before .before .before .before .before .before .before .before .before .before .before)) (r .share) in
     let a = c .before .before .before .before .before .before .before .before .before .before .before .before .before .before .before .before .before .before .before .before .before .before .step .ensures .events in
     let b = c .before .before .before .before .before .before .before .before .before .before .step2 .ensures .events in
-    omega (arith, area-nodes (r .area) (r .some), c .before .before .before .before .before .window2 .ensures .few, c .before .before .before .before .before .before .before .before .before .before .before .before .before .before .before .before .before .window .ensures .few, r .much)
+    omega (
+      arith,
+      area-nodes (r .area) (r .some),
+      c .before .before .before .before .before .window2 .ensures .few,
+      c .before .before .before .before .before .before .before .before .before .before .before .before .before .before .before .before .before .window .ensures .few,
+      r .much,
+    )
 
 window-add-result-2 : (t : ℕ) → window-lts.Need-add-result-2 (calls t) (window-at t) window.Post
 window-add-result-2 t c =
@@ -110,7 +119,13 @@ window-add-result-2 t c =
     let s = shares (c .before .before .before .before .before .before .before .before .before .before .before .before .before .before .before .before .before .before .before .before .before .before .before .before .before .before .before .before .args .p) (c .before .before .before .before .before .before .before .before .before .before .before .before .before .before .before .before .before .before .before .before .before .before .before .before .before .before .before .before .args .w .events) (two t (c .before .before .before .before .before .before .before .before .before .before .before .before .before .before .before .before .before .before .before .before .before .before .before .before)) (r .share) in
     let a = c .before .before .before .before .before .before .before .before .before .before .before .before .before .before .before .before .before .before .before .before .before .before .step .ensures .events in
     let b = c .before .before .before .before .before .before .before .before .before .before .step2 .ensures .events in
-    omega (arith, area-nodes (r .area) (r .some), c .before .before .before .before .before .window2 .ensures .few, c .before .before .before .before .before .before .before .before .before .before .before .before .before .before .before .before .before .window .ensures .few, r .much)
+    omega (
+      arith,
+      area-nodes (r .area) (r .some),
+      c .before .before .before .before .before .window2 .ensures .few,
+      c .before .before .before .before .before .before .before .before .before .before .before .before .before .before .before .before .before .window .ensures .few,
+      r .much,
+    )
 
 window-returns-2 : (t : ℕ) → window-lts.Need-returns-2 (calls t) (window-at t) window.Post
 window-returns-2 t c =

@@ -11,13 +11,19 @@ returns : tie.Need-returns
 returns c = one-change (c .before .before .pre .0) (c .before .before .pre .1) (λ z. omega arith)
 
 returns-2 : tie.Need-returns-2
-returns-2 c = one-query (c .before .before .before .before .pre .0) (c .before .before .before .before .pre .1) 2 (omega arith) (byte-2 (c .before .before .before .before .args .w .nodes) (c .before .before .before .before .args .w .edges) (omega arith))
+returns-2 c =
+    let start = c .before .before .before .before in
+    one-query (start .pre .0) (start .pre .1) 2 (omega arith) (byte-2 (start .args .w .nodes) (start .args .w .edges) (omega arith))
 
 returns-3 : tie.Need-returns-3
-returns-3 c = one-query (c .before .before .before .before .before .before .pre .0) (c .before .before .before .before .before .before .pre .1) 0 (omega arith) (byte-0 (c .before .before .before .before .before .before .args .w .nodes) (c .before .before .before .before .before .before .args .w .edges) (λ z. omega arith) (omega arith))
+returns-3 c =
+    let start = c .before .before .before .before .before .before in
+    one-query (start .pre .0) (start .pre .1) 0 (omega arith) (byte-0 (start .args .w .nodes) (start .args .w .edges) (λ z. omega arith) (omega arith))
 
 returns-4 : tie.Need-returns-4
-returns-4 c = one-query (c .before .before .before .before .before .before .pre .0) (c .before .before .before .before .before .before .pre .1) 1 (omega arith) (byte-1 (c .before .before .before .before .before .before .args .w .nodes) (c .before .before .before .before .before .before .args .w .edges) (λ z. omega arith) (λ z. omega arith))
+returns-4 c =
+    let start = c .before .before .before .before .before .before in
+    one-query (start .pre .0) (start .pre .1) 1 (omega arith) (byte-1 (start .args .w .nodes) (start .args .w .edges) (λ z. omega arith) (λ z. omega arith))
 
 pub one-spec : {M : Type 1} → statement M
 one-spec =

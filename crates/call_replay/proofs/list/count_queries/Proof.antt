@@ -20,12 +20,18 @@ loop-holds c = (omega arith, queries-none _)
 
 add-k : tie.Need-add-k Inv-loop μ-loop
 add-k c =
-    let l = c .before .before .before .loop in
-    let a = c .before .before .before .before .before .args .answers .now in
+    let at-loop = c .before .before .before in
+    let start = at-loop .before .before in
+    let l = at-loop .loop in
+    let a = start .args .answers .now in
     omega (arith, queries-most a (l .i), l .inv .1, answer-most (getD a (l .i) 0) (c .one-if-answer .result) (c .one-if-answer .ensures))
 
 loop-again : tie.Need-loop-again Inv-loop μ-loop
-loop-again c = let l = c .before .before .before .loop in (omega arith, queries-more (c .before .before .before .before .before .args .answers .now) (l .i) _ _ (l .inv .1) (c .one-if-answer .ensures))
+loop-again c =
+    let at-loop = c .before .before .before in
+    let start = at-loop .before .before in
+    let l = at-loop .loop in
+    (omega arith, queries-more (start .args .answers .now) (l .i) _ _ (l .inv .1) (c .one-if-answer .ensures))
 
 returns : tie.Need-returns Inv-loop μ-loop
 returns c = let l = c .before .loop in let e : l .i ≡ c .before .before .before .args .t = omega arith in rw e at (l .inv .1)

@@ -17,10 +17,18 @@ abbrev μ-loop : tie.MeasureT-loop
 μ-loop work₀ from count q i₀ work i = count - i
 
 slice-read-x : tie.Need-slice-read-x Inv-loop μ-loop
-slice-read-x c = let a = c .before .before .before .args in omega (arith, copy-length (a .work .now) (a .from) (a .q) (c .before .before .loop .i) (c .before .before .loop .inv .1))
+slice-read-x c =
+    let at-loop = c .before .before in
+    let start = at-loop .before in
+    let a = start .args in
+    omega (arith, copy-length (a .work .now) (a .from) (a .q) (at-loop .loop .i) (at-loop .loop .inv .1))
 
 slice-write-work : tie.Need-slice-write-work Inv-loop μ-loop
-slice-write-work c = let a = c .before .before .before .args in omega (arith, copy-length (a .work .now) (a .from) (a .q) (c .before .before .loop .i) (c .before .before .loop .inv .1))
+slice-write-work c =
+    let at-loop = c .before .before in
+    let start = at-loop .before in
+    let a = start .args in
+    omega (arith, copy-length (a .work .now) (a .from) (a .q) (at-loop .loop .i) (at-loop .loop .inv .1))
 
 loop-again : tie.Need-loop-again Inv-loop μ-loop
 loop-again c =

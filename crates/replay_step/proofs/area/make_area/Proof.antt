@@ -12,10 +12,16 @@ put-map-requires : tie.Need-put-map-requires
 put-map-requires c κs = map-need (c .before .before .before .before .before .before .pre) (c .before .before .before .reduce .ensures) (omega arith)
 
 put-field-requires : tie.Need-put-field-requires
-put-field-requires c κs = let (a, _, b) = fields-need (c .before .before .before .before .before .before .before .before .before .before .before .before .before .before .pre) (c .before .before .before .before .before .before .before .before .before .before .before .reduce .ensures) (omega arith) (c .before .before .before .copy-words .last .0) (omega arith) in (a, omega arith, b)
+put-field-requires c κs = let (a, _, b) = fields-need
+    (c .before .before .before .before .before .before .before .before .before .before .before .before .before .before .pre)
+    (c .before .before .before .before .before .before .before .before .before .before .before .reduce .ensures) (omega arith)
+    (c .before .before .before .copy-words .last .0) (omega arith) in (a, omega arith, b)
 
 put-field-requires-2 : tie.Need-put-field-requires-2
-put-field-requires-2 c κs = let (_, a, b) = fields-need (c .before .before .before .before .before .before .before .before .before .before .before .before .before .before .before .before .before .before .pre) (c .before .before .before .before .before .before .before .before .before .before .before .before .before .before .before .reduce .ensures) (omega arith) (c .before .before .before .put-field .last .0) (omega arith) in (a, omega arith, b)
+put-field-requires-2 c κs = let (_, a, b) = fields-need
+    (c .before .before .before .before .before .before .before .before .before .before .before .before .before .before .before .before .before .before .pre)
+    (c .before .before .before .before .before .before .before .before .before .before .before .before .before .before .before .reduce .ensures) (omega arith)
+    (c .before .before .before .put-field .last .0) (omega arith) in (a, omega arith, b)
 
 returns : tie.Need-returns
 returns c = area-made (c .before .before .before .before .before .before .before .before .before .before .before .before .before .before .before .before .before .before .before .before .before .pre) (c .before .before .before .before .before .before .before .before .before .before .before .before .before .before .before .before .before .before .reduce .ensures) (omega arith) (c .before .before .before .before .before .before .before .before .before .before .before .before .before .before .put-map .ensures) (c .before .before .before .before .before .before .before .before .before .before .copy-words .ensures) (c .before .before .before .before .before .before .put-field .ensures) (c .before .before .put-field2 .ensures)

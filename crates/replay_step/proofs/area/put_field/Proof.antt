@@ -33,7 +33,11 @@ mul-x-2 : tie.Need-mul-x-2 Inv-loop μ-loop
 mul-x-2 c = search needs
 
 slice-read-x : tie.Need-slice-read-x Inv-loop μ-loop
-slice-read-x c = omega (arith, fill-length (c .before .before .before .args .work .now) (c .before .before .before .args .q) (table (node (c .before .before .before .args .k) (drop (c .before .before .before .args .s) (c .before .before .before .args .work .now))) 0 (c .before .before .loop .i)) (c .before .before .loop .inv .1))
+slice-read-x c =
+    let at-loop = c .before .before in
+    let start = at-loop .before in
+    let a = start .args in
+    omega (arith, fill-length (a .work .now) (a .q) (table (node (a .k) (drop (a .s) (a .work .now))) 0 (at-loop .loop .i)) (at-loop .loop .inv .1))
 
 add-work : tie.Need-add-work Inv-loop μ-loop
 add-work c = search needs
@@ -42,7 +46,11 @@ mul-work : tie.Need-mul-work Inv-loop μ-loop
 mul-work c = search needs
 
 slice-write-work : tie.Need-slice-write-work Inv-loop μ-loop
-slice-write-work c = omega (arith, fill-length (c .before .before .before .args .work .now) (c .before .before .before .args .q) (table (node (c .before .before .before .args .k) (drop (c .before .before .before .args .s) (c .before .before .before .args .work .now))) 0 (c .before .before .loop .i)) (c .before .before .loop .inv .1))
+slice-write-work c =
+    let at-loop = c .before .before in
+    let start = at-loop .before in
+    let a = start .args in
+    omega (arith, fill-length (a .work .now) (a .q) (table (node (a .k) (drop (a .s) (a .work .now))) 0 (at-loop .loop .i)) (at-loop .loop .inv .1))
 
 add-i : tie.Need-add-i Inv-loop μ-loop
 add-i c = search needs
@@ -51,10 +59,17 @@ loop-less : tie.Need-loop-less Inv-loop μ-loop
 loop-less c = search needs
 
 loop-again : tie.Need-loop-again Inv-loop μ-loop
-loop-again c = (omega arith, fill-step (c .before .before .before .args .work .now) (c .before .before .loop .work) (c .before .before .before .args .k) (c .before .before .before .args .s) (c .before .before .before .args .q) (c .before .before .loop .i) (c .before .before .loop .inv .1) (omega arith))
+loop-again c =
+    let at-loop = c .before .before in
+    let start = at-loop .before in
+    let a = start .args in
+    (omega arith, fill-step (a .work .now) (at-loop .loop .work) (a .k) (a .s) (a .q) (at-loop .loop .i) (at-loop .loop .inv .1) (omega arith))
 
 same-length : tie.Need-same-length Inv-loop μ-loop
-same-length c = fill-length (c .before .before .args .work .now) (c .before .before .args .q) (table (node (c .before .before .args .k) (drop (c .before .before .args .s) (c .before .before .args .work .now))) 0 (c .before .loop .i)) (c .before .loop .inv .1)
+same-length c =
+    let start = c .before .before in
+    let a = start .args in
+    fill-length (a .work .now) (a .q) (table (node (a .k) (drop (a .s) (a .work .now))) 0 (c .before .loop .i)) (c .before .loop .inv .1)
 
 returns : tie.Need-returns Inv-loop μ-loop
 returns c = let e : c .before .loop .i ≡ c .before .before .args .m = omega arith in rw e at (c .before .loop .inv .1)

@@ -26,22 +26,71 @@ mul-v : tie.Need-mul-v Inv-loop μ-loop
 mul-v c = omega arith
 
 slice-read-v : tie.Need-slice-read-v Inv-loop μ-loop
-slice-read-v c = omega (arith, fill-length (c .before .before .before .args .work .now) (c .before .before .before .args .q) (table (λ k. node MAPPED (drop (c .before .before .before .args .s) (c .before .before .before .args .work .now)) (getD (c .before .before .before .args .work .now) (c .before .before .before .args .from + k) 0)) 0 (c .before .before .loop .i)) (c .before .before .loop .inv .1))
+slice-read-v c =
+    let at-loop = c .before .before in
+    let start = at-loop .before in
+    let a = start .args in
+    omega (
+      arith,
+      fill-length (a .work .now) (a .q)
+          (table (λ k. node MAPPED (drop (a .s) (a .work .now)) (getD (a .work .now) (a .from + k) 0)) 0 (at-loop .loop .i)) (at-loop .loop .inv .1),
+    )
 
 cast-v : tie.Need-cast-v Inv-loop μ-loop
-cast-v c = omega (arith, map-step (c .before .before .before .args .work .now) (c .before .before .loop .work) (c .before .before .before .args .s) (c .before .before .before .args .q) (c .before .before .before .args .from) (c .before .before .loop .i) (c .before .before .loop .inv .1) (omega arith) (omega arith) .0, c .before .before .before .pre .3 (c .before .before .loop .i) (omega arith))
+cast-v c =
+    let at-loop = c .before .before in
+    let start = at-loop .before in
+    let a = start .args in
+    omega (
+      arith,
+      map-step (a .work .now) (at-loop .loop .work) (a .s) (a .q) (a .from) (at-loop .loop .i) (at-loop .loop .inv .1) (omega arith) (omega arith) .0,
+      start .pre .3 (at-loop .loop .i) (omega arith),
+    )
 
 mul-x : tie.Need-mul-x Inv-loop μ-loop
-mul-x c = omega (arith, map-step (c .before .before .before .args .work .now) (c .before .before .loop .work) (c .before .before .before .args .s) (c .before .before .before .args .q) (c .before .before .before .args .from) (c .before .before .loop .i) (c .before .before .loop .inv .1) (omega arith) (omega arith) .0, c .before .before .before .pre .3 (c .before .before .loop .i) (omega arith))
+mul-x c =
+    let at-loop = c .before .before in
+    let start = at-loop .before in
+    let a = start .args in
+    omega (
+      arith,
+      map-step (a .work .now) (at-loop .loop .work) (a .s) (a .q) (a .from) (at-loop .loop .i) (at-loop .loop .inv .1) (omega arith) (omega arith) .0,
+      start .pre .3 (at-loop .loop .i) (omega arith),
+    )
 
 add-x : tie.Need-add-x Inv-loop μ-loop
-add-x c = omega (arith, map-step (c .before .before .before .args .work .now) (c .before .before .loop .work) (c .before .before .before .args .s) (c .before .before .before .args .q) (c .before .before .before .args .from) (c .before .before .loop .i) (c .before .before .loop .inv .1) (omega arith) (omega arith) .0, c .before .before .before .pre .3 (c .before .before .loop .i) (omega arith))
+add-x c =
+    let at-loop = c .before .before in
+    let start = at-loop .before in
+    let a = start .args in
+    omega (
+      arith,
+      map-step (a .work .now) (at-loop .loop .work) (a .s) (a .q) (a .from) (at-loop .loop .i) (at-loop .loop .inv .1) (omega arith) (omega arith) .0,
+      start .pre .3 (at-loop .loop .i) (omega arith),
+    )
 
 mul-x-2 : tie.Need-mul-x-2 Inv-loop μ-loop
-mul-x-2 c = omega (arith, map-step (c .before .before .before .args .work .now) (c .before .before .loop .work) (c .before .before .before .args .s) (c .before .before .before .args .q) (c .before .before .before .args .from) (c .before .before .loop .i) (c .before .before .loop .inv .1) (omega arith) (omega arith) .0, c .before .before .before .pre .3 (c .before .before .loop .i) (omega arith))
+mul-x-2 c =
+    let at-loop = c .before .before in
+    let start = at-loop .before in
+    let a = start .args in
+    omega (
+      arith,
+      map-step (a .work .now) (at-loop .loop .work) (a .s) (a .q) (a .from) (at-loop .loop .i) (at-loop .loop .inv .1) (omega arith) (omega arith) .0,
+      start .pre .3 (at-loop .loop .i) (omega arith),
+    )
 
 slice-read-x : tie.Need-slice-read-x Inv-loop μ-loop
-slice-read-x c = omega (arith, map-step (c .before .before .before .before .args .work .now) (c .before .before .before .loop .work) (c .before .before .before .before .args .s) (c .before .before .before .before .args .q) (c .before .before .before .before .args .from) (c .before .before .before .loop .i) (c .before .before .before .loop .inv .1) (omega arith) (omega arith) .0, c .before .before .before .before .pre .3 (c .before .before .before .loop .i) (omega arith), fill-length (c .before .before .before .before .args .work .now) (c .before .before .before .before .args .q) (table (λ k. node MAPPED (drop (c .before .before .before .before .args .s) (c .before .before .before .before .args .work .now)) (getD (c .before .before .before .before .args .work .now) (c .before .before .before .before .args .from + k) 0)) 0 (c .before .before .before .loop .i)) (c .before .before .before .loop .inv .1))
+slice-read-x c =
+    let at-loop = c .before .before .before in
+    let start = at-loop .before in
+    let a = start .args in
+    omega (
+      arith,
+      map-step (a .work .now) (at-loop .loop .work) (a .s) (a .q) (a .from) (at-loop .loop .i) (at-loop .loop .inv .1) (omega arith) (omega arith) .0,
+      start .pre .3 (at-loop .loop .i) (omega arith),
+      fill-length (a .work .now) (a .q) (table (λ k. node MAPPED (drop (a .s) (a .work .now)) (getD (a .work .now) (a .from + k) 0)) 0 (at-loop .loop .i)) (at-loop .loop .inv .1),
+    )
 
 add-work : tie.Need-add-work Inv-loop μ-loop
 add-work c = omega arith
@@ -50,7 +99,15 @@ mul-work : tie.Need-mul-work Inv-loop μ-loop
 mul-work c = omega arith
 
 slice-write-work : tie.Need-slice-write-work Inv-loop μ-loop
-slice-write-work c = omega (arith, fill-length (c .before .before .before .before .args .work .now) (c .before .before .before .before .args .q) (table (λ k. node MAPPED (drop (c .before .before .before .before .args .s) (c .before .before .before .before .args .work .now)) (getD (c .before .before .before .before .args .work .now) (c .before .before .before .before .args .from + k) 0)) 0 (c .before .before .before .loop .i)) (c .before .before .before .loop .inv .1))
+slice-write-work c =
+    let at-loop = c .before .before .before in
+    let start = at-loop .before in
+    let a = start .args in
+    omega (
+      arith,
+      fill-length (a .work .now) (a .q)
+          (table (λ k. node MAPPED (drop (a .s) (a .work .now)) (getD (a .work .now) (a .from + k) 0)) 0 (at-loop .loop .i)) (at-loop .loop .inv .1),
+    )
 
 add-i : tie.Need-add-i Inv-loop μ-loop
 add-i c = omega arith
@@ -59,13 +116,26 @@ loop-less : tie.Need-loop-less Inv-loop μ-loop
 loop-less c = omega arith
 
 loop-again : tie.Need-loop-again Inv-loop μ-loop
-loop-again c = (omega arith, map-step (c .before .before .before .before .args .work .now) (c .before .before .before .loop .work) (c .before .before .before .before .args .s) (c .before .before .before .before .args .q) (c .before .before .before .before .args .from) (c .before .before .before .loop .i) (c .before .before .before .loop .inv .1) (omega arith) (omega arith) .1)
+loop-again c =
+    let at-loop = c .before .before .before in
+    let start = at-loop .before in
+    let a = start .args in
+    (omega arith, map-step (a .work .now) (at-loop .loop .work) (a .s) (a .q) (a .from) (at-loop .loop .i) (at-loop .loop .inv .1) (omega arith) (omega arith) .1)
 
 same-length : tie.Need-same-length Inv-loop μ-loop
-same-length c = fill-length (c .before .before .args .work .now) (c .before .before .args .q) (table (λ k. node MAPPED (drop (c .before .before .args .s) (c .before .before .args .work .now)) (getD (c .before .before .args .work .now) (c .before .before .args .from + k) 0)) 0 (c .before .loop .i)) (c .before .loop .inv .1)
+same-length c =
+    let start = c .before .before in
+    let a = start .args in
+    fill-length (a .work .now) (a .q) (table (λ k. node MAPPED (drop (a .s) (a .work .now)) (getD (a .work .now) (a .from + k) 0)) 0 (c .before .loop .i))
+    (c .before .loop .inv .1)
 
 returns : tie.Need-returns Inv-loop μ-loop
-returns c = let e : c .before .loop .i ≡ c .before .before .args .count = omega arith in (rw e at (c .before .loop .inv .1)) ∙ ap (sets (c .before .before .args .work .now) (c .before .before .args .q)) (sym (map-table (node MAPPED (drop (c .before .before .args .s) (c .before .before .args .work .now))) (c .before .before .args .work .now) (c .before .before .args .from) (c .before .before .args .count) (omega arith)))
+returns c =
+    let start = c .before .before in
+    let a = start .args in
+    let e : c .before .loop .i ≡ a .count = omega arith in
+    (rw e at (c .before .loop .inv .1)) ∙ ap (sets (a .work .now) (a .q))
+    (sym (map-table (node MAPPED (drop (a .s) (a .work .now))) (a .work .now) (a .from) (a .count) (omega arith)))
 
 pub put-map-spec : {M : Type 1} → statement M
 put-map-spec =

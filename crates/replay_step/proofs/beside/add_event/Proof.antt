@@ -11,13 +11,27 @@ use Rattle.replay_step.proofs.beside.event_adds.Reads as event-adds-rea
 use Rattle.replay_step.proofs.beside.word.Reads as word-reads
 
 returns : tie.Need-returns
-returns c = add-none (c .before .before .before .before .pre .0) (sym (c .before .event-adds .ensures) ∙ not-true _ (c .if1 .taken))
+returns c =
+    let start = c .before .before .before .before in
+    add-none (start .pre .0) (sym (c .before .event-adds .ensures) ∙ not-true _ (c .if1 .taken))
 
 put-edge-requires : tie.Need-put-edge-requires
-put-edge-requires c κs = add-need (c .before .before .before .before .before .before .before .before .before .before .before .pre .0) _ _ (c .before .before .before .before .before .word .ensures .0) (c .before .before .before .word2 .ensures .0)
+put-edge-requires c κs =
+    let at-word2 = c .before .before .before in
+    let at-word = at-word2 .before .before in
+    let start = at-word .before .before .before .before .before .before in
+    add-need (start .pre .0) _ _ (at-word .word .ensures .0) (at-word2 .word2 .ensures .0)
 
 returns-2 : tie.Need-returns-2
-returns-2 c = add-put (c .before .before .before .before .before .before .before .before .before .before .before .before .before .before .pre .0) (sym (c .before .before .before .before .before .before .before .before .before .before .before .event-adds .ensures) ∙ not-false _ (c .before .before .before .before .before .before .before .before .before .before .if1 .left)) _ _ (c .before .before .before .before .before .before .before .before .word .ensures .0) (c .before .before .before .before .before .before .word2 .ensures .0) _ (c .before .before .put-edge .ensures)
+returns-2 c =
+    let at-put-edge = c .before .before in
+    let at-word2 = at-put-edge .before .before .before .before in
+    let at-word = at-word2 .before .before in
+    let at-if1 = at-word .before .before in
+    let at-event-adds = at-if1 .before in
+    let start = at-event-adds .before .before .before in
+    add-put (start .pre .0) (sym (at-event-adds .event-adds .ensures) ∙ not-false _ (at-if1 .if1 .left)) _ _ (at-word .word .ensures .0)
+    (at-word2 .word2 .ensures .0) _ (at-put-edge .put-edge .ensures)
 
 pub add-event-spec : {M : Type 1} → statement M
 add-event-spec =

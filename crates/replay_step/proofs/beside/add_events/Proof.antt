@@ -17,10 +17,17 @@ loop-holds : tie.Need-loop-holds Inv-loop μ-loop
 loop-holds c = (omega arith, omega (arith, c .before .pre .0 .order), adding-none (c .before .pre .0))
 
 add-event-requires : tie.Need-add-event-requires Inv-loop μ-loop
-add-event-requires c κs = (adding-ready (c .before .before .before .before .pre .0) (c .before .before .loop .inv .2) (omega arith) (omega arith), c .before .before .before .before .pre .1)
+add-event-requires c κs =
+    let at-loop = c .before .before in
+    let start = at-loop .before .before in
+    (adding-ready (start .pre .0) (at-loop .loop .inv .2) (omega arith) (omega arith), start .pre .1)
 
 loop-again : tie.Need-loop-again Inv-loop μ-loop
-loop-again c = (omega arith, omega arith, adding-more (c .before .before .before .before .before .before .before .pre .0) (c .before .before .before .before .before .loop .inv .2) (omega arith) (omega arith) (c .before .before .add-event .ensures))
+loop-again c =
+    let at-add-event = c .before .before in
+    let at-loop = at-add-event .before .before .before in
+    let start = at-loop .before .before in
+    (omega arith, omega arith, adding-more (start .pre .0) (at-loop .loop .inv .2) (omega arith) (omega arith) (at-add-event .add-event .ensures))
 
 same-length : tie.Need-same-length Inv-loop μ-loop
 same-length c = c .before .loop .inv .2 .long

@@ -5,7 +5,11 @@ use Rattle.replay_step.proofs.beside.event_adds.Statement.{statement}
 use Rattle.replay_step.proofs.beside.event_adds.Tie as tie
 
 returns : tie.Need-returns
-returns c = c .adds-key .ensures ∙ adds-same _ _ _ (c .before .before .before .before .word .ensures .0) (c .before .before .before .word2 .ensures .0) (c .before .before .word3 .ensures .0)
+returns c =
+    let at-word3 = c .before .before in
+    let at-word2 = at-word3 .before in
+    let at-word = at-word2 .before in
+    c .adds-key .ensures ∙ adds-same _ _ _ (at-word .word .ensures .0) (at-word2 .word2 .ensures .0) (at-word3 .word3 .ensures .0)
 
 pub event-adds-spec : {M : Type 1} → statement M
 event-adds-spec =

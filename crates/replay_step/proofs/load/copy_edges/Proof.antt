@@ -27,7 +27,10 @@ slice-read-a : tie.Need-slice-read-a Inv-loop μ-loop
 slice-read-a c = omega (arith, c .before .before .loop .inv .long)
 
 cast-a : tie.Need-cast-a Inv-loop μ-loop
-cast-a c = omega (arith, copying-ends (c .before .before .before .before .pre) (c .before .before .loop .inv) (omega arith) .0)
+cast-a c =
+    let at-loop = c .before .before in
+    let start = at-loop .before .before in
+    omega (arith, copying-ends (start .pre) (at-loop .loop .inv) (omega arith) .0)
 
 mul-b : tie.Need-mul-b Inv-loop μ-loop
 mul-b c = omega arith
@@ -42,7 +45,10 @@ slice-read-b : tie.Need-slice-read-b Inv-loop μ-loop
 slice-read-b c = omega (arith, c .before .before .before .loop .inv .long)
 
 cast-b : tie.Need-cast-b Inv-loop μ-loop
-cast-b c = omega (arith, copying-ends (c .before .before .before .before .before .pre) (c .before .before .before .loop .inv) (omega arith) .1)
+cast-b c =
+    let at-loop = c .before .before .before in
+    let start = at-loop .before .before in
+    omega (arith, copying-ends (start .pre) (at-loop .loop .inv) (omega arith) .1)
 
 mul-put-edge : tie.Need-mul-put-edge Inv-loop μ-loop
 mul-put-edge c = omega arith
@@ -57,7 +63,10 @@ part-put-edge-end : tie.Need-part-put-edge-end Inv-loop μ-loop
 part-put-edge-end c = omega arith
 
 put-edge-requires : tie.Need-put-edge-requires Inv-loop μ-loop
-put-edge-requires c κs = copying-need (c .before .before .before .before .before .before .pre) (c .before .before .before .before .loop .inv) (omega arith)
+put-edge-requires c κs =
+    let at-loop = c .before .before .before .before in
+    let start = at-loop .before .before in
+    copying-need (start .pre) (at-loop .loop .inv) (omega arith)
 
 add-j : tie.Need-add-j Inv-loop μ-loop
 add-j c = omega arith
@@ -66,7 +75,11 @@ loop-less : tie.Need-loop-less Inv-loop μ-loop
 loop-less c = omega arith
 
 loop-again : tie.Need-loop-again Inv-loop μ-loop
-loop-again c = copying-more (c .before .before .before .before .before .before .before .before .before .pre) (c .before .before .before .before .before .before .before .loop .inv) (omega arith) (c .before .before .put-edge .last .0) (c .before .before .put-edge .ensures)
+loop-again c =
+    let at-put-edge = c .before .before in
+    let at-loop = at-put-edge .before .before .before .before .before in
+    let start = at-loop .before .before in
+    copying-more (start .pre) (at-loop .loop .inv) (omega arith) (at-put-edge .put-edge .last .0) (at-put-edge .put-edge .ensures)
 
 same-length : tie.Need-same-length Inv-loop μ-loop
 same-length c = c .before .loop .inv .long

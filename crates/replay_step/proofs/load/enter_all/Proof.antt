@@ -24,7 +24,10 @@ slice-read-v : tie.Need-slice-read-v Inv-loop μ-loop
 slice-read-v c = omega (arith, c .before .before .loop .inv .long)
 
 cast-v : tie.Need-cast-v Inv-loop μ-loop
-cast-v c = omega (arith, reads (c .before .before .before .before .pre) (c .before .before .loop .inv) (omega arith), c .before .before .before .before .pre .0 .nodes (c .before .before .loop .i) (omega arith))
+cast-v c =
+    let at-loop = c .before .before in
+    let start = at-loop .before .before in
+    omega (arith, reads (start .pre) (at-loop .loop .inv) (omega arith), start .pre .0 .nodes (at-loop .loop .i) (omega arith))
 
 mul-enter : tie.Need-mul-enter Inv-loop μ-loop
 mul-enter c = omega arith
@@ -39,7 +42,10 @@ part-enter-end : tie.Need-part-enter-end Inv-loop μ-loop
 part-enter-end c = omega arith
 
 enter-requires : tie.Need-enter-requires Inv-loop μ-loop
-enter-requires c κs = entering-need (c .before .before .before .before .before .pre) (c .before .before .before .loop .inv) (omega arith)
+enter-requires c κs =
+    let at-loop = c .before .before .before in
+    let start = at-loop .before .before in
+    entering-need (start .pre) (at-loop .loop .inv) (omega arith)
 
 add-i : tie.Need-add-i Inv-loop μ-loop
 add-i c = omega arith
@@ -48,7 +54,11 @@ loop-less : tie.Need-loop-less Inv-loop μ-loop
 loop-less c = omega arith
 
 loop-again : tie.Need-loop-again Inv-loop μ-loop
-loop-again c = entering-more (c .before .before .before .before .before .before .before .before .pre) (c .before .before .before .before .before .before .loop .inv) (omega arith) (c .before .before .enter .result) (c .before .before .enter .last .0) (c .before .before .enter .ensures)
+loop-again c =
+    let at-enter = c .before .before in
+    let at-loop = at-enter .before .before .before .before in
+    let start = at-loop .before .before in
+    entering-more (start .pre) (at-loop .loop .inv) (omega arith) (at-enter .enter .result) (at-enter .enter .last .0) (at-enter .enter .ensures)
 
 same-length : tie.Need-same-length Inv-loop μ-loop
 same-length c = c .before .loop .inv .long

@@ -23,13 +23,22 @@ clear-marks-requires : tie.Need-clear-marks-requires
 clear-marks-requires c κs = (simp (length-take, length-drop) (omega arith), omega arith)
 
 enter-all-requires : tie.Need-enter-all-requires
-enter-all-requires c κs = clear-need (c .before .before .before .before .before .before .args .from) (c .before .before .before .before .before .before .args .count) (c .before .before .before .before .before .before .args .s) (c .before .before .before .before .before .before .args .n) (c .before .before .before .before .before .before .args .work .now) (c .before .before .before .clear-marks .last .0) (c .before .before .before .before .before .before .pre) (c .before .before .before .clear-marks .ensures)
+enter-all-requires c κs =
+    let at-clear-marks = c .before .before .before in
+    let start = at-clear-marks .before .before .before in
+    let a = start .args in
+    clear-need (a .from) (a .count) (a .s) (a .n) (a .work .now) (at-clear-marks .clear-marks .last .0) (start .pre) (at-clear-marks .clear-marks .ensures)
 
 same-length : tie.Need-same-length
 same-length c = search needs
 
 returns : tie.Need-returns
-returns c = after-clear (c .before .before .before .before .before .before .before .before .before .args .work .now) (c .before .before .before .before .before .before .clear-marks .last .0) (omega arith) (omega arith) (c .before .before .before .before .before .before .before .before .before .pre .front) (c .before .before .enter-all .ensures)
+returns c =
+    let at-enter-all = c .before .before in
+    let at-clear-marks = at-enter-all .before .before .before .before in
+    let start = at-clear-marks .before .before .before in
+    after-clear (start .args .work .now) (at-clear-marks .clear-marks .last .0) (omega arith) (omega arith) (start .pre .front)
+    (at-enter-all .enter-all .ensures)
 
 pub enter-places-spec : {M : Type 1} → statement M
 enter-places-spec =
