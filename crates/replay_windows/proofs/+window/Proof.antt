@@ -47,10 +47,11 @@ window-mul-q t c = let r = c .before .before .before .before .pre .1 in omega (a
 
 window-step-requires : (t : ℕ) → window-lts.Need-step-requires (calls t) (window-at t) window.Post
 window-step-requires t c κs =
-    let r = c .before .before .before .before .before .pre .1 in
+    let start = c .before .before .before .before .before in
+    let r = start .pre .1 in
     let e = c .before .first-part .ensures in
-    let s = shares (c .before .before .before .before .before .args .p) (c .before .before .before .before .before .args .w .events) (omega (arith, r .some)) (r .share) in
-    step-ready r (c .before .before .before .before .before .args .w .at) (c .before .first-part .result) _ (omega arith) (omega arith) (omega arith) refl refl
+    let s = shares (start .args .p) (start .args .w .events) (omega (arith, r .some)) (r .share) in
+    step-ready r (start .args .w .at) (c .before .first-part .result) _ (omega arith) (omega arith) (omega arith) refl refl
 
 window-sub-window : (t : ℕ) → window-lts.Need-sub-window (calls t) (window-at t) window.Post
 window-sub-window t c = let r = c .before .before .before .before .before .before .before .before .before .pre .1 in omega (arith, r .room)
@@ -60,78 +61,145 @@ window-part-window-start t c = let r = c .before .before .before .before .before
 
 window-window-requires : (t : ℕ) → window-lts.Need-window-requires (calls t) (window-at t) window.Post
 window-window-requires t c κs =
-    let r = c .before .before .before .before .before .before .before .before .before .before .pre .1 in
-    let (a, b) = first-ready r (two t (c .before .before .before .before .before .before)) (c .before .before .before .before .before .before .first-part .ensures)
-    (c .before .before .before .before .step .ensures) (omega arith) in
-    (omega (arith, a, c .before .before .before .before .before .before .before .before .before .before .pre .0), b)
+    let at-step = c .before .before .before .before in
+    let at-split = at-step .before .before in
+    let start = at-split .before .before .before .before in
+    let r = start .pre .1 in
+    let (a, b) = first-ready r (two t at-split) (at-split .first-part .ensures)
+    (at-step .step .ensures) (omega arith) in
+    (omega (arith, a, start .pre .0), b)
 
 window-add-step : (t : ℕ) → window-lts.Need-add-step (calls t) (window-at t) window.Post
-window-add-step t c = let r = c .before .before .before .before .before .before .before .before .before .before .before .before .before .before .before .before .pre .1 in let e = c .before .before .before .before .before .before .before .before .before .before .before .before .first-part .ensures in let s = shares (c .before .before .before .before .before .before .before .before .before .before .before .before .before .before .before .before .args .p) (c .before .before .before .before .before .before .before .before .before .before .before .before .before .before .before .before .args .w .events) (omega (arith, r .some)) (r .share) in omega (arith, r .much)
+window-add-step t c =
+    let at-split = c .before .before .before .before .before .before .before .before .before .before .before .before in
+    let start = at-split .before .before .before .before in
+    let r = start .pre .1 in
+    let e = at-split .first-part .ensures in
+    let s = shares (start .args .p) (start .args .w .events) (omega (arith, r .some)) (r .share) in
+    omega (arith, r .much)
 
 window-sub-step : (t : ℕ) → window-lts.Need-sub-step (calls t) (window-at t) window.Post
-window-sub-step t c = let r = c .before .before .before .before .before .before .before .before .before .before .before .before .before .before .before .before .pre .1 in let e = c .before .before .before .before .before .before .before .before .before .before .before .before .first-part .ensures in let s = shares (c .before .before .before .before .before .before .before .before .before .before .before .before .before .before .before .before .args .p) (c .before .before .before .before .before .before .before .before .before .before .before .before .before .before .before .before .args .w .events) (omega (arith, r .some)) (r .share) in omega arith
+window-sub-step t c =
+    let at-split = c .before .before .before .before .before .before .before .before .before .before .before .before in
+    let start = at-split .before .before .before .before in
+    let r = start .pre .1 in
+    let e = at-split .first-part .ensures in
+    let s = shares (start .args .p) (start .args .w .events) (omega (arith, r .some)) (r .share) in
+    omega arith
 
 window-step-requires-2 : (t : ℕ) → window-lts.Need-step-requires-2 (calls t) (window-at t) window.Post
 window-step-requires-2 t c κs =
     let r = c .before .before .before .before .before .before .before .before .before .before .before .before .before .before .before .before .before .pre .1 in
     let e = c .before .before .before .before .before .before .before .before .before .before .before .before .before .first-part .ensures in
-    let s = shares (c .before .before .before .before .before .before .before .before .before .before .before .before .before .before .before .before .before .args .p) (c .before .before .before .before .before .before .before .before .before .before .before .before .before .before .before .before .before .args .w .events) (two t (c .before .before .before .before .before .before .before .before .before .before .before .before .before)) (r .share) in
-    step-ready r (c .before .before .before .before .before .before .before .before .before .before .before .before .before .before .before .before .before .args .w .at + c .before .before .before .before .before .before .before .before .before .before .before .before .before .first-part .result) (c .before .before .before .before .before .before .before .before .before .before .before .before .before .before .before .before .before .args .w .events - c .before .before .before .before .before .before .before .before .before .before .before .before .before .first-part .result) _ (omega arith) (omega arith) (omega arith) (omega arith)
+    let s = shares (c .before .before .before .before .before .before .before .before .before .before .before .before .before .before .before .before .before .args .p)
+    (c .before .before .before .before .before .before .before .before .before .before .before .before .before .before .before .before .before .args .w .events)
+    (two t (c .before .before .before .before .before .before .before .before .before .before .before .before .before))
+    (r .share) in
+    step-ready r (c .before .before .before .before .before .before .before .before .before .before .before .before .before .before .before .before .before .args .w .at +
+    c .before .before .before .before .before .before .before .before .before .before .before .before .before .first-part .result)
+    (c .before .before .before .before .before .before .before .before .before .before .before .before .before .before .before .before .before .args .w .events -
+    c .before .before .before .before .before .before .before .before .before .before .before .before .before .first-part .result)
+    _ (omega arith) (omega arith) (omega arith) (omega arith)
     (area-kept r (two t (c .before .before .before .before .before .before .before .before .before .before .before .before .before)) e
     (c .before .before .before .before .before .before .before .before .before .before .before .step .ensures) (omega arith)
     (c .before .before .before .before .before .before .window .last .1 .1 .1 .0))
 
 window-mul-window-2 : (t : ℕ) → window-lts.Need-mul-window-2 (calls t) (window-at t) window.Post
-window-mul-window-2 t c = let r = c .before .before .before .before .before .before .before .before .before .before .before .before .before .before .before .before .before .before .before .before .before .pre .1 in omega (arith, r .much)
+window-mul-window-2 t c =
+    let start = c .before .before .before .before .before .before .before .before .before .before .before .before .before .before .before .before .before .before .before .before .before
+    in
+    let r = start .pre .1 in
+    omega (arith, r .much)
 
 window-sub-window-2 : (t : ℕ) → window-lts.Need-sub-window-2 (calls t) (window-at t) window.Post
-window-sub-window-2 t c = let r = c .before .before .before .before .before .before .before .before .before .before .before .before .before .before .before .before .before .before .before .before .before .pre .1 in omega (arith, r .room)
+window-sub-window-2 t c =
+    let start = c .before .before .before .before .before .before .before .before .before .before .before .before .before .before .before .before .before .before .before .before .before
+    in
+    let r = start .pre .1 in
+    omega (arith, r .room)
 
 window-part-window-start-2 : (t : ℕ) → window-lts.Need-part-window-start-2 (calls t) (window-at t) window.Post
-window-part-window-start-2 t c = let r = c .before .before .before .before .before .before .before .before .before .before .before .before .before .before .before .before .before .before .before .before .before .pre .1 in omega (arith, r .room)
+window-part-window-start-2 t c =
+    let start = c .before .before .before .before .before .before .before .before .before .before .before .before .before .before .before .before .before .before .before .before .before
+    in
+    let r = start .pre .1 in
+    omega (arith, r .room)
 
 window-window-requires-2 : (t : ℕ) → window-lts.Need-window-requires-2 (calls t) (window-at t) window.Post
 window-window-requires-2 t c κs =
-    let r = c .before .before .before .before .before .before .before .before .before .before .before .before .before .before .before .before .before .before .before .before .before .before .pre .1 in
-    let f = area-kept r (two t (c .before .before .before .before .before .before .before .before .before .before .before .before .before .before .before .before .before .before)) (c .before .before .before .before .before .before .before .before .before .before .before .before .before .before .before .before .before .before .first-part .ensures) (c .before .before .before .before .before .before .before .before .before .before .before .before .before .before .before .before .step .ensures) (omega arith) (c .before .before .before .before .before .before .before .before .before .before .before .window .last .1 .1 .1 .0) in
-    let (a, b) = second-ready r (two t (c .before .before .before .before .before .before .before .before .before .before .before .before .before .before .before .before .before .before)) (c .before .before .before .before .before .before .before .before .before .before .before .before .before .before .before .before .before .before .first-part .ensures) (c .before .before .before .before .before .before .before .before .before .before .before .before .before .before .before .before .step .ensures) (omega arith) f (c .before .before .before .before .step2 .ensures) (omega arith) (c .before .before .before .before .before .before .before .before .before .before .before .window .last .1 .1 .0) (omega arith) in
-    (omega (arith, a, c .before .before .before .before .before .before .before .before .before .before .before .before .before .before .before .before .before .before .before .before .before .before .pre .0), b)
+    let r = c .before .before .before .before .before .before .before .before .before .before .before .before .before .before .before .before .before .before .before .before .before .before .pre .1
+    in
+    let f = area-kept r (two t (c .before .before .before .before .before .before .before .before .before .before .before .before .before .before .before .before .before .before))
+    (c .before .before .before .before .before .before .before .before .before .before .before .before .before .before .before .before .before .before .first-part .ensures)
+    (c .before .before .before .before .before .before .before .before .before .before .before .before .before .before .before .before .step .ensures)
+    (omega arith) (c .before .before .before .before .before .before .before .before .before .before .before .window .last .1 .1 .1 .0)
+    in
+    let (a, b) = second-ready r (two t (c .before .before .before .before .before .before .before .before .before .before .before .before .before .before .before .before .before .before))
+    (c .before .before .before .before .before .before .before .before .before .before .before .before .before .before .before .before .before .before .first-part .ensures)
+    (c .before .before .before .before .before .before .before .before .before .before .before .before .before .before .before .before .step .ensures)
+    (omega arith) f (c .before .before .before .before .step2 .ensures) (omega arith) (c .before .before .before .before .before .before .before .before .before .before .before .window .last .1 .1 .0)
+    (omega arith) in (
+      omega (arith, a, c .before .before .before .before .before .before .before .before .before .before .before .before .before .before .before .before .before .before .before .before .before .before .pre .0),
+      b,
+    )
 
 window-add-result : (t : ℕ) → window-lts.Need-add-result (calls t) (window-at t) window.Post
 window-add-result t c =
-    let r = c .before .before .before .before .before .before .before .before .before .before .before .before .before .before .before .before .before .before .before .before .before .before .before .before .before .before .before .before .pre .1 in
-    let e = c .before .before .before .before .before .before .before .before .before .before .before .before .before .before .before .before .before .before .before .before .before .before .before .before .first-part .ensures in
-    let s = shares (c .before .before .before .before .before .before .before .before .before .before .before .before .before .before .before .before .before .before .before .before .before .before .before .before .before .before .before .before .args .p) (c .before .before .before .before .before .before .before .before .before .before .before .before .before .before .before .before .before .before .before .before .before .before .before .before .before .before .before .before .args .w .events) (two t (c .before .before .before .before .before .before .before .before .before .before .before .before .before .before .before .before .before .before .before .before .before .before .before .before)) (r .share) in
-    let a = c .before .before .before .before .before .before .before .before .before .before .before .before .before .before .before .before .before .before .before .before .before .before .step .ensures .events in
-    let b = c .before .before .before .before .before .before .before .before .before .before .step2 .ensures .events in
+    let at-window2 = c .before .before .before .before .before in
+    let at-step2 = at-window2 .before .before .before .before .before in
+    let at-window = at-step2 .before .before .before .before .before .before .before in
+    let at-step = at-window .before .before .before .before .before in
+    let at-split = at-step .before .before in
+    let start = at-split .before .before .before .before in
+    let r = start .pre .1 in
+    let e = at-split .first-part .ensures in
+    let s = shares (start .args .p) (start .args .w .events) (two t at-split) (r .share) in
+    let a = at-step .step .ensures .events in
+    let b = at-step2 .step2 .ensures .events in
     omega (
       arith,
       area-nodes (r .area) (r .some),
-      c .before .before .before .before .before .window2 .ensures .few,
-      c .before .before .before .before .before .before .before .before .before .before .before .before .before .before .before .before .before .window .ensures .few,
+      at-window2 .window2 .ensures .few,
+      at-window .window .ensures .few,
       r .much,
     )
 
 window-add-result-2 : (t : ℕ) → window-lts.Need-add-result-2 (calls t) (window-at t) window.Post
 window-add-result-2 t c =
-    let r = c .before .before .before .before .before .before .before .before .before .before .before .before .before .before .before .before .before .before .before .before .before .before .before .before .before .before .before .before .pre .1 in
-    let e = c .before .before .before .before .before .before .before .before .before .before .before .before .before .before .before .before .before .before .before .before .before .before .before .before .first-part .ensures in
-    let s = shares (c .before .before .before .before .before .before .before .before .before .before .before .before .before .before .before .before .before .before .before .before .before .before .before .before .before .before .before .before .args .p) (c .before .before .before .before .before .before .before .before .before .before .before .before .before .before .before .before .before .before .before .before .before .before .before .before .before .before .before .before .args .w .events) (two t (c .before .before .before .before .before .before .before .before .before .before .before .before .before .before .before .before .before .before .before .before .before .before .before .before)) (r .share) in
-    let a = c .before .before .before .before .before .before .before .before .before .before .before .before .before .before .before .before .before .before .before .before .before .before .step .ensures .events in
-    let b = c .before .before .before .before .before .before .before .before .before .before .step2 .ensures .events in
+    let at-window2 = c .before .before .before .before .before in
+    let at-step2 = at-window2 .before .before .before .before .before in
+    let at-window = at-step2 .before .before .before .before .before .before .before in
+    let at-step = at-window .before .before .before .before .before in
+    let at-split = at-step .before .before in
+    let start = at-split .before .before .before .before in
+    let r = start .pre .1 in
+    let e = at-split .first-part .ensures in
+    let s = shares (start .args .p) (start .args .w .events) (two t at-split) (r .share) in
+    let a = at-step .step .ensures .events in
+    let b = at-step2 .step2 .ensures .events in
     omega (
       arith,
       area-nodes (r .area) (r .some),
-      c .before .before .before .before .before .window2 .ensures .few,
-      c .before .before .before .before .before .before .before .before .before .before .before .before .before .before .before .before .before .window .ensures .few,
+      at-window2 .window2 .ensures .few,
+      at-window .window .ensures .few,
       r .much,
     )
 
 window-returns-2 : (t : ℕ) → window-lts.Need-returns-2 (calls t) (window-at t) window.Post
 window-returns-2 t c =
-    let r = c .before .before .before .before .before .before .before .before .before .before .before .before .before .before .before .before .before .before .before .before .before .before .before .before .before .before .before .before .pre .1 in
-    let f = area-kept r (two t (c .before .before .before .before .before .before .before .before .before .before .before .before .before .before .before .before .before .before .before .before .before .before .before .before)) (c .before .before .before .before .before .before .before .before .before .before .before .before .before .before .before .before .before .before .before .before .before .before .before .before .first-part .ensures) (c .before .before .before .before .before .before .before .before .before .before .before .before .before .before .before .before .before .before .before .before .before .before .step .ensures) (omega arith) (c .before .before .before .before .before .before .before .before .before .before .before .before .before .before .before .before .before .window .last .1 .1 .1 .0) in
-    done-two r (two t (c .before .before .before .before .before .before .before .before .before .before .before .before .before .before .before .before .before .before .before .before .before .before .before .before)) (c .before .before .before .before .before .before .before .before .before .before .before .before .before .before .before .before .before .before .before .before .before .before .before .before .first-part .ensures) (c .before .before .before .before .before .before .before .before .before .before .before .before .before .before .before .before .before .before .before .before .before .before .step .ensures) (omega arith) f (c .before .before .before .before .before .before .before .before .before .before .step2 .ensures) (omega arith) (c .before .before .before .before .before .before .before .before .before .before .before .before .before .before .before .before .before .window .ensures) (c .before .before .before .before .before .window2 .ensures)
+    let r = c .before .before .before .before .before .before .before .before .before .before .before .before .before .before .before .before .before .before .before .before .before .before .before .before .before .before .before .before .pre .1
+    in
+    let f = area-kept r (two t (c .before .before .before .before .before .before .before .before .before .before .before .before .before .before .before .before .before .before .before .before .before .before .before .before))
+    (c .before .before .before .before .before .before .before .before .before .before .before .before .before .before .before .before .before .before .before .before .before .before .before .before .first-part .ensures)
+    (c .before .before .before .before .before .before .before .before .before .before .before .before .before .before .before .before .before .before .before .before .before .before .step .ensures)
+    (omega arith) (c .before .before .before .before .before .before .before .before .before .before .before .before .before .before .before .before .before .window .last .1 .1 .1 .0)
+    in
+    done-two r (two t (c .before .before .before .before .before .before .before .before .before .before .before .before .before .before .before .before .before .before .before .before .before .before .before .before))
+    (c .before .before .before .before .before .before .before .before .before .before .before .before .before .before .before .before .before .before .before .before .before .before .before .before .first-part .ensures)
+    (c .before .before .before .before .before .before .before .before .before .before .before .before .before .before .before .before .before .before .before .before .before .before .step .ensures)
+    (omega arith) f (c .before .before .before .before .before .before .before .before .before .before .step2 .ensures)
+    (omega arith) (c .before .before .before .before .before .before .before .before .before .before .before .before .before .before .before .before .before .window .ensures)
+    (c .before .before .before .before .before .window2 .ensures)
 
 pub +window-spec : {M : Type 1} → statement M
 +window-spec = close μ-window λ t. window-lts.spec (calls t) (window-at t) window.Post
