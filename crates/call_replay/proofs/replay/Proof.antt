@@ -42,7 +42,8 @@ slice-aggregate-replay-list : tie.Need-slice-aggregate-replay-list
 slice-aggregate-replay-list c = let g = grants (c .before .before .before .before .check .ensures) (zero (c .before .before)) in sym (length-take-le _ _ (g .a-long))
 
 slice-aggregate-replay-list-2 : tie.Need-slice-aggregate-replay-list-2
-slice-aggregate-replay-list-2 c = let g = grants (c .before .before .before .before .before .check .ensures) (zero (c .before .before .before)) in sym (length-take-le _ _ (g .b-long))
+slice-aggregate-replay-list-2 c = let g = grants (c .before .before .before .before .before .check .ensures)
+    (zero (c .before .before .before)) in sym (length-take-le _ _ (g .b-long))
 
 slice-aggregate-replay-list-3 : tie.Need-slice-aggregate-replay-list-3
 slice-aggregate-replay-list-3 c = let g = grants (c .before .before .before .before .before .before .check .ensures)
@@ -69,7 +70,8 @@ count-queries-requires : tie.Need-count-queries-requires
 count-queries-requires c κs = count-need
     (c .before .before .before .before .before .before .before .before .before .before .before .before .before .before .before .check .ensures)
     (zero (c .before .before .before .before .before .before .before .before .before .before .before .before .before)) _
-    (c .before .before .before .before .before .before .before .before .before .before .before .before .required .ensures) (c .before .before .before .before .before .replay-list .ensures)
+    (c .before .before .before .before .before .before .before .before .before .before .before .before .required .ensures)
+    (c .before .before .before .before .before .replay-list .ensures)
 
 clear-requires : tie.Need-clear-requires
 clear-requires c κs = let h = work-need
@@ -79,10 +81,14 @@ clear-requires c κs = let h = work-need
 
 returns-2 : tie.Need-returns-2
 returns-2 c =
-    let k = c .before .before .before .before .before .before .before .before .before .before .before .before .before .before .before .before .before .before .before .before .check .ensures in
-    let need = c .before .before .before .before .before .before .before .before .before .before .before .before .before .before .before .before .before .required .ensures in
+    let k = c .before .before .before .before .before .before .before .before .before .before .before .before .before .before .before .before .before .before .before .before .check .ensures
+    in
+    let need = c .before .before .before .before .before .before .before .before .before .before .before .before .before .before .before .before .before .required .ensures
+    in
     let d = c .before .before .before .before .before .before .before .before .before .before .replay-list in
-    replay-is k (zero (c .before .before .before .before .before .before .before .before .before .before .before .before .before .before .before .before .before .before)) _ need (d .ensures) (d .last .1 .1 .1 .1 .1 .1 .1 .0) _ (c .before .before .before .before .count-queries .ensures) (omega arith) (c .before .before .clear .ensures)
+    replay-is k (zero (c .before .before .before .before .before .before .before .before .before .before .before .before .before .before .before .before .before .before))
+    _ need (d .ensures) (d .last .1 .1 .1 .1 .1 .1 .1 .0) _ (c .before .before .before .before .count-queries .ensures)
+    (omega arith) (c .before .before .clear .ensures)
 
 pub replay-spec : {M : Type 1} → statement M
 replay-spec =

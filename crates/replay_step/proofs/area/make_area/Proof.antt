@@ -24,7 +24,11 @@ put-field-requires-2 c κs = let (_, a, b) = fields-need
     (c .before .before .before .put-field .last .0) (omega arith) in (a, omega arith, b)
 
 returns : tie.Need-returns
-returns c = area-made (c .before .before .before .before .before .before .before .before .before .before .before .before .before .before .before .before .before .before .before .before .before .pre) (c .before .before .before .before .before .before .before .before .before .before .before .before .before .before .before .before .before .before .reduce .ensures) (omega arith) (c .before .before .before .before .before .before .before .before .before .before .before .before .before .before .put-map .ensures) (c .before .before .before .before .before .before .before .before .before .before .copy-words .ensures) (c .before .before .before .before .before .before .put-field .ensures) (c .before .before .put-field2 .ensures)
+returns c = area-made (c .before .before .before .before .before .before .before .before .before .before .before .before .before .before .before .before .before .before .before .before .before .pre)
+    (c .before .before .before .before .before .before .before .before .before .before .before .before .before .before .before .before .before .before .reduce .ensures)
+    (omega arith) (c .before .before .before .before .before .before .before .before .before .before .before .before .before .before .put-map .ensures)
+    (c .before .before .before .before .before .before .before .before .before .before .copy-words .ensures)
+    (c .before .before .before .before .before .before .put-field .ensures) (c .before .before .put-field2 .ensures)
 
 pub make-area-spec : {M : Type 1} → statement M
 make-area-spec =
