@@ -1,148 +1,99 @@
-// Runs contract on vectors, which it reads, and on random graphs against a slow contraction. Prints counts.
-mod cases;
-mod graphs;
-mod random_graphs;
+// Runs contract on vectors, which it reads; on random graphs against a slow contraction; and at the limits: the full sizes, sizes of one more, tables of one entry less, and
+// the order of the refusals. Prints counts and replies.
+mod calls;
+mod limits;
 mod vectors;
 
-use crate::graphs::Graph;
 use crate::vectors::Text;
-use test_library::counts;
 use test_library::print;
-use test_library::random;
-use test_library::tables;
 use test_library::tables::Table;
-use test_slow_contraction::Small;
+use test_random::graphs;
+use test_slow_contraction::contraction;
 
-// The slow contraction of a graph.
-fn slow_small(g: &Graph, map: &mut Table, out: &mut Table) -> Small {
-    let mut t = [0u32; 512];
-    graphs::edge_table(&mut t, g);
-    let mut list = [0u32; 512];
-    graphs::active_table(&mut list, g);
-    test_slow_contraction::contraction(
-        graphs::nodes(g),
-        graphs::edges(g),
-        &t,
-        graphs::actives(g),
-        &list,
-        map,
-        out,
-    )
+// Counts vector i: whether the call gives it, and whether the slow contraction gives what the call does.
+fn add_vector(t: &mut Table, text: &Text, i: usize) {
+    let mut l = [65000u16; 32776];
+    vectors::graph(&mut l, text, i);
+    let mut want = [0u16; 32776];
+    let r = vectors::wanted(&mut want, text, i);
+    let right = calls::agrees(&l, r, &want);
+    let mut slow = [0u16; 32776];
+    let s = contraction::reply(&mut slow, &l);
+    let slow_right = calls::agrees(&l, s, &slow);
+    print::add(
+        t,
+        [
+            1,
+            !right as usize,
+            !slow_right as usize,
+            0,
+            0,
+            0,
+            0,
+            0,
+            0,
+            0,
+            0,
+            0,
+            0,
+            0,
+            0,
+            0,
+        ],
+    );
 }
 
-// Whether the call gives vector i.
-fn is_right(text: &Text, i: usize) -> bool {
-    let g = vectors::graph(text, i);
-    let mut map = [0u32; 512];
-    let mut out = [0u32; 512];
-    let small = vectors::small(text, i, &mut map, &mut out);
-    cases::agrees(&g, cases::wanted([0usize; 4], small), &map, &out, i)
-}
-
-fn equal_tables(a: &Table, b: &Table) -> bool {
-    for i in 0..512 {
-        if a[i] != b[i] {
-            return false;
-        }
-    }
-    true
-}
-
-fn equal_sizes(a: Small, b: Small) -> bool {
-    if a.nodes != b.nodes {
-        return false;
-    }
-    a.edges == b.edges
-}
-
-// Whether the slow contraction gives vector i. Entries past the sizes are 0 in both.
-fn is_slow_right(text: &Text, i: usize) -> bool {
-    let g = vectors::graph(text, i);
-    let mut map = [0u32; 512];
-    let mut out = [0u32; 512];
-    let small = vectors::small(text, i, &mut map, &mut out);
-    let mut slow_map = [0u32; 512];
-    let mut slow_out = [0u32; 512];
-    let r = slow_small(&g, &mut slow_map, &mut slow_out);
-    counts::both(
-        equal_sizes(small, r),
-        counts::both(equal_tables(&map, &slow_map), equal_tables(&out, &slow_out)),
-    )
-}
-
-// How many vectors the call does not give.
-fn vectors_wrong(text: &Text, count: usize) -> usize {
-    let mut wrong: usize = 0;
+fn add_vectors(t: &mut Table) {
+    let mut text = [0u8; 4680];
+    let count = vectors::read(&mut text);
     for i in 0..count {
-        wrong = counts::counted(wrong, !is_right(text, i));
+        add_vector(t, &text, i);
     }
-    wrong
-}
-
-// How many vectors the slow contraction does not give.
-fn slow_wrong(text: &Text, count: usize) -> usize {
-    let mut wrong: usize = 0;
-    for i in 0..count {
-        wrong = counts::counted(wrong, !is_slow_right(text, i));
-    }
-    wrong
-}
-
-// Where a refusal is counted: by 4, or by 8.
-fn line_of(code: usize) -> usize {
-    if code == 4 {
-        return 6;
-    }
-    7
 }
 
 // Counts a random graph: all, those on which the call and the slow contraction disagree, those with a kept class without an active node, and those that are refused.
-fn run_graph(t: &mut Table, g: &Graph, seed: usize) {
-    let fault = graphs::first_fault(g);
-    let mut map = [0u32; 512];
-    let mut out = [0u32; 512];
-    let small = slow_small(g, &mut map, &mut out);
-    tables::add(t, 3, 1);
-    if !cases::agrees(g, cases::wanted(fault, small), &map, &out, seed) {
-        tables::add(t, 4, 1);
-    }
-    if fault[0] > 0 {
-        tables::add(t, line_of(fault[0]), 1);
-    } else {
-        tables::add(t, 5, counts::least(small.idle, 1));
+fn add_random(t: &mut Table, s: usize) {
+    let mut l = [65000u16; 32776];
+    graphs::make(&mut l, s);
+    let mut want = [0u16; 32776];
+    let r = contraction::reply(&mut want, &l);
+    let right = calls::agrees(&l, r, &want);
+    let idle = (r[4] > 0) as usize;
+    let by4 = (r[0] == 4) as usize;
+    let by8 = (r[0] == 8) as usize;
+    print::add(
+        t,
+        [
+            0,
+            0,
+            0,
+            1,
+            !right as usize,
+            idle,
+            by4,
+            by8,
+            0,
+            0,
+            0,
+            0,
+            0,
+            0,
+            0,
+            0,
+        ],
+    );
+}
+
+fn add_all_random(t: &mut Table) {
+    for s in 0..5600 {
+        add_random(t, s);
     }
 }
 
-// The random graph i, of each kind in turn, and every eighth with a fault.
-fn random_graph(i: usize, s: usize) -> Graph {
-    let mut g = random_graphs::make(i % 7, s);
-    if i % 8 == 7 {
-        random_graphs::spoil(&mut g, s);
-    }
-    g
-}
-
-fn put_random(t: &mut Table) {
-    let mut s: usize = 1;
-    for i in 0..5600 {
-        s = random::next(s);
-        let g = random_graph(i, s);
-        run_graph(t, &g, i);
-    }
-}
-
-fn put_vectors(t: &mut Table) {
-    let mut text = [0u8; 4680];
-    let count = vectors::read(&mut text);
-    tables::put(t, 0, count);
-    tables::put(t, 1, vectors_wrong(&text, count));
-    tables::put(t, 2, slow_wrong(&text, count));
-}
-
-fn main() {
+fn report_graphs() {
     let mut t = [0u32; 512];
-    put_vectors(&mut t);
-    put_random(&mut t);
+    add_vectors(&mut t);
+    add_all_random(&mut t);
     print::report(
         b"\
 vectors: #\n\
@@ -156,4 +107,46 @@ cases refused by 8: #\n\
 ",
         &t,
     );
+}
+
+fn report_limits() {
+    let mut t = [0u32; 512];
+    print::add(&mut t, limits::refusals());
+    print::report(
+        b"\
+least lengths, reply: #\n\
+of 7 tables one entry short, refused by 2 with all entries kept: #\n\
+faults of size, length, edge and entry at once, reply: #\n\
+of length, edge and entry: #\n\
+of edge and entry: #\n\
+of entry: #\n\
+4097 nodes, reply: #\n\
+8193 edges, reply: #\n\
+8193 entries, reply: #\n\
+nothing at all, reply: #\n\
+",
+        &t,
+    );
+}
+
+fn report_full() {
+    let mut t = [0u32; 512];
+    print::add(&mut t, limits::full());
+    print::report(
+        b"\
+4096 nodes, 8192 edges, 8192 entries, reply: #\n\
+nodes: #\n\
+edges: #\n\
+map entries right: #\n\
+ends of edges right: #\n\
+words 0: #\n\
+",
+        &t,
+    );
+}
+
+fn main() {
+    report_graphs();
+    report_limits();
+    report_full();
 }

@@ -1,12 +1,10 @@
 // Contractions made by a slow program before any code of the product; they stand on standard input. A line has 77 numbers, where the character 0 is 0, and each later one in
 // ASCII is one more: the nodes n, the edges m and the active entries k; the nodes and the edges of the contraction; then 16 first ends and 16 second ends of the edges,
 // 9 entries and 9 numbers of the map, 11 first ends and 11 second ends of the edges out, of which as many count as the sizes say.
-use crate::graphs;
-use crate::graphs::Graph;
 use libc::STDIN_FILENO;
-use test_library::tables;
-use test_library::tables::Table;
-use test_slow_contraction::Small;
+use test_library::calls::Reply;
+use test_library::lists;
+use test_library::lists::List;
 
 pub(crate) type Text = [u8; 4680];
 
@@ -24,48 +22,27 @@ fn number(text: &Text, i: usize, j: usize) -> usize {
     wide(text[(i % 60 * 78 + j % 78) % 4680]) % 48
 }
 
+// Copies numbers of line i, from this one on, into a table of the list.
+fn copy(l: &mut List, table: usize, text: &Text, i: usize, from: usize, count: usize) {
+    for j in 0..count {
+        let v = number(text, i, from % 78 + j % 78);
+        lists::set(l, table, j, v);
+    }
+}
+
 // The graph of line i.
-pub(crate) fn graph(text: &Text, i: usize) -> Graph {
-    let mut g = [65000u16; 123];
-    graphs::set_sizes(
-        &mut g,
-        number(text, i, 0),
-        number(text, i, 1),
-        number(text, i, 2),
-    );
-    for e in 0..16 {
-        graphs::set_edge(&mut g, e, number(text, i, 5 + e), number(text, i, 21 + e));
-    }
-    for j in 0..9 {
-        graphs::set_active(&mut g, j, number(text, i, 37 + j));
-    }
-    g
+pub(crate) fn graph(l: &mut List, text: &Text, i: usize) {
+    let n = number(text, i, 0);
+    lists::set_sizes(l, n, number(text, i, 1), number(text, i, 2), 0);
+    copy(l, lists::A, text, i, 5, 16);
+    copy(l, lists::B, text, i, 21, 16);
+    copy(l, lists::X, text, i, 37, 9);
 }
 
-// The contraction's map and edges of line i.
-fn fill_map(map: &mut Table, text: &Text, i: usize) {
-    let k = number(text, i, 2);
-    for j in 0..k {
-        tables::put(map, j, number(text, i, 46 + j % 9));
-    }
-}
-
-fn fill_edges(out: &mut Table, text: &Text, i: usize) {
-    let m = number(text, i, 4);
-    for j in 0..m {
-        let u = number(text, i, 55 + j % 11);
-        let v = number(text, i, 66 + j % 11);
-        tables::put(out, j, test_slow_graphs::edge(u, v));
-    }
-}
-
-// The contraction of line i.
-pub(crate) fn small(text: &Text, i: usize, map: &mut Table, out: &mut Table) -> Small {
-    fill_map(map, text, i);
-    fill_edges(out, text, i);
-    Small {
-        nodes: number(text, i, 3),
-        edges: number(text, i, 4),
-        idle: 0,
-    }
+// The result of line i.
+pub(crate) fn wanted(want: &mut List, text: &Text, i: usize) -> Reply {
+    copy(want, lists::X, text, i, 46, 9);
+    copy(want, lists::A, text, i, 55, 11);
+    copy(want, lists::B, text, i, 66, 11);
+    [0, 0, number(text, i, 3), number(text, i, 4), 0, 0, 0, 0]
 }

@@ -1,42 +1,30 @@
-// Sums and differences that stay in bounds.
-
-// One more, up to a billion.
-pub fn more(count: usize) -> usize {
-    if count < 1000000000 {
-        return count + 1;
-    }
-    count
-}
-
-// The count, with one more where it holds.
-pub fn counted(count: usize, holds: bool) -> usize {
-    if holds {
-        return more(count);
-    }
-    count
-}
+// Sums, differences and bounds.
+ghost use Prim.Native.Nat.{_≤_};
 
 pub fn plus(x: usize, y: usize) -> usize {
-    x % 1000000000 + y % 1000000000
+    x % 1073741824 + y % 1073741824
 }
 
-pub fn minus(x: usize, y: usize) -> usize {
+// The difference, or 0 where y is larger.
+pub fn minus(x: usize, y: usize) -> usize
+    ensures { λ r. ⌜ r ≤ x ⌝ }
+{
     if y < x {
         return x - y;
     }
     0
 }
 
-pub fn least(x: usize, y: usize) -> usize {
+// The count, with one more where it holds.
+pub fn counted(count: usize, holds: bool) -> usize {
+    count % 1073741824 + holds as usize % 2
+}
+
+pub fn least(x: usize, y: usize) -> usize
+    ensures { λ r. ⌜ r ≤ y ⌝ }
+{
     if x < y {
         return x;
     }
     y
-}
-
-pub fn both(x: bool, y: bool) -> bool {
-    if x {
-        return y;
-    }
-    false
 }

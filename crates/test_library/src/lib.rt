@@ -1,5 +1,8 @@
-// What the test programs and the slow versions share: tables by which entries are read and written, counts, random numbers, and the report's print. Nothing here calls the product.
+// Internal, for the tests alone: what the test programs and the slow versions share: tables whose entries are read and written, lists, counts, random numbers, what calls are lent
+// and what came of them, and the report. Nothing here calls the product.
+pub mod calls;
 pub mod counts;
+pub mod lists;
 pub mod print;
 pub mod random;
 pub mod tables;

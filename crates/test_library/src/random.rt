@@ -16,17 +16,9 @@ pub fn round(x: usize, n: usize) -> usize {
     x % n
 }
 
-// A number below n, or 0.
-pub fn below(s: usize, n: usize) -> usize {
-    round(next(s) / 65536, n)
-}
-
-// A number for place i of the table t.
-pub fn mix(s: usize, t: usize, i: usize) -> usize {
-    next(next(s % 2147483648 + t % 16 * 7919) + i % 4096 * 104729)
-}
-
 // A number below n for place i of the table t, or 0.
 pub fn at(s: usize, t: usize, i: usize, n: usize) -> usize {
-    below(mix(s, t, i), n)
+    let a = next(s % 2147483648 + t % 16 * 7919);
+    let b = next((a ^ (a / 65536)) % 2147483648 + i % 8192 * 104729);
+    round(next(b ^ (b / 65536)) / 65536, n)
 }

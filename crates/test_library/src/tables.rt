@@ -1,31 +1,27 @@
-// Tables of 512 numbers. The bounds are checked here alone, so that no caller has to know them.
+// Tables of numbers and of marks. An index goes round at the end, so that no caller has to know the bounds.
 
+// Numbers of at most 512 nodes, or counts of a report.
 pub type Table = [u32; 512];
+
+// A mark for each segment, or for each junction.
+pub type Marks = [bool; 8192];
 
 fn wide(v: u32) -> usize {
     v as usize
 }
 
-fn narrow(v: usize) -> u32 {
-    (v % 4294967296) as u32
-}
-
-// Entry i, or 0 past the end.
 pub fn get(t: &Table, i: usize) -> usize {
-    if i < 512 {
-        return wide(t[i]);
-    }
-    0
+    wide(t[i % 512])
 }
 
-// Sets entry i, or nothing past the end.
 pub fn put(t: &mut Table, i: usize, v: usize) {
-    if i < 512 {
-        t[i] = narrow(v);
-    }
+    t[i % 512] = (v % 4294967296) as u32;
 }
 
-// Adds to entry i.
-pub fn add(t: &mut Table, i: usize, more: usize) {
-    put(t, i, get(t, i) % 1000000000 + more % 1000000000);
+pub fn marked(t: &Marks, i: usize) -> bool {
+    t[i % 8192]
+}
+
+pub fn mark(t: &mut Marks, i: usize, to: bool) {
+    t[i % 8192] = to;
 }

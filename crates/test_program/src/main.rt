@@ -3,18 +3,34 @@ mod outputs;
 mod vectors;
 
 use test_library::print;
-use test_library::tables;
 
 fn main() {
-    let mut text = [0u8; 24576];
-    let length = vectors::read(&mut text);
-    let v = vectors::run_all(&text, length);
+    let v = vectors::read();
+    let lengths = outputs::lengths_refused();
+    let past = outputs::sizes_refused(1);
+    let within = outputs::sizes_refused(0);
     let mut t = [0u32; 512];
-    tables::put(&mut t, 0, v.count);
-    tables::put(&mut t, 1, v.wrong);
-    tables::put(&mut t, 2, outputs::lengths_refused());
-    tables::put(&mut t, 3, outputs::sizes_refused(1));
-    tables::put(&mut t, 4, outputs::sizes_refused(0));
+    print::add(
+        &mut t,
+        [
+            v[0],
+            v[1],
+            lengths,
+            past,
+            within,
+            0,
+            0,
+            0,
+            0,
+            0,
+            0,
+            0,
+            0,
+            0,
+            0,
+            0,
+        ],
+    );
     print::report(
         b"\
 vectors of the program: #\n\

@@ -1,39 +1,27 @@
 // Calls of the program's response, and the refusals that the program adds to those of the replay.
 use test_library::counts;
-ghost use Prim.Native.Nat.{_≤_};
 
-// The smaller of two numbers.
-fn capped(x: usize, most: usize) -> usize
-    ensures { λ r. ⌜ r ≤ most ⌝ }
-{
-    if x < most {
-        return x;
-    }
-    most
-}
+pub(crate) type Input = [u8; 5120];
+
+pub(crate) type Output = [u8; 2048];
 
 // The response to the first count bytes.
-pub(crate) fn respond(bytes: &[u8; 5120], count: usize, out: &mut [u8; 2048]) -> usize {
+pub(crate) fn respond(bytes: &Input, count: usize, out: &mut Output) -> usize {
     let s = &bytes[..];
-    let n = capped(count, s.len());
+    let n = counts::least(count, s.len());
     let mut work = [0u32; 16384];
     program_response::respond(&s[..n], &mut work, out)
 }
 
 // Whether the first count bytes are this line.
-fn is_line(out: &[u8; 2048], count: usize, line: &[u8]) -> bool {
+fn is_line(out: &Output, count: usize, line: &[u8]) -> bool {
     let n = line.len();
-    if n != count {
-        return false;
-    }
-    for j in 0..2048 {
-        if j < n {
-            if out[j] != line[j] {
-                return false;
-            }
+    for j in 0..n {
+        if out[j % 2048] != line[j] {
+            return false;
         }
     }
-    true
+    n == count
 }
 
 // Whether an input is refused so. Its sizes are these and the share 8, and zeros follow.
@@ -61,7 +49,7 @@ fn is_past(n: u8, m: u8, t: u8) -> bool {
     refused(n, m, t, 8, b"refused 10 at 0\n")
 }
 
-// How many of the three sizes are refused by 10 where one of them is at its limit, or past it by this, and the input ends after the sizes.
+// How many of the three sizes are refused by 10 where one of them is at its limit, or past it by one, and the input ends after the sizes.
 pub(crate) fn sizes_refused(past: u8) -> usize {
     let more = past % 2;
     let n = counts::counted(0, is_past(192 + more, 0, 0));

@@ -1,119 +1,168 @@
-// Runs replay on random lists, small and of some hundred events, against a slow replay. Prints counts.
-mod cases;
-mod random_lists;
+// Runs replay on random lists, small and of some hundred events, against a slow replay; on lists of the full sizes on rings, where it shows too that the comparison notices a
+// fault; and at the limits. Prints counts and replies.
+mod calls;
+mod limits;
 
+use crate::calls::Bytes;
+use crate::calls::Work;
+use test_library::calls::Reply;
 use test_library::counts;
+use test_library::lists;
+use test_library::lists::List;
 use test_library::print;
 use test_library::random;
 use test_library::tables;
 use test_library::tables::Table;
-use test_slow_replay::Reply;
-use test_slow_replay::lists;
-use test_slow_replay::lists::List;
+use test_random::lists as random_lists;
+use test_slow_replay::replay;
 
-// The line of the report for a reply with this number.
-fn line_of(code: usize) -> usize {
-    if code == 0 {
-        return 2;
+// How many faults the comparison notices of so many, each put into the wanted answers alone.
+fn noticed(answers: &Bytes, want: &mut List, s: usize, planted: usize) -> usize {
+    let mut count: usize = 0;
+    for j in 0..planted {
+        let i = random::at(s, 7, j, 4096);
+        let v = lists::at(want, lists::A, i);
+        lists::set(want, lists::A, i, counts::plus(v, 1));
+        let wrong = test_library::calls::bytes_wrong(answers, want, lists::A, 4096, 4096);
+        count = counts::counted(count, wrong > 0);
+        lists::set(want, lists::A, i, v);
     }
-    code % 8 + 5
+    count
 }
 
-// Counts the answers of an accepted list.
-fn add_answers(count: &mut Table, answers: &Table, t: usize) {
-    for i in 0..t {
-        tables::add(count, 4 + tables::get(answers, i) % 4, 1);
+// Counts a list: all, those with the most events, those on which the call and the slow replay disagree, faults that are planted and noticed, answers and kept of those that are
+// accepted; and at 10 those that are accepted, and behind it those that are refused, by their number.
+fn add(
+    t: &mut Table,
+    w: Reply,
+    disagree: bool,
+    want: &List,
+    events: usize,
+    most: usize,
+    planted: usize,
+    noticed: usize,
+) {
+    let count = test_library::calls::written(w, events);
+    print::add(
+        t,
+        [
+            1,
+            (events == most) as usize,
+            disagree as usize,
+            planted,
+            noticed,
+            replay::tally(want, count, 0),
+            replay::tally(want, count, 1),
+            replay::tally(want, count, 2),
+            replay::tally(want, count, 3),
+            w[4],
+            0,
+            0,
+            0,
+            0,
+            0,
+            0,
+        ],
+    );
+    let line = counts::plus(10, w[0]);
+    tables::put(t, line, counts::plus(tables::get(t, line), 1));
+}
+
+// Runs the call and the slow replay on a list. Places is not 0 where it is on a ring.
+fn run(t: &mut Table, l: &List, places: usize, most: usize, planted: usize, work: &mut Work) {
+    let mut want = [0u16; 32776];
+    let w = replay::reply(&mut want, l, places);
+    let mut answers = [7u8; 4104];
+    let r = calls::run(l, test_library::calls::LONGER, &want, &mut answers, work);
+    let n = noticed(&answers, &mut want, places, planted);
+    let disagree = test_library::calls::differ(r, w) > 0;
+    add(
+        t,
+        w,
+        disagree,
+        &want,
+        lists::size(l, lists::X),
+        most,
+        planted,
+        n,
+    );
+}
+
+fn run_small(t: &mut Table, work: &mut Work) {
+    for s in 0..42000 {
+        let mut l = [65000u16; 32776];
+        random_lists::small(&mut l, s);
+        run(t, &l, 0, 12, 0, work);
     }
 }
 
-fn add_list(count: &mut Table, l: &List, want: Reply) {
-    tables::add(count, 0, 1);
-    let most = tables::get(count, 1);
-    tables::add(count, 1, counts::minus(lists::events(l), most));
-    tables::add(count, line_of(want[0]), 1);
-    tables::add(count, 3, want[2]);
-    tables::add(count, 8, want[4]);
-}
-
-// Counts a list, and whether the call agrees on it with the slow replay.
-fn run(count: &mut Table, l: &List, work: &mut [u32]) {
-    let mut answers = [0u32; 512];
-    let want = test_slow_replay::reply(&mut answers, l);
-    add_list(count, l, want);
-    if want[0] == 0 {
-        add_answers(count, &answers, lists::events(l));
-    }
-    if !cases::agrees(l, want, &answers, work) {
-        tables::add(count, 13, 1);
+fn run_large(t: &mut Table, work: &mut Work) {
+    for s in 0..21 {
+        let mut l = [65000u16; 32776];
+        random_lists::large(&mut l, s);
+        run(t, &l, 0, 512, 0, work);
     }
 }
 
-// The list i, of each kind in turn, and every third with a fault.
-fn small_list(i: usize, s: usize) -> List {
-    let mut l = random_lists::small(i / 3 % 6, s);
-    if i % 3 == 2 {
-        random_lists::spoil(&mut l, s);
-    }
-    l
-}
-
-fn run_small(count: &mut Table, l: &List) {
-    let mut work = [7u32; 5400];
-    run(count, l, &mut work);
-}
-
-fn small_lists(count: &mut Table) {
-    let mut s: usize = 1;
-    for i in 0..60000 {
-        s = random::next(s);
-        let l = small_list(i, s);
-        run_small(count, &l);
+// A path; a ring; a smaller ring; small ones with many segments side by side.
+fn places(i: usize) -> usize {
+    match i {
+        0 => 4096,
+        1 => 1500,
+        2 => 600,
+        3 => 64,
+        _ => 7,
     }
 }
 
-fn run_large(count: &mut Table, l: &List) {
-    let mut work = [7u32; 150000];
-    run(count, l, &mut work);
-}
-
-fn large_lists(count: &mut Table, n: usize) {
-    let mut s = n;
-    for i in 0..12 {
-        s = random::next(s);
-        let l = random_lists::make(i % 6, s, n, 512, 512);
-        run_large(count, &l);
+fn run_rings(t: &mut Table, work: &mut Work) {
+    for i in 0..5 {
+        let mut l = [65000u16; 32776];
+        random_lists::ring(&mut l, places(i), 4 + i * 2);
+        run(t, &l, places(i), 4096, 64, work);
     }
 }
 
-fn report(count: &Table) {
+fn report(t: &Table) {
     print::report(
         b"\
-random lists: #\n\
-most events of a list: #\n\
-accepted: #\n\
-queries: #\n\
+lists: #\n\
+of the most events: #\n\
+disagreements: #\n\
+answers changed on purpose: #\n\
+noticed: #\n\
 answers 0: #\n\
 answers 1: #\n\
 answers 2: #\n\
 opened or closed: #\n\
 kept: #\n\
-refused by 4: #\n\
-refused by 5: #\n\
-refused by 6: #\n\
-refused by 7: #\n\
-disagreements: #\n\
+accepted: #\n\
+refused by 1: #\n\
+by 2: #\n\
+by 3: #\n\
+by 4: #\n\
+by 5: #\n\
+by 6: #\n\
+by 7: #\n\
 ",
-        count,
+        t,
     );
 }
 
-fn main() {
+fn report_lists(work: &mut Work) {
     let mut small = [0u32; 512];
-    small_lists(&mut small);
+    run_small(&mut small, work);
     report(&small);
     let mut large = [0u32; 512];
-    large_lists(&mut large, 256);
-    large_lists(&mut large, 64);
-    large_lists(&mut large, 16);
+    run_large(&mut large, work);
     report(&large);
+    let mut rings = [0u32; 512];
+    run_rings(&mut rings, work);
+    report(&rings);
+}
+
+fn main() {
+    let mut work = [7u32; 1181992];
+    report_lists(&mut work);
+    limits::report(&mut work);
 }

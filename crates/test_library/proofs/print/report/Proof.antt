@@ -21,8 +21,8 @@ get-requires c κs = search needs
 print-decimal-requires : tie.Need-print-decimal-requires Inv-loop μ-loop
 print-decimal-requires c κs = search needs
 
-more-requires : tie.Need-more-requires Inv-loop μ-loop
-more-requires c κs = search needs
+plus-requires : tie.Need-plus-requires Inv-loop μ-loop
+plus-requires c κs = search needs
 
 shared-slice-read-t14 : tie.Need-shared-slice-read-t14 Inv-loop μ-loop
 shared-slice-read-t14 c = search needs
@@ -55,7 +55,7 @@ report-spec =
     shared-slice-read-if1
     get-requires
     print-decimal-requires
-    more-requires
+    plus-requires
     shared-slice-read-t14
     slice-aggregate-write-all
     write-all-requires

@@ -4,25 +4,22 @@ use Rattle.test_program.proofs.outputs.is_line.Statement.{statement}
 use Rattle.test_program.proofs.outputs.is_line.Tie as tie
 
 abbrev Inv-loop : tie.InvT-loop
-Inv-loop out count line n j₀ j = j ≤ 2048
+Inv-loop out count line n j₀ j = j ≤ n
 
 abbrev μ-loop : tie.MeasureT-loop
-μ-loop out count line n j₀ j = 2048 - j
-
-returns : tie.Need-returns Inv-loop μ-loop
-returns c = search needs
+μ-loop out count line n j₀ j = n - j
 
 loop-holds : tie.Need-loop-holds Inv-loop μ-loop
 loop-holds c = search needs
 
-element-copy-out-if3 : tie.Need-element-copy-out-if3 Inv-loop μ-loop
-element-copy-out-if3 c = search needs
+element-copy-out-if1 : tie.Need-element-copy-out-if1 Inv-loop μ-loop
+element-copy-out-if1 c = search needs
 
-shared-slice-read-if3 : tie.Need-shared-slice-read-if3 Inv-loop μ-loop
-shared-slice-read-if3 c = search needs
+shared-slice-read-if1 : tie.Need-shared-slice-read-if1 Inv-loop μ-loop
+shared-slice-read-if1 c = search needs
 
-returns-2 : tie.Need-returns-2 Inv-loop μ-loop
-returns-2 c = search needs
+returns : tie.Need-returns Inv-loop μ-loop
+returns c = search needs
 
 add-j : tie.Need-add-j Inv-loop μ-loop
 add-j c = search needs
@@ -33,8 +30,8 @@ loop-less c = search needs
 loop-again : tie.Need-loop-again Inv-loop μ-loop
 loop-again c = search needs
 
-returns-3 : tie.Need-returns-3 Inv-loop μ-loop
-returns-3 c = search needs
+returns-2 : tie.Need-returns-2 Inv-loop μ-loop
+returns-2 c = search needs
 
 pub is-line-spec : {M : Type 1} → statement M
 is-line-spec =
@@ -42,12 +39,11 @@ is-line-spec =
     (tie.spec
     Inv-loop
     μ-loop
-    returns
     loop-holds
-    element-copy-out-if3
-    shared-slice-read-if3
-    returns-2
+    element-copy-out-if1
+    shared-slice-read-if1
+    returns
     add-j
     loop-less
     loop-again
-    returns-3)
+    returns-2)

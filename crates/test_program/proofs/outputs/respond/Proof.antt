@@ -4,11 +4,11 @@ use borrow.Author.Needs.{needs}
 use Rattle.test_program.proofs.outputs.respond.Statement.{statement}
 use Rattle.test_program.proofs.outputs.respond.Tie as tie
 
-capped-requires : tie.Need-capped-requires
-capped-requires c κs = search needs
+least-requires : tie.Need-least-requires
+least-requires c κs = search needs
 
 slice-aggregate-respond : tie.Need-slice-aggregate-respond
-slice-aggregate-respond c = sym (length-take-le _ _ (c .before .capped .ensures))
+slice-aggregate-respond c = sym (length-take-le _ _ (c .before .least .ensures))
 
 slice-aggregate-respond-2 : tie.Need-slice-aggregate-respond-2
 slice-aggregate-respond-2 c = search needs
@@ -23,7 +23,7 @@ pub respond-spec : {M : Type 1} → statement M
 respond-spec =
     tie.close
     (tie.spec
-    capped-requires
+    least-requires
     slice-aggregate-respond
     slice-aggregate-respond-2
     respond-requires

@@ -24,8 +24,8 @@ plus-requires-2 c κs = search needs
 pair-requires : tie.Need-pair-requires Inv-loop μ-loop
 pair-requires c κs = search needs
 
-put-requires : tie.Need-put-requires Inv-loop μ-loop
-put-requires c κs = search needs
+element-write-bytes : tie.Need-element-write-bytes Inv-loop μ-loop
+element-write-bytes c = search needs
 
 add-j : tie.Need-add-j Inv-loop μ-loop
 add-j c = search needs
@@ -50,7 +50,7 @@ decode-spec =
     plus-requires
     plus-requires-2
     pair-requires
-    put-requires
+    element-write-bytes
     add-j
     loop-less
     loop-again

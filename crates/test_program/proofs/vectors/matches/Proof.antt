@@ -4,16 +4,10 @@ use Rattle.test_program.proofs.vectors.matches.Statement.{statement}
 use Rattle.test_program.proofs.vectors.matches.Tie as tie
 
 abbrev Inv-loop : tie.InvT-loop
-Inv-loop out count text start end j₀ j = j ≤ 2048
+Inv-loop out count text start end j₀ j = j ≤ count
 
 abbrev μ-loop : tie.MeasureT-loop
-μ-loop out count text start end j₀ j = 2048 - j
-
-minus-requires : tie.Need-minus-requires Inv-loop μ-loop
-minus-requires c κs = search needs
-
-returns : tie.Need-returns Inv-loop μ-loop
-returns c = search needs
+μ-loop out count text start end j₀ j = count - j
 
 loop-holds : tie.Need-loop-holds Inv-loop μ-loop
 loop-holds c = search needs
@@ -33,8 +27,8 @@ byte-at-requires c κs = search needs
 printed-requires : tie.Need-printed-requires Inv-loop μ-loop
 printed-requires c κs = search needs
 
-returns-2 : tie.Need-returns-2 Inv-loop μ-loop
-returns-2 c = search needs
+returns : tie.Need-returns Inv-loop μ-loop
+returns c = search needs
 
 add-j : tie.Need-add-j Inv-loop μ-loop
 add-j c = search needs
@@ -45,8 +39,11 @@ loop-less c = search needs
 loop-again : tie.Need-loop-again Inv-loop μ-loop
 loop-again c = search needs
 
-returns-3 : tie.Need-returns-3 Inv-loop μ-loop
-returns-3 c = search needs
+minus-requires : tie.Need-minus-requires Inv-loop μ-loop
+minus-requires c κs = search needs
+
+returns-2 : tie.Need-returns-2 Inv-loop μ-loop
+returns-2 c = search needs
 
 pub matches-spec : {M : Type 1} → statement M
 matches-spec =
@@ -54,16 +51,15 @@ matches-spec =
     (tie.spec
     Inv-loop
     μ-loop
-    minus-requires
-    returns
     loop-holds
     element-copy-out-wide
     wide-requires
     plus-requires
     byte-at-requires
     printed-requires
-    returns-2
+    returns
     add-j
     loop-less
     loop-again
-    returns-3)
+    minus-requires
+    returns-2)

@@ -1,0 +1,100 @@
+// What a call of the product is lent, and what came of it. Each table that it may write holds 7 before.
+use crate::counts;
+use crate::lists;
+use crate::lists::List;
+ghost use Prim.Native.Nat.{_+_, _≤_};
+
+// A refusal's number and its place, both 0 where there is none; three numbers that are returned; how many entries of the tables are wrong, in three more.
+pub type Reply = [usize; 8];
+
+// Tables are longer than they have to be.
+pub const LONGER: usize = 9;
+
+// The length of a table that is lent: the least; one less where it is the table that is short; three more where all are longer.
+pub fn length(least: usize, table: usize, short: usize) -> usize
+    ensures { λ r. ⌜ r ≤ least + 3 ⌝ }
+{
+    if short == LONGER {
+        return least % 4000000 + 3;
+    }
+    counts::minus(least, (table == short) as usize)
+}
+
+// How many numbers of two replies differ.
+pub fn differ(r: Reply, want: Reply) -> usize {
+    let mut count: usize = 0;
+    for i in 0..8 {
+        count = counts::counted(count, r[i] != want[i]);
+    }
+    count
+}
+
+// The number by which a call is refused, or 99 where it is refused and changed an entry.
+pub fn code(r: Reply) -> usize {
+    if (r[0] > 0) & (counts::plus(r[5], counts::plus(r[6], r[7])) > 0) {
+        return 99;
+    }
+    r[0]
+}
+
+// How many entries a call writes that would write so many, where it is not refused.
+pub fn written(r: Reply, count: usize) -> usize {
+    if r[0] > 0 {
+        return 0;
+    }
+    count
+}
+
+// The entry that is wanted at i, of which the first count are in the table.
+fn wanted(want: &List, table: usize, count: usize, i: usize) -> usize {
+    if i < count {
+        return lists::at(want, table, i);
+    }
+    7
+}
+
+fn wide_byte(v: u8) -> usize {
+    v as usize
+}
+
+fn wide_entry(v: u16) -> usize {
+    v as usize
+}
+
+// How many bytes are wrong of all that were lent, where the first count are to be as wanted and the others as before.
+pub fn bytes_wrong(t: &[u8], want: &List, table: usize, count: usize, all: usize) -> usize {
+    let n = counts::least(all, t.len());
+    let mut wrong: usize = 0;
+    for i in 0..n {
+        wrong = counts::counted(wrong, wide_byte(t[i]) != wanted(want, table, count, i));
+    }
+    wrong
+}
+
+// The same of entries.
+pub fn entries_wrong(t: &[u16], want: &List, table: usize, count: usize, all: usize) -> usize {
+    let n = counts::least(all, t.len());
+    let mut wrong: usize = 0;
+    for i in 0..n {
+        wrong = counts::counted(wrong, wide_entry(t[i]) != wanted(want, table, count, i));
+    }
+    wrong
+}
+
+// The word that is wanted at i, of which the first count are to be 0.
+fn wanted_word(count: usize, i: usize) -> u32 {
+    if i < count {
+        return 0;
+    }
+    7
+}
+
+// How many words are wrong of all that were lent, where the first count are to be 0 and the others as before.
+pub fn words_wrong(w: &[u32], count: usize, all: usize) -> usize {
+    let n = counts::least(all, w.len());
+    let mut wrong: usize = 0;
+    for i in 0..n {
+        wrong = counts::counted(wrong, w[i] != wanted_word(count, i));
+    }
+    wrong
+}

@@ -1,0 +1,40 @@
+// A network with its events, or with its active entries: four tables of 8192 entries, then four sizes. A has the segments' first ends, B their second ends, X and Y the
+// events. The sizes stand under the same names: N, M, T and the share. Of a contraction X has the active entries and K, and Y nothing.
+
+pub type List = [u16; 32776];
+
+pub const A: usize = 0;
+
+pub const B: usize = 1;
+
+pub const X: usize = 2;
+
+pub const Y: usize = 3;
+
+fn wide(v: u16) -> usize {
+    v as usize
+}
+
+pub fn at(l: &List, table: usize, i: usize) -> usize {
+    wide(l[table % 4 * 8192 + i % 8192])
+}
+
+pub fn set(l: &mut List, table: usize, i: usize, v: usize) {
+    l[table % 4 * 8192 + i % 8192] = (v % 65536) as u16;
+}
+
+// The size that stands under this name.
+pub fn size(l: &List, table: usize) -> usize {
+    wide(l[32768 + table % 4])
+}
+
+fn set_size(l: &mut List, table: usize, v: usize) {
+    l[32768 + table % 4] = (v % 65536) as u16;
+}
+
+pub fn set_sizes(l: &mut List, n: usize, m: usize, t: usize, p: usize) {
+    set_size(l, A, n);
+    set_size(l, B, m);
+    set_size(l, X, t);
+    set_size(l, Y, p);
+}

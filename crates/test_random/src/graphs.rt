@@ -1,0 +1,71 @@
+// Random graphs of at most 12 nodes, 16 edges and 9 active entries, of several kinds; and graphs with a fault.
+use crate::networks;
+use test_library::counts;
+use test_library::lists;
+use test_library::lists::List;
+use test_library::random;
+
+fn nodes(kind: usize, s: usize) -> usize {
+    match kind {
+        5 | 6 => 7 + random::at(s, 3, 0, 6) % 6,
+        _ => 1 + random::at(s, 3, 0, 12) % 12,
+    }
+}
+
+// A tree has fewer edges than nodes, and where leaves hang from three centres, each leaf hangs once.
+fn edges(kind: usize, s: usize, n: usize) -> usize {
+    match kind {
+        3 => random::at(s, 4, 0, n),
+        5 => counts::minus(n, 1),
+        6 => n,
+        _ => random::at(s, 4, 0, 17),
+    }
+}
+
+// Active entry i: each node of a path in turn; where there are centres, a leaf, so that a class without an active node is kept.
+fn entry(kind: usize, s: usize, n: usize, i: usize) -> usize {
+    match kind {
+        5 | 6 => 3 + random::at(s, 2, i, counts::minus(n, 3)) % 16,
+        networks::PATH => networks::end(kind, s, n, i, 0),
+        _ => random::at(s, 2, i, n),
+    }
+}
+
+// Makes the edges and the active entries of a graph with these sizes.
+fn fill(l: &mut List, kind: usize, s: usize) {
+    let n = lists::size(l, lists::A);
+    let k = lists::size(l, lists::X);
+    networks::make(l, kind, s, n);
+    for i in 0..k {
+        lists::set(l, lists::X, i, entry(kind, s, n, i));
+    }
+}
+
+// Puts an end or an entry that is no node into the graph, or both.
+fn spoil(l: &mut List, s: usize) {
+    let what = random::at(s, 8, 0, 4);
+    let v = lists::size(l, lists::A);
+    if what < 3 {
+        networks::spoil(l, s);
+    }
+    if what > 1 {
+        lists::set(l, lists::X, random::at(s, 9, 0, 9), v);
+    }
+}
+
+// The random graph s, of each kind in turn, and every ninth with a fault.
+pub fn make(l: &mut List, s: usize) {
+    let kind = s % 8;
+    let n = nodes(kind, s);
+    lists::set_sizes(l, n, edges(kind, s, n), random::at(s, 5, 0, 10), 0);
+    fill(l, kind, s);
+    if s % 9 == 8 {
+        spoil(l, s);
+    }
+}
+
+// The path of n nodes with m edges and k active entries: each node in turn is active.
+pub fn path(l: &mut List, n: usize, m: usize, k: usize) {
+    lists::set_sizes(l, n, m, k, 0);
+    fill(l, networks::PATH, 0);
+}

@@ -1,0 +1,154 @@
+// Random networks with lists of events, of several kinds; and such with a fault.
+use crate::networks;
+use test_library::counts;
+use test_library::lists;
+use test_library::lists::List;
+use test_library::random;
+use test_library::tables;
+use test_library::tables::Marks;
+
+// Whether event i opens a segment in order or asks. Half of the lists do so at first, in three events of four, so that many are open when it is asked later.
+fn is_ordered(s: usize, t: usize, i: usize) -> bool {
+    (s / 27 % 2 == 0) & (i % 8192 * 4 < t % 8192 * 3)
+}
+
+// The segment that event i changes, or m where it asks.
+fn segment(s: usize, m: usize, t: usize, i: usize) -> usize {
+    if is_ordered(s, t, i) {
+        if i % 3 == 2 {
+            return m;
+        }
+        return random::round(i / 3 * 2 + i % 3, m);
+    }
+    if random::at(s, 4, i, 8) < 4 {
+        return m;
+    }
+    random::at(s, 3, i, m)
+}
+
+// Makes event i a change of segment e: it opens where it is closed.
+fn toggle(l: &mut List, open: &mut Marks, i: usize, e: usize) {
+    let was = tables::marked(open, e);
+    tables::mark(open, e, !was);
+    lists::set(l, lists::X, i, 65535 - was as usize % 2);
+    lists::set(l, lists::Y, i, e);
+}
+
+// A junction that event i asks for: now and then any, else one of the first places, of which the first events name few.
+fn asked(s: usize, side: usize, n: usize, places: usize, i: usize) -> usize {
+    if i % 32 == 31 {
+        return random::at(s, side, i, n);
+    }
+    random::at(s, side, i, counts::least(counts::plus(i, 2), places))
+}
+
+fn make_event(l: &mut List, open: &mut Marks, s: usize, places: usize, i: usize) {
+    let m = lists::size(l, lists::B);
+    let e = segment(s, m, lists::size(l, lists::X), i);
+    if e < m {
+        toggle(l, open, i, e);
+    } else {
+        let n = lists::size(l, lists::A);
+        lists::set(l, lists::X, i, asked(s, 5, n, places, i));
+        lists::set(l, lists::Y, i, asked(s, 6, n, places, i));
+    }
+}
+
+// Makes the segments, over the first places junctions, and the events of a list with these sizes.
+fn fill(l: &mut List, kind: usize, s: usize, places: usize) {
+    networks::make(l, kind, s, places);
+    let t = lists::size(l, lists::X);
+    let mut open = [false; 8192];
+    for i in 0..t {
+        make_event(l, &mut open, s, places, i);
+    }
+}
+
+// Without junctions there is no segment and no event.
+fn some(n: usize, count: usize) -> usize {
+    if n == 0 {
+        return 0;
+    }
+    count
+}
+
+// The list of a kind and a seed with sizes up to these. Half of the lists have as many events as they may.
+fn sized(l: &mut List, kind: usize, s: usize, n: usize, m: usize, t: usize) {
+    let p = 4 + random::at(s, 10, 0, 9) % 9;
+    let events = counts::least(random::at(s, 9, 0, t % 8192 * 2), t);
+    lists::set_sizes(l, n, some(n, random::at(s, 8, 0, m)), some(n, events), p);
+    fill(l, kind, s, n);
+}
+
+// X of an event with a fault: X that is nothing, a query, a change, X past the junctions, an open or a close that comes by chance, or an event a second time.
+fn bad_x(l: &List, what: usize, j: usize) -> usize {
+    let n = lists::size(l, lists::A);
+    match what {
+        1 => 65533,
+        2 => random::round(j, n),
+        3 => 65534 + j % 2,
+        4 => n % 512 + j % 12 * 5000,
+        5 => 65535,
+        6 => 65534,
+        _ => lists::at(l, lists::X, random::round(j, lists::size(l, lists::X))),
+    }
+}
+
+// Its Y: past the junctions or the segments, or within.
+fn bad_y(l: &List, what: usize, j: usize) -> usize {
+    let n = lists::size(l, lists::A);
+    let m = lists::size(l, lists::B);
+    match what {
+        1 | 4 => 0,
+        2 => n % 512 + j % 2,
+        3 => m % 512 + j / 2 % 2,
+        5 | 6 => random::round(j, m),
+        _ => lists::at(l, lists::Y, random::round(j, lists::size(l, lists::X))),
+    }
+}
+
+// Puts a fault into the list: at an end, at an event, or at both.
+fn spoil(l: &mut List, s: usize) {
+    let what = random::at(s, 14, 0, 8);
+    let i = random::at(s, 15, 0, 12);
+    let j = random::at(s, 2, 0, 12);
+    if what < 2 {
+        networks::spoil(l, s);
+    }
+    if what > 0 {
+        let x = bad_x(l, what, j);
+        let y = bad_y(l, what, j);
+        lists::set(l, lists::X, i, x);
+        lists::set(l, lists::Y, i, y);
+    }
+}
+
+// The list s of at most 8 junctions, 12 segments and 12 events, of each kind in turn, and every third with a fault.
+pub fn small(l: &mut List, s: usize) {
+    sized(l, s / 3 % 9, s, random::at(s, 7, 0, 9), 13, 12);
+    if s % 3 == 2 {
+        spoil(l, s);
+    }
+}
+
+// The list s of 16, 64 or 256 junctions, and at most 512 segments and 512 events, of each kind in turn.
+pub fn large(l: &mut List, s: usize) {
+    let n = match s / 9 {
+        0 => 16,
+        1 => 64,
+        _ => 256,
+    };
+    sized(l, s % 32 * 5 % 9, s, n, 513, 512);
+}
+
+// A list of the full sizes on a ring of so many places.
+pub fn ring(l: &mut List, places: usize, p: usize) {
+    lists::set_sizes(l, 4096, 8192, 4096, p);
+    fill(l, 1, 0, places);
+}
+
+// The path 0-1-2 with loops for the segments that are left, where all entries of X and Y are 1.
+pub fn path(l: &mut List, n: usize, m: usize, t: usize, p: usize) {
+    lists::set_sizes(l, n, m, t, p);
+    networks::make(l, networks::PATH, 0, 3);
+}

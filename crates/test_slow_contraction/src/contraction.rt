@@ -1,0 +1,167 @@
+// The slow contraction: links by taking away the nodes of each third kept class. The result is a list too: the edges in A and B, the map in X.
+use crate::graphs;
+use test_library::calls::Reply;
+use test_library::counts;
+use test_library::lists;
+use test_library::lists::List;
+use test_library::tables;
+use test_library::tables::Marks;
+use test_library::tables::Table;
+
+// The first edge with an end that is no node, or m.
+pub fn bad_edge(l: &List) -> usize {
+    let n = lists::size(l, lists::A);
+    let m = lists::size(l, lists::B);
+    for e in 0..m {
+        if (lists::at(l, lists::A, e) >= n) | (lists::at(l, lists::B, e) >= n) {
+            return e;
+        }
+    }
+    m
+}
+
+// The first active entry that is no node, or k.
+fn bad_entry(l: &List) -> usize {
+    let n = lists::size(l, lists::A);
+    let k = lists::size(l, lists::X);
+    for i in 0..k {
+        if lists::at(l, lists::X, i) >= n {
+            return i;
+        }
+    }
+    k
+}
+
+fn mark_active(active: &mut Marks, l: &List) {
+    let k = lists::size(l, lists::X);
+    for i in 0..k {
+        tables::mark(active, lists::at(l, lists::X, i), true);
+    }
+}
+
+// The order in which kept classes get their numbers: those of the active entries, then all by their smallest node.
+fn next_class(l: &List, c: &Table, i: usize) -> usize {
+    let k = lists::size(l, lists::X);
+    if i < k {
+        return tables::get(c, lists::at(l, lists::X, i));
+    }
+    counts::minus(i, k)
+}
+
+// Gives the class z the next number, where it has none yet, and answers how many there are. `of` has a class's number, with one added, and `first` a number's class.
+fn give(of: &mut Table, first: &mut Table, z: usize, count: usize) -> usize {
+    if tables::get(of, z) > 0 {
+        return count;
+    }
+    tables::put(first, count, z);
+    tables::put(of, z, counts::plus(count, 1));
+    counts::plus(count, 1)
+}
+
+// Numbers the kept classes that come at the places from start to end, where so many have a number before, and answers how many have one then.
+fn number(
+    of: &mut Table,
+    first: &mut Table,
+    l: &List,
+    c: &Table,
+    p: &Table,
+    active: &Marks,
+    held: &Table,
+    start: usize,
+    end: usize,
+    before: usize,
+) -> usize {
+    let open = [true; 8192];
+    let mut count = before;
+    for i in start..end {
+        let z = next_class(l, c, i);
+        if graphs::is_kept(l, &open, c, p, active, held, z) {
+            count = give(of, first, z, count);
+        }
+    }
+    count
+}
+
+// Marks the nodes of kept classes with a number other than x and y.
+fn mark_third(out: &mut Table, l: &List, of: &Table, c: &Table, x: usize, y: usize) {
+    let n = lists::size(l, lists::A);
+    for v in 0..n {
+        let z = tables::get(of, tables::get(c, v));
+        let third = (z > 0) & (z != counts::plus(x, 1)) & (z != counts::plus(y, 1));
+        tables::put(out, v, third as usize);
+    }
+}
+
+// Whether a route between the classes x and y meets no third kept class.
+fn linked(l: &List, of: &Table, first: &Table, c: &Table, x: usize, y: usize) -> bool {
+    let open = [true; 8192];
+    let mut out = [0u32; 512];
+    mark_third(&mut out, l, of, c, x, y);
+    let mut q = [0u32; 512];
+    graphs::pieces(&mut q, l, &open, lists::size(l, lists::B), &out, 1);
+    graphs::together(&q, tables::get(first, x), tables::get(first, y))
+}
+
+// Whether the pair i of numbers below 32 is an edge of the contraction.
+fn is_link(l: &List, of: &Table, first: &Table, c: &Table, count: usize, i: usize) -> bool {
+    if (i / 32 < i % 32) & (i % 32 < count) {
+        return linked(l, of, first, c, i / 32, i % 32);
+    }
+    false
+}
+
+// Writes the edges, each pair of numbers in ascending order, and answers how many there are. There are at most 32 nodes.
+fn links(r: &mut List, l: &List, of: &Table, first: &Table, c: &Table, count: usize) -> usize {
+    let mut edges: usize = 0;
+    for i in 0..1024 {
+        if is_link(l, of, first, c, count, i) {
+            lists::set(r, lists::A, edges, i / 32);
+            lists::set(r, lists::B, edges, i % 32);
+            edges = counts::plus(edges, 1);
+        }
+    }
+    edges
+}
+
+// Writes the numbers of the active entries.
+fn write_map(r: &mut List, l: &List, of: &Table, c: &Table) {
+    let k = lists::size(l, lists::X);
+    for i in 0..k {
+        let z = tables::get(c, lists::at(l, lists::X, i));
+        lists::set(r, lists::X, i, counts::minus(tables::get(of, z), 1));
+    }
+}
+
+// The contraction of a graph without a fault: nodes, edges, and how many nodes have no active one.
+fn small(r: &mut List, l: &List) -> Reply {
+    let k = lists::size(l, lists::X);
+    let open = [true; 8192];
+    let mut active = [false; 8192];
+    mark_active(&mut active, l);
+    let mut c = [0u32; 512];
+    let mut p = [0u32; 512];
+    graphs::classes(&mut c, &mut p, l, &open);
+    let mut held = [0u32; 512];
+    graphs::mark_held(&mut held, l, &c, &active);
+    let mut of = [0u32; 512];
+    let mut first = [0u32; 512];
+    let some = number(&mut of, &mut first, l, &c, &p, &active, &held, 0, k, 0);
+    let all = counts::plus(k, lists::size(l, lists::A));
+    let nodes = number(&mut of, &mut first, l, &c, &p, &active, &held, k, all, some);
+    write_map(r, l, &of, &c);
+    let edges = links(r, l, &of, &first, &c, nodes);
+    [0, 0, nodes, edges, counts::minus(nodes, some), 0, 0, 0]
+}
+
+// The contraction, or the refusal by 4 or 8.
+pub fn reply(r: &mut List, l: &List) -> Reply {
+    let e = bad_edge(l);
+    if e < lists::size(l, lists::B) {
+        return [4, e, 0, 0, 0, 0, 0, 0];
+    }
+    let i = bad_entry(l);
+    if i < lists::size(l, lists::X) {
+        return [8, i, 0, 0, 0, 0, 0, 0];
+    }
+    small(r, l)
+}
