@@ -28,9 +28,9 @@
  *
  * A call keeps nothing after it returns, allocates nothing, and reads and writes
  * nothing but its tables, so that calls on different tables may run at the same time.
- * It takes stack: replays of 4,096 events ran on a thread with 256 KB for each share, and
- * not on one with 128 KB for the share 4. This is measured (bench/stack) and not proved;
- * fewer events take less. (TODO-LEAD: measure again once the set has left the recursion.)
+ * It takes stack: a thread with 64 KB is enough for every call. Replays of 4,096 events ran
+ * on one with 48 KB for the shares 4, 5, 8 and 12, and a contraction at the full sizes on
+ * one with 16 KB. This is measured (bench/stack) and not proved.
  *
  * TABLES may be longer than they must be. Entries past the stated sizes are ignored,
  * and none of them changes.

@@ -31,10 +31,9 @@
 //! Before its first call it asks the archive for the version of its calls ([`version`]). Where that is
 //! not [`VERSION`], no other call is made, and each function returns [`Error::Version`].
 //!
-//! A call takes stack: replays of 4,096 events ran on a thread with 256 KB for each share, and not on
-//! one with 128 KB for the share 4. This is measured (bench/stack) and not proved; fewer events take
-//! less, and a thread of `std::thread` has 2 MB by default. (TODO-LEAD: measure again once the set has
-//! left the recursion.)
+//! A call takes stack: a thread with 64 KB is enough for every call. Replays of 4,096 events ran on one
+//! with 48 KB for the shares 4, 5, 8 and 12, and a contraction at the full sizes on one with 16 KB. This
+//! is measured (bench/stack) and not proved; a thread of `std::thread` has 2 MB by default.
 #![deny(missing_docs)]
 #![deny(unsafe_code)]
 

@@ -163,7 +163,7 @@ fn the_stack_that_is_named_is_enough() {
             l.p = p;
             l.call().reply.is_ok()
         };
-        let thread = std::thread::Builder::new().stack_size(256 * 1024).spawn(run).unwrap();
+        let thread = std::thread::Builder::new().stack_size(64 * 1024).spawn(run).unwrap();
         assert!(thread.join().unwrap());
     }
 }
