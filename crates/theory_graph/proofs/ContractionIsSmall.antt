@@ -42,6 +42,14 @@ module _ (n : ℕ) (E : List Edge) (S : List ℕ) (wE : endsIn (λ v. ltb v n) E
   pub nth : (i : ℕ) → i < h → Nth (ρ i) 0 cs i
   nth i l = entry-nth 0 i cs (omega arith) (omega arith)
 
+  -- the numbers of the active entries, by first appearance
+  pub class-order : inOrder 0 (map σ S) ≡ true
+  unfolding keptClasses
+  class-order =
+      in-order (twoEdge E) (twoEdge-refl E) (twoEdge-trans E) σ (filter (kept E S) (range 0 n)) S (λ x. true) 0 (λ x c p q. refl)
+      (λ a p. let e : σ a ≡ 0 + σ a = omega arith in e
+      ∙ ap (λ l. 0 + position (λ c. twoEdge E c a) l) (sym (filter-true (firsts (twoEdge E) (S ++ filter (kept E S) (range 0 n)))))) (λ a p. contradict refl p)
+
   class-kept : (c : ℕ) → List·Memᴰ c cs → Kept E S c
   unfolding keptClasses
   class-kept c m = go (List·Memᴰ·append-cases S (firsts-in (twoEdge E) c (S ++ filter (kept E S) (range 0 n)) m))
@@ -69,13 +77,6 @@ module _ (n : ℕ) (E : List Edge) (S : List ℕ) (wE : endsIn (λ v. ltb v n) E
       onBool (ltb i j) (λ l. absurd (pairwise-nth (twoEdge E) class-pairs (nth i li) (nth j lj) (ltb-true i j l) (twoEdge-from E (ρ i) (ρ j) t))) λ a.
       onBool (ltb j i) (λ l. absurd (pairwise-nth (twoEdge E) class-pairs (nth j lj) (nth i li) (ltb-true j i l) (twoEdge-from E (ρ j) (ρ i) (insep-sym E t)))) λ b.
       omega (arith, ltb-false i j a, ltb-false j i b)
-
-  pub class-order : inOrder 0 (map σ S) ≡ true
-  unfolding keptClasses
-  class-order =
-      in-order (twoEdge E) (twoEdge-refl E) (twoEdge-trans E) σ (filter (kept E S) (range 0 n)) S (λ x. true) 0 (λ x c p q. refl)
-      (λ a p. let e : σ a ≡ 0 + σ a = omega arith in e
-      ∙ ap (λ l. 0 + position (λ c. twoEdge E c a) l) (sym (filter-true (firsts (twoEdge E) (S ++ filter (kept E S) (range 0 n)))))) (λ a p. contradict refl p)
 
   pub class-at : (z : ℕ) → Kept E S z → (position (λ c. twoEdge E c z) cs < h) × TwoEdgeConnected E z (ρ (position (λ c. twoEdge E c z) cs))
   class-at z k =

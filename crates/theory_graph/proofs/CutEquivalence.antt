@@ -4,7 +4,7 @@
 use Prim.Native.Nat.{ℕ}
 use mathlib.Core.Bool.{Bool, _&&_, cond, not}
 use mathlib.Core.List.{List, _++_, map}
-use mathlib.Core.Path.{_∙_, _≡_, ap, ap₂, fun-ext, sym}
+use mathlib.Core.Path.{_∙_, _≡_, ap, ap₂, fun-ext, refl, sym}
 use lib.ListN.{length}
 use native.Mathlib.Omega.{arith}
 use Rattle.theory_graph.proofs.Adjacency.{induced-split}
@@ -94,7 +94,4 @@ module _ (E E′ : List Edge) (q : (U : NodeSet) → cut U E ≡ cut U E′) (S 
 
   pub contract-cuts : (n : ℕ) → contract n E S ≡ contract n E′ S
   unfolding contract keptClasses
-  contract-cuts n = λ i. make (twoEdge-cuts-equal E E′ q i) (kept-cuts-equal E E′ q S i) (linked-cuts-equal i)
-    where
-      make : (ℕ → ℕ → Bool) → (ℕ → Bool) → (ℕ → ℕ → Bool) → Contracted
-      make t k l = let cs : List ℕ = firsts t (S ++ filter k (range 0 n)) in record { nodes = length cs; map = map (λ a. position (λ c. t c a) cs) S; edges = links l 0 cs }
+  contract-cuts n = rw (twoEdge-cuts-equal E E′ q, kept-cuts-equal E E′ q S, linked-cuts-equal) refl
