@@ -279,7 +279,7 @@ pub fn replay(
         let whole = top(n, t, work);
         kept = window(whole, p, answers, &mut work[5 * t..]);
     }
-    let queries = answers[..t].iter().filter(|&&b| b != 3).count();
+    let queries = x.iter().filter(|&&v| !names_segment(v)).count();
     work.fill(0);
     Ok(Totals {
         queries,

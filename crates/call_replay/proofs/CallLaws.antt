@@ -1,4 +1,4 @@
--- The whole list and the public call: from the events' words to the windows, the queries counted by their bytes, and the outcome of an accepted replay and of a refusal.
+-- The whole list and the public call: from the events' words to the windows, the queries, and the outcome of an accepted replay and of a refusal.
 -- In order of the code. Assumes nothing.
 use Prim.Native.Nat.{_*_, _+_, _-_, _<_, _≤_, suc, zero, ℕ}
 use mathlib.Core.Bool.{Bool, cond, false, not, true}
@@ -6,7 +6,7 @@ use mathlib.Core.List.{List, [], _++_, _∷_, map}
 use mathlib.Core.Path.{_∙_, _≡_, ap, ap₂, refl, subst, sym}
 use lib.Dec.{eqb}
 use lib.ListN.{drop, getD, length, length-drop, length-replicate, length-take, replicate, take}
-use lib.Seq.{drop-at, length-sets, length-take-le, sets, sets-eq, take-all, take-take}
+use lib.Seq.{drop-at, getD-take, length-sets, length-take-le, sets, sets-eq, take-all, take-take}
 use native.Mathlib.Numerals.{add-one}
 use native.Mathlib.Omega.{arith}
 use borrow.Author.Tests.{eq-eqb, ne-eqb}
@@ -14,25 +14,26 @@ use Rattle.call_sizes.specs.Refusal.{Refusal}
 use Rattle.replay_checks.proofs.SetLaws.{count, count-split}
 use Rattle.replay_checks.specs.Check.{CheckedTables}
 use Rattle.replay_checks.specs.declared.Checked.{Checked}
-use Rattle.replay_events.proofs.WritingLaws.{size-is}
-use Rattle.replay_events.specs.Writing.{CanWriteEvents, EventsWritten, listOf}
+use Rattle.replay_events.proofs.WritingLaws.{query-asks, size-is}
+use Rattle.replay_events.specs.Writing.{CanWriteEvents, EventsWritten, isQuery, listOf, queriesBy}
 use Rattle.replay_step.specs.Area.{SmallArea, WholeMade, WholeReady}
 use Rattle.replay_step.specs.declared.Window.{Window}
 use Rattle.replay_windows.proofs.DescentLaws.{lent-take}
 use Rattle.replay_windows.specs.Descent.{Replied, WindowDone, WindowReady}
 use Rattle.theory_graph.proofs.Booleans.{onBool}
-use Rattle.theory_graph.proofs.TableLaws.{over-front}
+use Rattle.theory_graph.proofs.TableLaws.{pairs-at}
 use Rattle.theory_graph.specs.Lists.{filter, over, range, sum, table}
 use Rattle.theory_timeline.proofs.Acceptance.{Accepted, accepted-from, accepted-sound, events-length, length-pairs, segments-length}
 use Rattle.theory_timeline.proofs.DemandThree.{accepted-done, bytes-length, demand-3}
 use Rattle.theory_timeline.proofs.Leaves.{byte-asks, map-from}
 use Rattle.theory_timeline.specs.Call.{outcome}
 use Rattle.theory_timeline.specs.DemandThree.{KeepsDemand3}
-use Rattle.theory_timeline.specs.Events.{asks}
+use Rattle.theory_timeline.specs.Events.{Event, asks, kindOf}
+use Rattle.theory_timeline.specs.Steps.{Sound}
 use Rattle.theory_timeline.specs.Replay.{Faultless, Lent, Outcome, byte, bytes, done, fault, given, openAtEnd, queries, refused, replay, required}
 use Rattle.theory_timeline.specs.Windows.{Timeline, event, kept, size, small, windows, windowsFrom}
 use Rattle.theory_timeline.specs.declared.ReplayReply.the-variants.{Done, Refused}
-use Rattle.call_replay.specs.List.{ListReady, ListReplied, queriesIn}
+use Rattle.call_replay.specs.List.{ListReady, ListReplied}
 
 -- ---- the list
 module _ {n p : ℕ} {a b x y answers work : List ℕ} (q : ListReady n p a b x y answers work) where
@@ -84,49 +85,21 @@ module _ {n p : ℕ} {a b x y answers work : List ℕ} (q : ListReady n p a b x 
           → ListReplied n p a b x y answers after kept
       list-replied d = let u = d .replied g (q .events .sound) (omega (arith, m .at, m .events, size-is (q .events))) area in rw (m .at, m .events) at u
 
--- ---- the queries, by their bytes
-pub queries-none : (bytes : List ℕ) → 0 ≡ queriesIn bytes 0
-unfolding queriesIn
-queries-none bytes = refl
-
-pub queries-more : (bytes : List ℕ) (i k r : ℕ) → k ≡ queriesIn bytes i → r ≡ cond (not (eqb (getD bytes i 0) 3)) 1 0 → k + r ≡ queriesIn bytes (i + 1)
-unfolding queriesIn
-queries-more bytes i k r e h = ap₂ (λ (a b : ℕ). a + b) e h ∙ sym (ap (queriesIn bytes) (add-one i))
-
-pub answer-none : (b : ℕ) → b ≡ 3 → _≡_ {A = ℕ} 0 (cond (not (eqb b 3)) 1 0)
-answer-none b e = sym (ap (λ (c : Bool). cond (not c) 1 0) (eq-eqb b 3 e))
-
-pub answer-one : (b : ℕ) → ¬ (b ≡ 3) → _≡_ {A = ℕ} 1 (cond (not (eqb b 3)) 1 0)
-answer-one b n = sym (ap (λ (c : Bool). cond (not c) 1 0) (ne-eqb b 3 n))
-
-pub answer-most : (b r : ℕ) → r ≡ cond (not (eqb b 3)) 1 0 → r ≤ 1
-answer-most b r e = go (not (eqb b 3)) e
-  where
-    go : (b : Bool) → r ≡ cond b 1 0 → r ≤ 1
-    go true e = omega arith
-    go false e = omega arith
-
-pub queries-most : (bytes : List ℕ) (i : ℕ) → queriesIn bytes i ≤ i
-unfolding queriesIn
-queries-most bytes zero = omega arith
-queries-most bytes (suc i) = go (not (eqb (getD bytes i 0) 3)) (queries-most bytes i)
-  where
-    go : (b : Bool) → queriesIn bytes i ≤ i → queriesIn bytes i + cond b 1 0 ≤ suc i
-    go true h = omega arith
-    go false h = omega arith
-
-queries-same-bytes : (g : Timeline) (bytes : List ℕ) (t : ℕ) → ((i : ℕ) → i < t → getD bytes i 0 ≡ byte g i) → queriesIn bytes t ≡ count (λ i. asks (event g i)) 0 t
-unfolding queriesIn
-queries-same-bytes g bytes zero h = refl
-queries-same-bytes g bytes (suc t) h =
+-- ---- the queries
+-- in a list without a fault they are those that ask
+queries-same : (g : Timeline) → Sound g → (x : List ℕ) (t : ℕ) → t ≤ size g → ((i : ℕ) → i < t → getD x i 0 ≡ event g i .0)
+    → queriesBy (g .junctions) x t ≡ count (λ i. asks (event g i)) 0 t
+unfolding queriesBy
+queries-same g sound x zero l h = refl
+queries-same g sound x (suc t) l h =
     let f : ℕ → Bool = λ i. asks (event g i) in
     let z : suc t ≡ t + 1 = omega arith in
     let y : 0 + t ≡ t = omega arith in
     let c : _≡_ {A = ℕ} (count f t 1) (cond (f t) 1 0) = count-one (f t) in
     let e : count f 0 (suc t) ≡ count f 0 t + count f t 1 = ap (count f 0) z ∙ count-split f 0 t 1 ∙ ap (λ (k : ℕ). count f 0 t + count f k 1) y in
-    let b : _≡_ {A = ℕ} (cond (not (eqb (getD bytes t 0) 3)) 1 0) (cond (f t) 1 0) = ap (λ (v : ℕ). cond (not (eqb v 3)) 1 0) (h t (omega arith))
-    ∙ ap (λ (b : Bool). cond b 1 0) (byte-asks g t) in
-    omega (arith, queries-same-bytes g bytes t (λ i l. h i (omega arith)))
+    let b : _≡_ {A = ℕ} (cond (isQuery (kindOf (g .junctions) (getD x t 0))) 1 0) (cond (f t) 1 0) =
+    ap (λ (v : ℕ). cond (isQuery (kindOf (g .junctions) v)) 1 0) (h t (omega arith)) ∙ ap (λ (b : Bool). cond b 1 0) (query-asks g sound t (omega arith)) in
+    omega (arith, queries-same g sound x t (omega arith) (λ i u. h i (omega arith)))
   where
     count-one : (b : Bool) → length {A = ℕ} (cond b (t ∷ []) []) ≡ cond b 1 0
     count-one true = refl
@@ -171,6 +144,12 @@ module _ (l : Lent) (p : ℕ) (f : Faultless l p) where
         room = omega (arith, long-x);
       }
 
+  queries-are : queriesBy (l .n) (l .x) (l .t) ≡ count (λ i. asks (event (given l) i)) 0 (l .t)
+  unfolding given
+  queries-are = queries-same (given l) (accepted-sound l p granted) (l .x) (l .t) (omega (arith, events-length l p granted)) λ i u.
+      sym (ap (λ (e : Event). e .0) (pairs-at (take (l .t) (l .x)) (take (l .t) (l .y)) i (omega (arith, long-x))
+      (omega (arith, length-take-le (l .t) (l .y) (granted .y-long)))) ∙ getD-take (l .t) (l .x) i 0 u)
+
   module _ {after : List ℕ} {kept′ : ℕ} (d : ListReplied (l .n) p (take (l .m) (l .a)) (take (l .m) (l .b)) (take (l .t) (l .x)) (take (l .t) (l .y)) (l .answers) after kept′) where
     replied : Replied (given l) 0 (l .t) p (l .answers) after kept′
     unfolding given
@@ -183,24 +162,13 @@ module _ (l : Lent) (p : ℕ) (f : Faultless l p) where
         ∙ ap (sets (l .answers) 0) (bytes-table (byte (given l)) 0 (size (given l)))
         ∙ sets-over (map (byte (given l)) (range 0 (size (given l)))) (l .answers) (omega (arith, bytes-length l p granted, granted .answers-long))
 
-    byte-at : (i : ℕ) → i < l .t → getD after i 0 ≡ byte (given l) i
-    unfolding bytes
-    byte-at i u =
-        let z : 0 + i ≡ i = omega arith in
-        ap (λ (k : List ℕ). getD k i 0) answers-is
-        ∙ over-front (bytes (given l)) (l .answers) i (omega (arith, bytes-length l p granted))
-        ∙ map-from (byte (given l)) (size (given l)) 0 i (omega (arith, events-length l p granted)) ∙ ap (byte (given l)) z
-
-    pub long-after : l .t ≤ length after
-    long-after = omega (arith, ap length (replied .answers), length-sets (l .answers) 0 (table (byte (given l)) 0 (l .t)), granted .answers-long)
-
-    pub done-is : {cleared : List ℕ} (zs : List ℕ) (q o : ℕ) → q ≡ queriesIn after (l .t) → o ≡ openAtEnd (given l) → length zs ≡ length (take need (l .work))
+    pub done-is : {cleared : List ℕ} (zs : List ℕ) (q o : ℕ) → q ≡ queriesBy (l .n) (l .x) (l .t) → o ≡ openAtEnd (given l) → length zs ≡ length (take need (l .work))
         → cleared ≡ over (replicate need 0) (zs ++ drop need (l .work)) → outcome (Done (record { queries = q; «open» = o; kept = kept′ })) after cleared ≡ done l p
     unfolding done kept windows queries
     done-is {cleared} zs q o eq eo lz ew =
         let lr : length (replicate {A = ℕ} need 0) ≡ need = length-replicate need 0 in
         let lw : length (take need (l .work)) ≡ need = length-take-le need (l .work) (granted .work-long) in
-        let e1 = eq ∙ queries-same-bytes (given l) after (l .t) byte-at ∙ ap (count (λ i. asks (event (given l) i)) 0) (sym (events-length l p granted)) in
+        let e1 = eq ∙ queries-are ∙ ap (count (λ i. asks (event (given l) i)) 0) (sym (events-length l p granted)) in
         let e3 = replied .kept ∙ ap (λ (k : ℕ). sum (map (λ w. (small (given l) w) .nodes) (windowsFrom p k 0 k))) (sym (events-length l p granted)) in
         let e5 = ew ∙ ap (λ (k : ℕ). over (replicate need 0) (zs ++ drop k (l .work))) (sym lr) ∙ over-prefix (replicate need 0) zs (l .work) (lz ∙ lw ∙ sym lr) in
         λ i. record { accepted = true; code = 0; place = 0; queries = e1 i; opened = eo i; kept = e3 i; answers = answers-is i; work = e5 i }
@@ -238,10 +206,7 @@ module _ {l : Lent} {p : ℕ} {r : Checked} (c : CheckedTables l p r) (z : r .co
     list-ready = rw e (list-need l p (faultless c z))
 
     module _ {after : List ℕ} {kept′ : ℕ} (d : ListReplied (l .n) p (take (l .m) (l .a)) (take (l .m) (l .b)) (take (l .t) (l .x)) (take (l .t) (l .y)) (l .answers) after kept′) where
-      pub count-need : l .t ≤ length after
-      count-need = long-after l p (faultless c z) d
-
-      pub replay-is : {cleared : List ℕ} (zs : List ℕ) (q : ℕ) → q ≡ queriesIn after (l .t) → length zs ≡ length (take k (l .work)) → cleared ≡ over (replicate k 0) (zs ++ drop k (l .work))
+      pub replay-is : {cleared : List ℕ} (zs : List ℕ) (q : ℕ) → q ≡ queriesBy (l .n) (l .x) (l .t) → length zs ≡ length (take k (l .work)) → cleared ≡ over (replicate k 0) (zs ++ drop k (l .work))
           → Promise l p (outcome (Done (record { queries = q; «open» = r .«open»; kept = kept′ })) after cleared)
       replay-is zs q eq lz ew =
           let f = faultless c z in

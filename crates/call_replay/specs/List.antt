@@ -1,10 +1,8 @@
--- What the windows of a whole list are given, and what they leave; queries by their bytes.
+-- What the windows of a whole list are given, and what they leave.
 -- Assumes nothing: these are definitions.
-use Prim.Native.Nat.{_*_, _+_, _≤_, suc, zero, ℕ}
-use mathlib.Core.Bool.{cond, not}
+use Prim.Native.Nat.{_*_, _+_, _≤_, ℕ}
 use mathlib.Core.List.{List}
-use lib.Dec.{eqb}
-use lib.ListN.{getD, length}
+use lib.ListN.{length}
 use Rattle.replay_events.specs.Writing.{CanWriteEvents, listOf}
 use Rattle.replay_windows.specs.Descent.{Replied}
 use Rattle.theory_timeline.specs.DemandThree.{Allowed}
@@ -18,8 +16,3 @@ pub record ListReady (n p : ℕ) (a b x y answers work : List ℕ) : Type 0 wher
 
 abbrev pub ListReplied : ℕ → ℕ → List ℕ → List ℕ → List ℕ → List ℕ → List ℕ → List ℕ → ℕ → Type 0
 ListReplied n p a b x y before after kept = Replied (listOf n a b x y) 0 (length x) p before after kept
-
--- the bytes below t that are not 3
-unfoldable pub queriesIn : List ℕ → ℕ → ℕ
-queriesIn bytes zero = 0
-queriesIn bytes (suc t) = queriesIn bytes t + cond (not (eqb (getD bytes t 0) 3)) 1 0

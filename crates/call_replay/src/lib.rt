@@ -41,7 +41,7 @@ pub fn replay(
         answers,
         &mut work[..need],
     );
-    let queries = list::count_queries(answers, t);
+    let queries = replay_events::count_queries(n, x, t);
     core_words::clear(work, need);
     ReplayReply::Done(theory_timeline::Totals {
         queries: queries,

@@ -1,5 +1,5 @@
 -- The passes over the events: kinds and tags of a list without a fault, words written one after another, the links, and all of it together.
--- In order: kinds; the tags' names; words one after another; the junctions; the links to the last event and to the next; the whole.
+-- In order: kinds; the queries; the tags' names; words one after another; the junctions; the links to the last event and to the next; the whole.
 -- Assumes nothing.
 use Prim.Native.Nat.{_%_, _*_, _+_, _-_, _/_, _<_, _≤_, min, suc, zero, ℕ}
 use mathlib.Core.Bool.{Bool, _&&_, _||_, cond, false, not, true}
@@ -30,7 +30,7 @@ use Rattle.replay_step.proofs.StepLaws.{map-self}
 use Rattle.replay_step.proofs.WordLaws.{front-get, mid-sets}
 use Rattle.replay_step.specs.Area.{EventsIn}
 use Rattle.replay_events.specs.Writing.{CanWriteEvents, EventsWritten, LinkRoom, LinkedEvent, TagsFit, Written, endsBy, isQuery, junctionsBy}
-use Rattle.replay_events.specs.Writing.{keyOf, lastBy, listOf, namesTag, nextBy, tagBy, tagsBy, tagsIn}
+use Rattle.replay_events.specs.Writing.{keyOf, lastBy, listOf, namesTag, nextBy, queriesBy, tagBy, tagsBy, tagsIn}
 
 -- ---- kinds
 -- what the kind of an event without a fault says of it
@@ -69,6 +69,9 @@ module _ (g : Timeline) (sound : Sound g) (i : ℕ) (l : i < size g) where
       × (tagBy (kindOf (g .junctions) (event g i .0)) (event g i .1) ≡ cond (asks (event g i)) 0 (1 + 4 * key g i + 2 * bit (closes (event g i)) + bit (opens (event g i))))
   kinds = tags-by (g .junctions) (length (g .segments)) (openBefore g i) (event g i) (sound .few) (sound .events i l)
 
+  pub query-asks : isQuery (kindOf (g .junctions) (event g i .0)) ≡ asks (event g i)
+  query-asks = kinds .0
+
   -- what opens was closed before, and what closes was open
   was-open : asks (event g i) ≡ false → openBefore g i (key g i) ≡ closes (event g i)
   was-open q =
@@ -95,6 +98,24 @@ module _ (g : Timeline) (sound : Sound g) (i : ℕ) (l : i < size g) where
       turn : (b : Bool) → cond (not b) (event g i) (getD (g .segments) (event g i .1) (0, 0)) ≡ cond b (getD (g .segments) (event g i .1) (0, 0)) (event g i)
       turn true = refl
       turn false = refl
+
+-- ---- the queries
+pub queries-none : (n : ℕ) (x : List ℕ) → 0 ≡ queriesBy n x 0
+unfolding queriesBy
+queries-none n x = refl
+
+pub queries-more : (n : ℕ) (x : List ℕ) (i k r : ℕ) → k ≡ queriesBy n x i → r ≡ cond (isQuery (kindOf n (getD x i 0))) 1 0 → k + r ≡ queriesBy n x (i + 1)
+unfolding queriesBy
+queries-more n x i k r e h = ap₂ (λ (a b : ℕ). a + b) e h ∙ sym (ap (queriesBy n x) (add-one i))
+
+pub query-most : (b : Bool) (r : ℕ) → r ≡ cond b 1 0 → r ≤ 1
+query-most true r e = omega arith
+query-most false r e = omega arith
+
+pub queries-most : (n : ℕ) (x : List ℕ) (i : ℕ) → queriesBy n x i ≤ i
+unfolding queriesBy
+queries-most n x zero = omega arith
+queries-most n x (suc i) = omega (arith, queries-most n x i, query-most (isQuery (kindOf n (getD x i 0))) _ refl)
 
 -- ---- the tags' names
 seek-last-same : (f h : ℕ → Bool) (k : ℕ) → ((j : ℕ) → j < k → f j ≡ h j) → seekLast f k ≡ seekLast h k

@@ -29,6 +29,11 @@ unfoldable pub junctionsBy : ℕ → List Edge → List Event → List ℕ
 junctionsBy n segs [] = []
 junctionsBy n segs (e ∷ evs) = endsBy n segs e .0 ∷ endsBy n segs e .1 ∷ junctionsBy n segs evs
 
+-- how many of the first t events are queries
+unfoldable pub queriesBy : ℕ → List ℕ → ℕ → ℕ
+queriesBy n x zero = 0
+queriesBy n x (suc t) = queriesBy n x t + cond (isQuery (kindOf n (getD x t 0))) 1 0
+
 -- the tag of an event without a fault: what opens was closed, what closes was open
 unfoldable pub tagBy : Kind → ℕ → ℕ
 tagBy k s = elim k [ Query ↦ 0 | Opens ↦ 4 * s + 2 | Closes ↦ 4 * s + 3 | Nothing ↦ 0 ]

@@ -2,13 +2,13 @@
 // Here alone the tables of the events are read, and kinds are told by `kind_of`.
 use theory_timeline::Kind;
 ghost use mathlib.Core.Path.{_≡_};
-ghost use mathlib.Core.Bool.{false};
+ghost use mathlib.Core.Bool.{cond, false};
 ghost use Prim.Native.Nat.{ℕ, _+_, _*_, _<_, _≤_};
 ghost use lib.ListN.{length, getD, set};
 ghost use lib.Seq.{sets};
 ghost use Rattle.theory_graph.specs.Lists.{pairs};
 ghost use Rattle.theory_timeline.specs.Events.{kindOf};
-ghost use Rattle.replay_events.specs.Writing.{CanWriteEvents, EventsWritten, LinkRoom, LinkedEvent, TagsFit, Written, endsBy, isQuery, junctionsBy, lastBy, nextBy, tagBy, tagsBy, tagsIn};
+ghost use Rattle.replay_events.specs.Writing.{CanWriteEvents, EventsWritten, LinkRoom, LinkedEvent, TagsFit, Written, endsBy, isQuery, junctionsBy, lastBy, nextBy, queriesBy, tagBy, tagsBy, tagsIn};
 
 // Whether an event with this X is a query.
 fn is_query(x: u16, n: usize) -> bool
@@ -147,4 +147,31 @@ pub fn write_events(n: usize, a: &[u16], b: &[u16], x: &[u16], y: &[u16], work: 
     put_tags(n, x, y, work);
     link_lasts(work, t);
     link_nexts(work, t);
+}
+
+// 1 for a query, else 0.
+fn one_if_query(x: u16, n: usize) -> usize
+    ensures { λ r. ⌜ r ≡ cond (isQuery (kindOf n x)) 1 0 ⌝ }
+{
+    let asks = is_query(x, n);
+    if asks {
+        return 1;
+    }
+    0
+}
+
+// Internal: the queries among the first t events.
+pub fn count_queries(n: usize, x: &[u16], t: usize) -> usize
+    requires { ⌜ t ≤ length (now x) ⌝ }
+    ensures { λ r. ⌜ r ≡ queriesBy n (now (x .entry)) t ⌝ }
+{
+    let mut k: usize = 0;
+    let mut i: usize = 0;
+    // k of the first i events are queries.
+    while i < t {
+        let one = one_if_query(x[i], n);
+        k += one;
+        i += 1;
+    }
+    k
 }

@@ -10,7 +10,7 @@ use lib.ListN.{drop, getD, length, length-drop, length-take, set, take}
 use lib.Seq.{getD-drop, getD-take, sets, take-take}
 use native.Mathlib.Nat.{mul-le-mul-left}
 use native.Mathlib.Omega.{arith}
-use borrow.Author.Tests.{eq-eqb, ltb-false, ltb-true, ne-eqb, not-false, not-true}
+use borrow.Author.Tests.{eq-eqb, eqb-false, eqb-true, ltb-false, ltb-true, ne-eqb, not-false, not-true}
 use borrow.Rule.Slice.PartMut.{putMid, take-put}
 use Rattle.theory_graph.proofs.Booleans.{contradict, onBool}
 use Rattle.theory_graph.proofs.EdgeCount.{firsts-most, small-edges, small-edges-most}
@@ -36,7 +36,7 @@ use Rattle.replay_step.proofs.StepLaws.{active-length}
 use Rattle.replay_step.proofs.WordLaws.{sets-two}
 use Rattle.replay_step.specs.Area.{Area, SmallArea, StepReady, Stepped, areaEdges, span}
 use Rattle.replay_step.specs.declared.Window as W
-use Rattle.replay_windows.specs.Descent.{OneDone, WindowDone, WindowReady}
+use Rattle.replay_windows.specs.Descent.{OneDone, WindowDone, WindowReady, byteBy}
 
 -- ---- the counts of an area
 most-less : (k n : ℕ) → k ≤ 2 * n → 0 < n → mostNodes k + 2 ≤ 4 * n
@@ -246,16 +246,22 @@ none-is : (H : List Edge) (edges : ℕ) → length H ≡ edges → noEdge H ≡ 
 none-is [] edges e = sym (eq-eqb edges 0 (sym e))
 none-is (h ∷ H) edges e = sym (ne-eqb edges 0 (λ z. omega arith))
 
--- what a query's byte is, by the counts
-module _ (nodes edges : ℕ) where
-  pub byte-2 : nodes ≡ 1 → _≡_ {A = ℕ} 2 (cond (eqb nodes 1) 2 (cond (eqb edges 0) 0 1))
-  byte-2 e = sym (ap (λ b. cond b 2 (cond (eqb edges 0) 0 1)) (eq-eqb nodes 1 e))
+-- the byte by the tag and the counts, case by case
+module _ (tag nodes edges : ℕ) where
+  pub byte-3 : ¬ (tag ≡ 0) → _≡_ {A = ℕ} 3 (byteBy tag nodes edges)
+  byte-3 h = sym (ap (λ b. cond b (cond (eqb nodes 1) 2 (cond (eqb edges 0) 0 1)) 3) (ne-eqb tag 0 h))
 
-  pub byte-0 : ¬ (nodes ≡ 1) → edges ≡ 0 → _≡_ {A = ℕ} 0 (cond (eqb nodes 1) 2 (cond (eqb edges 0) 0 1))
-  byte-0 h e = sym (ap₂ (λ a b. cond a 2 (cond b 0 1)) (ne-eqb nodes 1 h) (eq-eqb edges 0 e))
+  pub byte-asked : tag ≡ 0 → byteBy tag nodes edges ≡ cond (eqb nodes 1) 2 (cond (eqb edges 0) 0 1)
+  byte-asked z = ap (λ b. cond b (cond (eqb nodes 1) 2 (cond (eqb edges 0) 0 1)) 3) (eq-eqb tag 0 z)
 
-  pub byte-1 : ¬ (nodes ≡ 1) → ¬ (edges ≡ 0) → _≡_ {A = ℕ} 1 (cond (eqb nodes 1) 2 (cond (eqb edges 0) 0 1))
-  byte-1 h e = sym (ap₂ (λ a b. cond a 2 (cond b 0 1)) (ne-eqb nodes 1 h) (ne-eqb edges 0 e))
+  pub byte-2 : tag ≡ 0 → nodes ≡ 1 → _≡_ {A = ℕ} 2 (byteBy tag nodes edges)
+  byte-2 z e = sym (byte-asked z ∙ ap (λ b. cond b 2 (cond (eqb edges 0) 0 1)) (eq-eqb nodes 1 e))
+
+  pub byte-0 : tag ≡ 0 → ¬ (nodes ≡ 1) → edges ≡ 0 → _≡_ {A = ℕ} 0 (byteBy tag nodes edges)
+  byte-0 z h e = sym (byte-asked z ∙ ap₂ (λ a b. cond a 2 (cond b 0 1)) (ne-eqb nodes 1 h) (eq-eqb edges 0 e))
+
+  pub byte-1 : tag ≡ 0 → ¬ (nodes ≡ 1) → ¬ (edges ≡ 0) → _≡_ {A = ℕ} 1 (byteBy tag nodes edges)
+  byte-1 z h e = sym (byte-asked z ∙ ap₂ (λ a b. cond a 2 (cond b 0 1)) (ne-eqb nodes 1 h) (ne-eqb edges 0 e))
 
 module _ {w : W.Window} (v : List ℕ) (one : w .events ≡ 1) (l : 13 ≤ length v) (g : Timeline) (sound : Sound g) (i : w .at < size g) (a : SmallArea g w (take 13 v)) where
   -- the tag of its event
@@ -267,13 +273,13 @@ module _ {w : W.Window} (v : List ℕ) (one : w .events ≡ 1) (l : 13 ≤ lengt
       sym (getD-take 13 v 2 0 (omega arith)) ∙ sym (getD-take 3 (drop 2 (take 13 v)) 0 0 (omega arith) ∙ getD-drop 2 (take 13 v) 0 0)
       ∙ ap (λ l. getD l 0 0) x ∙ words-at g (w .at) 1 0 0 (omega arith) (omega arith) ∙ ap (word g 0) z
 
-  pub tag-change : ¬ (getD v 2 0 ≡ 0) → byte g (w .at) ≡ 3
+  tag-change : ¬ (getD v 2 0 ≡ 0) → byte g (w .at) ≡ 3
   tag-change h = onBool (asks (event g (w .at))) (λ q. absurd (h (first-word ∙ word-query g (w .at) 0 q))) (λ q. byte-change g (w .at) q)
 
   asked : getD v 2 0 ≡ 0 → asks (event g (w .at)) ≡ true
   asked z = onBool (asks (event g (w .at))) (λ q. q) (λ q. let t = ltb-true 0 (tag g (w .at)) (tag-says g (w .at) .change) in absurd (omega (arith, first-word, word-change g (w .at) q .0)))
 
-  pub tag-query : getD v 2 0 ≡ 0 → byte g (w .at) ≡ cond (eqb (w .nodes) 1) 2 (cond (eqb (w .edges) 0) 0 1)
+  tag-query : getD v 2 0 ≡ 0 → byte g (w .at) ≡ cond (eqb (w .nodes) 1) 2 (cond (eqb (w .edges) 0) 0 1)
   unfolding network active
   tag-query z =
       let s : 0 < w .events = omega arith in
@@ -288,8 +294,7 @@ module _ {w : W.Window} {p : ℕ} {answers v : List ℕ} (r : WindowReady w p an
   enough : 13 ≤ length v
   enough = omega (arith, r .room)
 
-  pub one-change : ¬ (getD v 2 0 ≡ 0) → OneDone w (take 13 v) answers (set answers (w .at) 3)
-  one-change h g s i a = ap (set answers (w .at)) (sym (tag-change v one enough g s i a h))
-
-  pub one-query : (b : ℕ) → getD v 2 0 ≡ 0 → b ≡ cond (eqb (w .nodes) 1) 2 (cond (eqb (w .edges) 0) 0 1) → OneDone w (take 13 v) answers (set answers (w .at) b)
-  one-query b z e g s i a = ap (set answers (w .at)) (e ∙ sym (tag-query v one enough g s i a z))
+  pub one-done : {after : List ℕ} (b : ℕ) → b ≡ byteBy (getD v 2 0) (w .nodes) (w .edges) → after ≡ set answers (w .at) b → OneDone w (take 13 v) answers after
+  one-done b e f g s i a = f ∙ ap (set answers (w .at)) (e ∙ onBool (eqb (getD v 2 0) 0)
+      (λ t. let z = eqb-true (getD v 2 0) 0 t in byte-asked (getD v 2 0) (w .nodes) (w .edges) z ∙ sym (tag-query v one enough g s i a z))
+      (λ t. let h = eqb-false (getD v 2 0) 0 t in sym (byte-3 (getD v 2 0) (w .nodes) (w .edges) h) ∙ sym (tag-change v one enough g s i a h)))

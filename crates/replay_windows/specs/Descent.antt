@@ -1,8 +1,10 @@
 -- What a window promises: the bytes of its events, and kept over it and all windows below it.
 -- Assumes nothing: these are definitions.
 use Prim.Native.Nat.{_*_, _+_, _<_, _≤_, ℕ}
+use mathlib.Core.Bool.{cond}
 use mathlib.Core.List.{List, map}
 use mathlib.Core.Path.{_≡_}
+use lib.Dec.{eqb}
 use lib.ListN.{length, set, take}
 use lib.Seq.{sets}
 use Rattle.theory_graph.specs.Lists.{sum, table}
@@ -35,5 +37,9 @@ pub record WindowDone (w : Window) (p : ℕ) (v before after : List ℕ) (kept :
   pub replied : (g : Timeline) → Sound g → w .at + w .events ≤ size g → SmallArea g w v → Replied g (w .at) (w .events) p before after kept
 
 -- ---- a window of one event
+-- its byte: by the event's tag, and for a query by the nodes and the edges of the small graph
+abbrev pub byteBy : ℕ → ℕ → ℕ → ℕ
+byteBy tag nodes edges = cond (eqb tag 0) (cond (eqb nodes 1) 2 (cond (eqb edges 0) 0 1)) 3
+
 abbrev pub OneDone : Window → List ℕ → List ℕ → List ℕ → Type 0
 OneDone w v before after = (g : Timeline) → Sound g → w .at < size g → SmallArea g w v → after ≡ set before (w .at) (byte g (w .at))

@@ -1,9 +1,9 @@
 // The recursion over windows. The area of a window is at the front of its work slice; each part works in the rest.
 ghost use mathlib.Core.Path.{_≡_};
-ghost use Prim.Native.Nat.{_*_, _≤_};
-ghost use lib.ListN.{take};
+ghost use Prim.Native.Nat.{_*_, _<_, _≤_};
+ghost use lib.ListN.{length, set, take};
 ghost use Rattle.theory_timeline.specs.Windows.{firstPart};
-ghost use Rattle.replay_windows.specs.Descent.{OneDone, WindowDone, WindowReady};
+ghost use Rattle.replay_windows.specs.Descent.{OneDone, WindowDone, WindowReady, byteBy};
 
 // The events of the first part of a window of n events.
 fn first_part(n: usize, p: usize) -> usize
@@ -14,26 +14,37 @@ fn first_part(n: usize, p: usize) -> usize
     if f < 1 { 1 } else { f }
 }
 
-// A window of one event: its byte, by its tag and by the nodes and the edges of its small graph.
+// The byte of a window of one event: by the event's tag, and for a query by the nodes and the edges of the window's small graph.
+fn byte_of(tag: u32, nodes: usize, edges: usize) -> u8
+    ensures { λ r. ⌜ r ≡ byteBy tag nodes edges ⌝ }
+{
+    if tag != 0 {
+        return 3;
+    }
+    if nodes == 1 {
+        return 2;
+    }
+    if edges == 0 {
+        return 0;
+    }
+    1
+}
+
+// Writes the byte of an event.
+fn put(answers: &mut [u8], event: usize, byte: u8)
+    requires { ⌜ event < length (now answers) ⌝ }
+    ensures { λ _. ⌜ now (answers .exit) ≡ set (now (answers .entry)) event byte ⌝ }
+{
+    answers[event] = byte;
+}
+
+// A window of one event.
 fn one(w: replay_step::Window, p: usize, answers: &mut [u8], work: &[u32])
     requires { ⌜ WindowReady w p (now answers) (now work) × (w .events ≡ 1) ⌝ }
     ensures { λ _. ⌜ OneDone w (take 13 (now (work .entry))) (now (answers .entry)) (now (answers .exit)) ⌝ }
 {
-    let at = w.at;
-    let tag = work[2];
-    if tag != 0 {
-        answers[at] = 3;
-        return;
-    }
-    if w.nodes == 1 {
-        answers[at] = 2;
-        return;
-    }
-    if w.edges == 0 {
-        answers[at] = 0;
-        return;
-    }
-    answers[at] = 1;
+    let byte = byte_of(work[2], w.nodes, w.edges);
+    put(answers, w.at, byte);
 }
 
 // Internal: the bytes of the window's events, and kept over it and all windows below it.

@@ -2,17 +2,17 @@
 use mathlib.Core.Path.{_≡_, sym}
 use lib.Seq.{length-take-le}
 use native.Mathlib.Omega.{arith}
-use Rattle.call_replay.proofs.CallLaws.{count-need, grants, list-ready, refused-is, replay-is, work-need}
+use Rattle.call_replay.proofs.CallLaws.{grants, list-ready, refused-is, replay-is, work-need}
 use borrow.Author.Needs.{needs}
 use Rattle.call_replay.proofs.replay.Statement.{statement}
 use Rattle.call_replay.proofs.replay.Tie as tie
 use Rattle.call_replay.proofs.replay.Reads as reads
 use Rattle.call_replay.proofs.replay.Lts as lts
-use Rattle.call_replay.proofs.list.count_queries.Reads as count-queries-reads
 use Rattle.call_replay.proofs.list.replay_list.Reads as replay-list-reads
 use Rattle.core_words.proofs.clear.Reads as clear-reads
 use Rattle.replay_checks.proofs.check.Reads as check-reads
 use Rattle.replay_checks.proofs.required.Reads as required-reads
+use Rattle.replay_events.proofs.count_queries.Reads as count-queries-reads
 
 abbrev calls : lts.Claims
 calls = (
@@ -36,59 +36,71 @@ zero : (c : lts.Else1 calls reads.Pre reads.Post) → c .before .before .check .
 zero c = omega arith
 
 required-requires : tie.Need-required-requires
-required-requires c κs = let g = grants (c .before .before .check .ensures) (zero c) in (g .t-fits, g .n-fits)
+required-requires c κs =
+    let g = grants (c .before .before .check .ensures) (zero c) in
+    (g .t-fits, g .n-fits)
 
 slice-aggregate-replay-list : tie.Need-slice-aggregate-replay-list
-slice-aggregate-replay-list c = let g = grants (c .before .before .before .before .check .ensures) (zero (c .before .before)) in sym (length-take-le _ _ (g .a-long))
+slice-aggregate-replay-list c =
+    let checked = c .before .before in
+    sym (length-take-le _ _ (grants (checked .before .before .check .ensures) (zero checked) .a-long))
 
 slice-aggregate-replay-list-2 : tie.Need-slice-aggregate-replay-list-2
-slice-aggregate-replay-list-2 c = let g = grants (c .before .before .before .before .before .check .ensures)
-    (zero (c .before .before .before)) in sym (length-take-le _ _ (g .b-long))
+slice-aggregate-replay-list-2 c =
+    let checked = c .before .before .before in
+    sym (length-take-le _ _ (grants (checked .before .before .check .ensures) (zero checked) .b-long))
 
 slice-aggregate-replay-list-3 : tie.Need-slice-aggregate-replay-list-3
-slice-aggregate-replay-list-3 c = let g = grants (c .before .before .before .before .before .before .check .ensures)
-    (zero (c .before .before .before .before)) in sym (length-take-le _ _ (g .x-long))
+slice-aggregate-replay-list-3 c =
+    let checked = c .before .before .before .before in
+    sym (length-take-le _ _ (grants (checked .before .before .check .ensures) (zero checked) .x-long))
 
 slice-aggregate-replay-list-4 : tie.Need-slice-aggregate-replay-list-4
-slice-aggregate-replay-list-4 c = let g = grants (c .before .before .before .before .before .before .before .check .ensures)
-    (zero (c .before .before .before .before .before)) in sym (length-take-le _ _ (g .y-long))
+slice-aggregate-replay-list-4 c =
+    let checked = c .before .before .before .before .before in
+    sym (length-take-le _ _ (grants (checked .before .before .check .ensures) (zero checked) .y-long))
 
 slice-relend-prefix-replay-list : tie.Need-slice-relend-prefix-replay-list
-slice-relend-prefix-replay-list c = work-need (c .before .before .before .before .before .before .before .before .check .ensures)
-    (zero (c .before .before .before .before .before .before)) _ (c .before .before .before .before .before .required .ensures)
+slice-relend-prefix-replay-list c =
+    let at-required = c .before .before .before .before .before in
+    let checked = at-required .before in
+    work-need (checked .before .before .check .ensures) (zero checked) _ (at-required .required .ensures)
 
 slice-aggregate-replay-list-5 : tie.Need-slice-aggregate-replay-list-5
-slice-aggregate-replay-list-5 c = sym (length-take-le _ _
-    (work-need (c .before .before .before .before .before .before .before .before .before .check .ensures)
-    (zero (c .before .before .before .before .before .before .before)) _ (c .before .before .before .before .before .before .required .ensures)))
+slice-aggregate-replay-list-5 c =
+    let at-required = c .before .before .before .before .before .before in
+    let checked = at-required .before in
+    sym (length-take-le _ _ (work-need (checked .before .before .check .ensures) (zero checked) _ (at-required .required .ensures)))
 
 replay-list-requires : tie.Need-replay-list-requires
-replay-list-requires c κs = list-ready (c .before .before .before .before .before .before .before .before .before .check .ensures)
-    (zero (c .before .before .before .before .before .before .before)) _ (c .before .before .before .before .before .before .required .ensures)
+replay-list-requires c κs =
+    let at-required = c .before .before .before .before .before .before in
+    let checked = at-required .before in
+    list-ready (checked .before .before .check .ensures) (zero checked) _ (at-required .required .ensures)
 
 count-queries-requires : tie.Need-count-queries-requires
-count-queries-requires c κs = count-need
-    (c .before .before .before .before .before .before .before .before .before .before .before .before .before .before .before .check .ensures)
-    (zero (c .before .before .before .before .before .before .before .before .before .before .before .before .before)) _
-    (c .before .before .before .before .before .before .before .before .before .before .before .before .required .ensures)
-    (c .before .before .before .before .before .replay-list .ensures)
+count-queries-requires c κs =
+    let at-replay-list = c .before .before .before .before in
+    let checked = at-replay-list .before .before .before .before .before .before .before .before in
+    grants (checked .before .before .check .ensures) (zero checked) .x-long
 
 clear-requires : tie.Need-clear-requires
-clear-requires c κs = let h = work-need
-    (c .before .before .before .before .before .before .before .before .before .before .before .before .before .before .before .before .before .check .ensures)
-    (zero (c .before .before .before .before .before .before .before .before .before .before .before .before .before .before .before)) _
-    (c .before .before .before .before .before .before .before .before .before .before .before .before .before .before .required .ensures) in omega arith
+clear-requires c κs =
+    let at-replay-list = c .before .before .before .before .before .before in
+    let at-required = at-replay-list .before .before .before .before .before .before .before in
+    let checked = at-required .before in
+    omega (arith, work-need (checked .before .before .check .ensures) (zero checked) _ (at-required .required .ensures))
 
 returns-2 : tie.Need-returns-2
 returns-2 c =
-    let k = c .before .before .before .before .before .before .before .before .before .before .before .before .before .before .before .before .before .before .before .before .check .ensures
-    in
-    let need = c .before .before .before .before .before .before .before .before .before .before .before .before .before .before .before .before .before .required .ensures
-    in
-    let d = c .before .before .before .before .before .before .before .before .before .before .replay-list in
-    replay-is k (zero (c .before .before .before .before .before .before .before .before .before .before .before .before .before .before .before .before .before .before))
-    _ need (d .ensures) (d .last .1 .1 .1 .1 .1 .1 .1 .0) _ (c .before .before .before .before .count-queries .ensures)
-    (omega arith) (c .before .before .clear .ensures)
+    let at-clear = c .before .before in
+    let at-count-queries = at-clear .before .before in
+    let at-replay-list = at-count-queries .before .before .before .before .before in
+    let at-required = at-replay-list .before .before .before .before .before .before .before in
+    let checked = at-required .before in
+    let d = at-replay-list .replay-list in
+    replay-is (checked .before .before .check .ensures) (zero checked) _ (at-required .required .ensures) (d .ensures)
+    (d .last .1 .1 .1 .1 .1 .1 .1 .0) _ (at-count-queries .count-queries .ensures) (omega arith) (at-clear .clear .ensures)
 
 pub replay-spec : {M : Type 1} → statement M
 replay-spec =

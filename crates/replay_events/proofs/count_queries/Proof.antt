@@ -1,37 +1,37 @@
 use borrow.Author.Needs.{needs}
--- Byte by byte.
+-- Event by event.
 use Prim.Native.Nat.{_-_, _≤_}
 use mathlib.Core.Path.{_≡_}
 use lib.ListN.{getD}
 use native.Mathlib.Omega.{arith}
-use Rattle.call_replay.proofs.CallLaws.{answer-most, queries-more, queries-most, queries-none}
-use Rattle.call_replay.specs.List.{queriesIn}
-use Rattle.call_replay.proofs.list.count_queries.Statement.{statement}
-use Rattle.call_replay.proofs.list.count_queries.Tie as tie
+use Rattle.theory_timeline.specs.Events.{kindOf}
+use Rattle.replay_events.proofs.WritingLaws.{queries-more, queries-most, queries-none, query-most}
+use Rattle.replay_events.specs.Writing.{isQuery, queriesBy}
+use Rattle.replay_events.proofs.count_queries.Statement.{statement}
+use Rattle.replay_events.proofs.count_queries.Tie as tie
 
 abbrev Inv-loop : tie.InvT-loop
-Inv-loop answers t k₀ i₀ k i = (i ≤ t) × (k ≡ queriesIn answers i)
+Inv-loop n x t k₀ i₀ k i = (i ≤ t) × (k ≡ queriesBy n x i)
 
 abbrev μ-loop : tie.MeasureT-loop
-μ-loop answers t k₀ i₀ k i = t - i
+μ-loop n x t k₀ i₀ k i = t - i
 
 loop-holds : tie.Need-loop-holds Inv-loop μ-loop
-loop-holds c = (omega arith, queries-none _)
+loop-holds c = (omega arith, queries-none _ _)
 
 add-k : tie.Need-add-k Inv-loop μ-loop
 add-k c =
     let at-loop = c .before .before .before in
     let start = at-loop .before .before in
     let l = at-loop .loop in
-    let a = start .args .answers .now in
-    omega (arith, queries-most a (l .i), l .inv .1, answer-most (getD a (l .i) 0) (c .one-if-answer .result) (c .one-if-answer .ensures))
+    omega (arith, queries-most (start .args .n) (start .args .x .now) (l .i), l .inv .1, query-most (isQuery (kindOf (start .args .n) (getD (start .args .x .now) (l .i) 0))) _ (c .one-if-query .ensures))
 
 loop-again : tie.Need-loop-again Inv-loop μ-loop
 loop-again c =
     let at-loop = c .before .before .before in
     let start = at-loop .before .before in
     let l = at-loop .loop in
-    (omega arith, queries-more (start .args .answers .now) (l .i) _ _ (l .inv .1) (c .one-if-answer .ensures))
+    (omega arith, queries-more (start .args .n) (start .args .x .now) (l .i) _ _ (l .inv .1) (c .one-if-query .ensures))
 
 returns : tie.Need-returns Inv-loop μ-loop
 returns c = let l = c .before .loop in let e : l .i ≡ c .before .before .before .args .t = omega arith in rw e at (l .inv .1)
@@ -43,6 +43,7 @@ count-queries-spec =
     Inv-loop
     μ-loop
     loop-holds
+    (λ c. search needs)
     (λ c. search needs)
     (λ c κs. search needs)
     add-k
