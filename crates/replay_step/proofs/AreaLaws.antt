@@ -25,7 +25,6 @@ use Rattle.replay_step.specs.Area.{areaEdges}
 use Rattle.replay_step.specs.Load.{AreaMade, MakeReady, scratch}
 use Rattle.replay_step.specs.declared.Graph.{Graph}
 use Rattle.replay_step.specs.declared.Part.{Part}
-use Rattle.replay_step.specs.declared.Window.{Window}
 
 -- ---- the edges out
 pairs-table : (a b : ℕ → ℕ) (i m : ℕ) → pairs (table a i m) (table b i m) ≡ table {A = Edge} (λ j. (a j, b j)) i m
@@ -239,10 +238,8 @@ module _ {p : Part} {l : Graph} {w : List ℕ} (q : MakeReady p l w) where
           subst (λ (v : List ℕ). SmallGraph (edgesIn (l .nodes) (l .edges) v) T (r .nodes) (areaEdges c e z) (K .ρ) (K .σ)) same-L
           (subst (λ (H : List Edge). SmallGraph (edgesIn (l .nodes) (l .edges) L) T (r .nodes) H (K .ρ) (K .σ)) (sym edges-z) (small-repeats T h))
 
-      pub area-made : AreaMade p l w w₅ (record { at = p .at; events = c; nodes = r .nodes; edges = r .edges })
+      pub area-made : AreaMade p l w w₅ r
       area-made = record {
-        at = refl;
-        events = refl;
         front =
             ap (take A) e₅ ∙ take-sets Y w₄ (A + 9 * c) A (omega arith) ∙ ap (take A) e₄ ∙ take-sets X w₃ (A + 5 * c) A (omega arith)
             ∙ ap (take A) e₃ ∙ take-sets W w₂ (A + 2 * c) A (omega arith) ∙ ap (take A) e₂ ∙ take-sets M w₁ A A (omega arith)

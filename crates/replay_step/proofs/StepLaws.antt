@@ -12,6 +12,7 @@ use borrow.Author.Tests.{ltb-true}
 use Rattle.core_loading.proofs.LoadingLaws.{entered-most}
 use Rattle.core_loading.specs.Loading.{Entered}
 use Rattle.core_reduce.specs.Core.{edgesIn}
+use Rattle.core_reduce.specs.declared.Counts.{Counts}
 use Rattle.core_words.specs.Fields.{ACTIVE, MARK, TO, half, node}
 use Rattle.theory_graph.proofs.CutEquivalence.{small-cuts-equal}
 use Rattle.theory_graph.proofs.Cuts.{cut-append, cut-image}
@@ -234,8 +235,9 @@ module _ {w : Window} {p : Part} {v : List ℕ} (st : StepReady w (p .at) (p .ev
     }
 
 -- ---- the step
-same-window : (r : Window) (lo c : ℕ) → r .at ≡ lo → r .events ≡ c → _≡_ {A = Window} (record { at = lo; events = c; nodes = r .nodes; edges = r .edges }) r
-same-window r lo c a b = λ i. record { at = sym a i; events = sym b i; nodes = r .nodes; edges = r .edges }
+-- the window of a part, with the counts of its area
+abbrev pub windowOf : Part → Counts → Window
+windowOf p r = record { at = p .at; events = p .events; nodes = r .nodes; edges = r .edges }
 
 -- a small graph of a window's network, in the words that the reader knows
 small-area : (g : Timeline) → Sound g → (r : Window) {z : List ℕ} {ρ σ : ℕ → ℕ} → SmallGraph (network g (span r)) (active g (span r)) (r .nodes) (areaEdges (r .events) (r .edges) z) ρ σ
@@ -248,7 +250,7 @@ small-area g sound r {σ = σ} s e = record {
 }
 
 module _ {w : Window} {p : Part} {v : List ℕ} (st : StepReady w (p .at) (p .events) v) (ip : IsPart w p) {z : List ℕ} {l : Graph} (pl : PartLoaded w p v z l)
-    (lz : length z ≡ length v) {y : List ℕ} {r : Window}
+    (lz : length z ≡ length v) {y : List ℕ} {r : Counts}
     (am : AreaMade p l z y r) where
   abbrev c : ℕ
   c = p .events
@@ -353,7 +355,7 @@ module _ {w : Window} {p : Part} {v : List ℕ} (st : StepReady w (p .at) (p .ev
           cut-image U (a .σ) (added g (span w) (p .at, c)),
         )
 
-    pub part-made : SmallArea g r (take (13 * c) (drop (13 * w .events) y))
+    part-made : SmallArea g (windowOf p r) (take (13 * c) (drop (13 * w .events) y))
     part-made =
         let T : take (2 * c) (drop (p .places) z) ≡ map (a .σ) (active g (p .at, c)) = places-z ∙ ap (λ l. take (2 * c) (drop (2 * B) l)) (a .events .places)
         ∙ part-places g (span w) (p .at, c) part (a .σ) in
@@ -362,17 +364,16 @@ module _ {w : Window} {p : Part} {v : List ℕ} (st : StepReady w (p .at) (p .ev
         rw T at (definition-small _ _ _ _ _ _ (am .small)) in
         let g2 = part-small g (span w) (p .at, c) part (w .nodes) (areaEdges (w .events) (w .edges) u) (a .ρ) (a .σ) (a .carries) (r .nodes) _ (am .ρ) (am .σ)
         (small-cuts-equal _ _ edges-are _ _ _ _ _ g1) in
-        subst (λ (k : ℕ). SmallArea g r (take (13 * c) (drop k y))) (ip .area)
-        (subst (λ (q : Window). SmallArea g q (take (13 * c) (drop (p .area) y))) (same-window r (p .at) c (am .at) (am .events))
-        (small-area g sound (record { at = p .at; events = c; nodes = r .nodes; edges = r .edges }) g2 (record {
+        subst (λ (k : ℕ). SmallArea g (windowOf p r) (take (13 * c) (drop k y))) (ip .area)
+        (small-area g sound (windowOf p r) g2 (record {
           places = am .places ∙ ap (map (am .σ)) T ∙ map-twice (am .σ) (a .σ) (active g (p .at, c));
           words = am .words ∙ words-z ∙ ap (λ l. take (3 * c) (drop (3 * B) l)) (a .events .words) ∙ words-part g (w .at) (w .events) (p .at) c (st .starts) (st .ends);
-        })))
+        }))
 
-  pub stepped : Stepped w (p .at) c v y r
+  pub stepped : Stepped w (p .at) c v y (windowOf p r)
   stepped = record {
-    at = am .at;
-    events = am .events;
+    at = refl;
+    events = refl;
     front = ap (λ (k : ℕ). take k y) (sym (ip .area)) ∙ am .front ∙ take-less (p .area) S v z (omega arith) (pl .front) ∙ ap (λ (k : ℕ). take k v) (ip .area);
     made = part-made;
   }
@@ -418,25 +419,24 @@ module _ {n t : ℕ} {v : List ℕ} (q : WholeReady n t v) where
       ends = λ h u. absurd (omega (arith, wl .edges));
     }
 
-    module _ {y : List ℕ} {r : Window} (am : AreaMade (above t) l z y r) where
+    module _ {y : List ℕ} {r : Counts} (am : AreaMade (above t) l z y r) where
       front-z : (i k : ℕ) → i + k ≤ 5 * t → take k (drop i z) ≡ take k (drop i (take (5 * t) v))
       front-z i k h =
           mid-less i k (5 * t + 13 * t) v z (omega arith) (omega (arith, q .room)) (omega (arith, q .room)) (wl .actives .front)
           ∙ sym (mid-take i k (5 * t) v h (omega (arith, q .room)))
 
-      pub whole-made : WholeMade n t v y r
+      pub whole-made : WholeMade n t v y (windowOf (above t) r)
       whole-made = record {
-        at = am .at;
-        events = am .events;
+        at = refl;
+        events = refl;
         made = λ g sound j all ev.
             let T : take (2 * t) (drop 0 z) ≡ active g (0, t) = front-z 0 (2 * t) (omega arith) ∙ ev .places ∙ map-self (active g (0, t)) in
             let E : edgesIn (l .nodes) (l .edges) (drop (5 * t + 13 * t) z) ≡ network g (0, t) = ap (λ (k : ℕ). edgesIn (l .nodes) k (drop (5 * t + 13 * t) z))
             (wl .edges) ∙ sym (network-start g t) in
             let s : SmallGraph (network g (0, t)) (active g (0, t)) (r .nodes) (areaEdges t (r .edges) (take (13 * t) (drop (5 * t) y))) (am .ρ) (am .σ) =
             rw (E, T) at (definition-small _ _ _ _ _ _ (am .small)) in
-            subst (λ (w : Window). SmallArea g w (take (13 * t) (drop (5 * t) y))) (same-window r 0 t (am .at) (am .events))
-            (small-area g sound (record { at = 0; events = t; nodes = r .nodes; edges = r .edges }) s (record {
+            small-area g sound (windowOf (above t) r) s (record {
               places = am .places ∙ ap (map (am .σ)) T;
               words = am .words ∙ front-z (2 * t) (3 * t) (omega arith) ∙ ev .words;
-            }));
+            });
       }

@@ -8,6 +8,7 @@ use mathlib.Core.Path.{_≡_}
 use lib.ListN.{drop, getD, length, take}
 use Rattle.core_loading.specs.Loading.{Entered}
 use Rattle.core_reduce.specs.Core.{edgesIn}
+use Rattle.core_reduce.specs.declared.Counts.{Counts}
 use Rattle.core_words.specs.Fields.{ACTIVE, MARK, TO, half, node}
 use Rattle.theory_graph.specs.Cut.{cut}
 use Rattle.theory_graph.specs.Graph.{Edge, NodeSet}
@@ -96,9 +97,7 @@ pub record MakeReady (p : Part) (l : Graph) (w : List ℕ) : Type 0 where
   pub ends : (h : ℕ) → h < 2 * l .edges → half (l .nodes) TO (drop (scratch p) w) h < l .nodes
 
 -- It is contracted, and stands in the part's area with the part's events; before the area nothing changes.
-pub record AreaMade (p : Part) (l : Graph) (w z : List ℕ) (r : Window) : Type 0 where
-  pub at : r .at ≡ p .at
-  pub events : r .events ≡ p .events
+pub record AreaMade (p : Part) (l : Graph) (w z : List ℕ) (r : Counts) : Type 0 where
   pub front : take (p .area) z ≡ take (p .area) w
   pub ρ : ℕ → ℕ
   pub σ : ℕ → ℕ

@@ -53,8 +53,8 @@ pub(crate) fn copy_words(work: &mut [u32], from: usize, count: usize, q: usize)
     }
 }
 
-// Contracts the graph that is loaded behind the part's area, and writes the area.
-pub(crate) fn make_area(part: crate::Part, l: crate::Graph, work: &mut [u32]) -> crate::Window
+// Contracts the graph that is loaded behind the part's area, and writes the area: the nodes and the edges that it has then.
+pub(crate) fn make_area(part: crate::Part, l: crate::Graph, work: &mut [u32]) -> core_reduce::Counts
     requires { ⌜ MakeReady part l (now work) ⌝ }
     ensures { λ r. ⌜ AreaMade part l (now (work .entry)) (now (work .exit)) r ⌝ }
 {
@@ -67,10 +67,5 @@ pub(crate) fn make_area(part: crate::Part, l: crate::Graph, work: &mut [u32]) ->
     copy_words(work, part.words, 3 * c, q + 2 * c);
     put_field(work, r.edges, core_words::LOWER, s, q + 5 * c);
     put_field(work, r.edges, core_words::UPPER, s, q + 9 * c);
-    crate::Window {
-        at: part.at,
-        events: c,
-        nodes: r.nodes,
-        edges: r.edges,
-    }
+    r
 }

@@ -65,7 +65,13 @@ pub fn step(w: Window, lo: usize, c: usize, work: &mut [u32]) -> Window
         area: 13 * w.events,
     };
     let l = load_part(w, part, work);
-    area::make_area(part, l, work)
+    let small = area::make_area(part, l, work);
+    Window {
+        at: part.at,
+        events: part.events,
+        nodes: small.nodes,
+        edges: small.edges,
+    }
 }
 
 // Loads the n junctions, which no segment joins, with the junctions of all events as the active ones.
@@ -95,5 +101,11 @@ pub fn whole(n: usize, t: usize, work: &mut [u32]) -> Window
         area: 5 * t,
     };
     let l = load_whole(n, part, work);
-    area::make_area(part, l, work)
+    let r = area::make_area(part, l, work);
+    Window {
+        at: 0,
+        events: t,
+        nodes: r.nodes,
+        edges: r.edges,
+    }
 }

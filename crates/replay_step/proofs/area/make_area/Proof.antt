@@ -9,26 +9,40 @@ reduce-requires : tie.Need-reduce-requires
 reduce-requires c κs = loaded (c .before .before .pre)
 
 put-map-requires : tie.Need-put-map-requires
-put-map-requires c κs = map-need (c .before .before .before .before .before .before .pre) (c .before .before .before .reduce .ensures) (omega arith)
+put-map-requires c κs =
+    let at-reduce = c .before .before .before in
+    let start = at-reduce .before .before .before in
+    map-need (start .pre) (at-reduce .reduce .ensures) (omega arith)
 
 put-field-requires : tie.Need-put-field-requires
-put-field-requires c κs = let (a, _, b) = fields-need
-    (c .before .before .before .before .before .before .before .before .before .before .before .before .before .before .pre)
-    (c .before .before .before .before .before .before .before .before .before .before .before .reduce .ensures) (omega arith)
-    (c .before .before .before .copy-words .last .0) (omega arith) in (a, omega arith, b)
+put-field-requires c κs =
+    let at-copy = c .before .before .before in
+    let at-map = at-copy .before .before .before .before in
+    let at-reduce = at-map .before .before .before .before in
+    let start = at-reduce .before .before .before in
+    let (a, _, b) = fields-need (start .pre) (at-reduce .reduce .ensures) (omega arith) (at-copy .copy-words .last .0) (omega arith) in
+    (a, omega arith, b)
 
 put-field-requires-2 : tie.Need-put-field-requires-2
-put-field-requires-2 c κs = let (_, a, b) = fields-need
-    (c .before .before .before .before .before .before .before .before .before .before .before .before .before .before .before .before .before .before .pre)
-    (c .before .before .before .before .before .before .before .before .before .before .before .before .before .before .before .reduce .ensures) (omega arith)
-    (c .before .before .before .put-field .last .0) (omega arith) in (a, omega arith, b)
+put-field-requires-2 c κs =
+    let at-field = c .before .before .before in
+    let at-copy = at-field .before .before .before .before in
+    let at-map = at-copy .before .before .before .before in
+    let at-reduce = at-map .before .before .before .before in
+    let start = at-reduce .before .before .before in
+    let (_, a, b) = fields-need (start .pre) (at-reduce .reduce .ensures) (omega arith) (at-field .put-field .last .0) (omega arith) in
+    (a, omega arith, b)
 
 returns : tie.Need-returns
-returns c = area-made (c .before .before .before .before .before .before .before .before .before .before .before .before .before .before .before .before .before .before .before .before .before .pre)
-    (c .before .before .before .before .before .before .before .before .before .before .before .before .before .before .before .before .before .before .reduce .ensures)
-    (omega arith) (c .before .before .before .before .before .before .before .before .before .before .before .before .before .before .put-map .ensures)
-    (c .before .before .before .before .before .before .before .before .before .before .copy-words .ensures)
-    (c .before .before .before .before .before .before .put-field .ensures) (c .before .before .put-field2 .ensures)
+returns c =
+    let at-field2 = c .before .before in
+    let at-field = at-field2 .before .before .before .before in
+    let at-copy = at-field .before .before .before .before in
+    let at-map = at-copy .before .before .before .before in
+    let at-reduce = at-map .before .before .before .before in
+    let start = at-reduce .before .before .before in
+    area-made (start .pre) (at-reduce .reduce .ensures) (omega arith) (at-map .put-map .ensures) (at-copy .copy-words .ensures)
+    (at-field .put-field .ensures) (at-field2 .put-field2 .ensures)
 
 pub make-area-spec : {M : Type 1} → statement M
 make-area-spec =
