@@ -235,6 +235,21 @@ module _ {w : Window} {p : Part} {v : List ℕ} (st : StepReady w (p .at) (p .ev
     }
 
 -- ---- the step
+-- the part of c events from a events into the window on
+pub part-ready : {w : Window} {lo c : ℕ} {v : List ℕ} → StepReady w lo c v → (a : ℕ) → a ≤ lo - w .at → StepReady w (w .at + a) c v
+part-ready st a l = record {
+  g = st .g;
+  sound = st .sound;
+  inside = st .inside;
+  area = st .area;
+  starts = omega arith;
+  ends = omega (arith, st .starts, st .ends);
+  some = st .some;
+  room = st .room;
+  many = st .many;
+  much = st .much;
+}
+
 -- the window of a part, with the counts of its area
 abbrev pub windowOf : Part → Counts → Window
 windowOf p r = record { at = p .at; events = p .events; nodes = r .nodes; edges = r .edges }
@@ -370,13 +385,13 @@ module _ {w : Window} {p : Part} {v : List ℕ} (st : StepReady w (p .at) (p .ev
           words = am .words ∙ words-z ∙ ap (λ l. take (3 * c) (drop (3 * B) l)) (a .events .words) ∙ words-part g (w .at) (w .events) (p .at) c (st .starts) (st .ends);
         }))
 
-  pub stepped : Stepped w (p .at) c v y (windowOf p r)
-  stepped = record {
+  pub stepped : (lo : ℕ) → p .at ≡ lo → Stepped w lo c v y (record { at = lo; events = c; nodes = r .nodes; edges = r .edges })
+  stepped lo e = subst (λ (k : ℕ). Stepped w k c v y (record { at = k; events = c; nodes = r .nodes; edges = r .edges })) e (record {
     at = refl;
     events = refl;
     front = ap (λ (k : ℕ). take k y) (sym (ip .area)) ∙ am .front ∙ take-less (p .area) S v z (omega arith) (pl .front) ∙ ap (λ (k : ℕ). take k v) (ip .area);
     made = part-made;
-  }
+  })
 
 -- ---- the whole list
 pub map-self : (S : List ℕ) → map (λ a. a) S ≡ S

@@ -58,7 +58,7 @@ pub fn step(w: Window, lo: usize, c: usize, work: &mut [u32]) -> Window
 {
     let a = lo - w.at;
     let part = Part {
-        at: lo,
+        at: w.at + a,
         events: c,
         places: 2 * a,
         words: 2 * w.events + 3 * a,
@@ -67,8 +67,8 @@ pub fn step(w: Window, lo: usize, c: usize, work: &mut [u32]) -> Window
     let l = load_part(w, part, work);
     let small = area::make_area(part, l, work);
     Window {
-        at: part.at,
-        events: part.events,
+        at: lo,
+        events: c,
         nodes: small.nodes,
         edges: small.edges,
     }

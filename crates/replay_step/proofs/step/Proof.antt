@@ -1,7 +1,7 @@
 -- What is loaded, and the area made out of it.
 use mathlib.Core.Path.{refl}
 use native.Mathlib.Omega.{arith}
-use Rattle.replay_step.proofs.StepLaws.{stepped}
+use Rattle.replay_step.proofs.StepLaws.{part-ready, stepped}
 use borrow.Author.Needs.{needs}
 use Rattle.replay_step.proofs.step.Statement.{statement}
 use Rattle.replay_step.proofs.step.Tie as tie
@@ -10,13 +10,18 @@ use Rattle.replay_step.proofs.step.Lts as lts
 use Rattle.replay_step.proofs.area.make_area.Reads as make-area-reads
 use Rattle.replay_step.proofs.load_part.Reads as load-part-reads
 
+load-part-requires : tie.Need-load-part-requires
+load-part-requires c κs =
+    let start = c .before .before .before .before .before .before in
+    (part-ready (start .pre) _ (omega arith), record { places = omega arith; words = omega arith; area = refl })
+
 returns : tie.Need-returns
 returns c =
     let at-make-area = c .before .before in
     let at-load-part = at-make-area .before .before .before .before in
-    let start = at-load-part .before .before .before .before .before .before in
-    stepped (start .pre) (record { places = refl; words = refl; area = refl }) (at-load-part .load-part .ensures) (omega arith)
-    (at-make-area .make-area .ensures)
+    let start = at-load-part .before .before .before .before .before .before .before in
+    stepped (part-ready (start .pre) _ (omega arith)) (record { places = omega arith; words = omega arith; area = refl })
+    (at-load-part .load-part .ensures) (omega arith) (at-make-area .make-area .ensures) _ (omega (arith, start .pre .starts))
 
 pub step-spec : {M : Type 1} → statement M
 step-spec =
@@ -28,7 +33,8 @@ step-spec =
     (λ c. search needs)
     (λ c. search needs)
     (λ c. search needs)
-    (λ c κs. search needs)
+    (λ c. search needs)
+    load-part-requires
     (λ c κs. search needs)
     (λ c. search needs)
     returns)
