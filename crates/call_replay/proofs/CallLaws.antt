@@ -1,31 +1,27 @@
 -- The whole list and the public call: from the events' words to the windows, the queries, and the outcome of an accepted replay and of a refusal.
 -- In order of the code. Assumes nothing.
 use Prim.Native.Nat.{_*_, _+_, _-_, _<_, _≤_, suc, zero, ℕ}
-use mathlib.Core.Bool.{Bool, cond, false, not, true}
+use mathlib.Core.Bool.{Bool, cond, false, true}
 use mathlib.Core.List.{List, [], _++_, _∷_, map}
-use mathlib.Core.Path.{_∙_, _≡_, ap, ap₂, refl, subst, sym}
-use lib.Dec.{eqb}
+use mathlib.Core.Path.{_∙_, _≡_, ap, refl, subst, sym}
 use lib.ListN.{drop, getD, length, length-drop, length-replicate, length-take, replicate, take}
-use lib.Seq.{drop-at, getD-take, length-sets, length-take-le, sets, sets-eq, take-all, take-take}
-use native.Mathlib.Numerals.{add-one}
+use lib.Seq.{drop-at, getD-take, length-take-le, sets, sets-eq}
 use native.Mathlib.Omega.{arith}
-use borrow.Author.Tests.{eq-eqb, ne-eqb}
+use borrow.Author.Tests.{ne-eqb}
 use Rattle.call_sizes.specs.Refusal.{Refusal}
 use Rattle.replay_checks.proofs.SetLaws.{count, count-split}
 use Rattle.replay_checks.specs.Check.{CheckedTables}
 use Rattle.replay_checks.specs.declared.Checked.{Checked}
 use Rattle.replay_events.proofs.WritingLaws.{query-asks, size-is}
-use Rattle.replay_events.specs.Writing.{CanWriteEvents, EventsWritten, isQuery, listOf, queriesBy}
+use Rattle.replay_events.specs.Writing.{EventsWritten, isQuery, listOf, queriesBy}
 use Rattle.replay_step.specs.Area.{SmallArea, WholeMade, WholeReady}
 use Rattle.replay_step.specs.declared.Window.{Window}
 use Rattle.replay_windows.proofs.DescentLaws.{lent-take}
 use Rattle.replay_windows.specs.Descent.{Replied, WindowDone, WindowReady}
-use Rattle.theory_graph.proofs.Booleans.{onBool}
 use Rattle.theory_graph.proofs.TableLaws.{pairs-at}
-use Rattle.theory_graph.specs.Lists.{filter, over, range, sum, table}
-use Rattle.theory_timeline.proofs.Acceptance.{Accepted, accepted-from, accepted-sound, events-length, length-pairs, segments-length}
+use Rattle.theory_graph.specs.Lists.{over, range, sum, table}
+use Rattle.theory_timeline.proofs.Acceptance.{Accepted, accepted-from, accepted-sound, events-length}
 use Rattle.theory_timeline.proofs.DemandThree.{accepted-done, bytes-length, demand-3}
-use Rattle.theory_timeline.proofs.Leaves.{byte-asks, map-from}
 use Rattle.theory_timeline.specs.Call.{outcome}
 use Rattle.theory_timeline.specs.DemandThree.{KeepsDemand3}
 use Rattle.theory_timeline.specs.Events.{Event, asks, kindOf}

@@ -14,11 +14,11 @@ use Rattle.call_open_set.specs.OpenSet.{bits, isOpen}
 use Rattle.call_sizes.proofs.RefusalLaws.{accepted-long, fault-left, fault-right, fault-silent, seek-at, seek-end, short-numbered, sizes-numbered, skip-silent}
 use Rattle.call_sizes.specs.Refusal.{Refusal, Row, badEnds, firstFault, row, seek}
 use Rattle.call_sizes.specs.Sizes.{sizeFaults}
-use Rattle.theory_graph.proofs.Booleans.{contradict, onBool}
+use Rattle.theory_graph.proofs.Booleans.{onBool}
 use Rattle.theory_graph.specs.Lists.{pairs, sum}
 use Rattle.theory_timeline.proofs.Acceptance.{Accepted, accepted-from, accepted-sound, fault-fine, getD-pairs, length-pairs}
 use Rattle.theory_timeline.proofs.Networks.{after-append}
-use Rattle.theory_timeline.specs.Events.{Event, SegmentSet, after, afterAll, closes, kindOf, opens}
+use Rattle.theory_timeline.specs.Events.{Event, SegmentSet, after, afterAll, kindOf}
 use Rattle.theory_timeline.specs.Replay.{Lent, eventFault, fault, faultAt, faults, given, listFaults, shareFaults, shortTables, tableLengths}
 use Rattle.theory_timeline.specs.Windows.{atStart, openBefore, size}
 use Rattle.theory_timeline.specs.declared.Kind.{Kind}

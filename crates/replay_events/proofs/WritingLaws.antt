@@ -3,23 +3,23 @@
 -- Assumes nothing.
 use Prim.Native.Nat.{_%_, _*_, _+_, _-_, _/_, _<_, _≤_, min, suc, zero, ℕ}
 use mathlib.Core.Bool.{Bool, _&&_, _||_, cond, false, not, true}
-use mathlib.Core.List.{List, [], _++_, _∷_, map}
+use mathlib.Core.List.{List, [], _++_, _∷_}
 use mathlib.Core.Path.{_∙_, _≡_, ap, ap₂, refl, subst, sym}
 use lib.Dec.{eqb, ltb}
 use lib.ListN.{drop, getD, getD-replicate, length, length-drop, length-replicate, length-set, length-take, replicate, set, take}
 use lib.Seq.{ext-getD, getD-drop, getD-set-other, getD-set-same, getD-take, length-sets, length-take-le, sets, take-all, take-suc, take-take}
 use native.Mathlib.Numerals.{add-one}
 use native.Mathlib.Omega.{arith}
-use borrow.Author.Tests.{eq-eqb, eqb-false, eqb-true, le-ltb, lt-ltb, ltb-false, ltb-true, ne-eqb, not-false}
+use borrow.Author.Tests.{eq-eqb, eqb-false, eqb-true, ltb-false, ltb-true, ne-eqb, not-false}
 use Rattle.call_sizes.proofs.RefusalLaws.{seek-here, seek-more, seek-past}
 use Rattle.call_sizes.specs.Refusal.{seek}
-use Rattle.theory_graph.proofs.Booleans.{contradict, onBool}
+use Rattle.theory_graph.proofs.Booleans.{onBool}
 use Rattle.theory_graph.proofs.TableLaws.{pairs-at, pairs-length, sets-append}
 use Rattle.theory_graph.specs.Graph.{Edge}
 use Rattle.theory_graph.specs.Lists.{pairs}
-use Rattle.theory_timeline.proofs.Acceptance.{Fine, sound-fine, sound-segment}
-use Rattle.theory_timeline.proofs.TagLaws.{names-none, names-own, names-other, open-next, says, tag-says, word-change, word-query, words-at, words-length}
-use Rattle.theory_timeline.specs.Events.{Event, SegmentSet, activeOf, asks, closes, ends, kindOf, names, opens}
+use Rattle.theory_timeline.proofs.Acceptance.{sound-fine, sound-segment}
+use Rattle.theory_timeline.proofs.TagLaws.{names-none, names-own, open-next, tag-says, word-change, word-query, words-at, words-length}
+use Rattle.theory_timeline.specs.Events.{Event, SegmentSet, activeOf, asks, closes, ends, kindOf, opens}
 use Rattle.theory_timeline.specs.Replay.{eventFault}
 use Rattle.theory_timeline.specs.Steps.{Sound}
 use Rattle.theory_timeline.specs.Tags.{bit, eventWords, key, last, namesKey, next, seekLast, tag, word}
@@ -27,8 +27,7 @@ use Rattle.theory_timeline.specs.Windows.{Timeline, active, during, event, open
 use Rattle.theory_timeline.specs.declared.Kind.{Kind}
 use Rattle.theory_timeline.specs.declared.Kind.the-variants.{Closes, Nothing, Opens, Query}
 use Rattle.replay_step.proofs.StepLaws.{map-self}
-use Rattle.replay_step.proofs.WordLaws.{front-get, mid-sets}
-use Rattle.replay_step.specs.Area.{EventsIn}
+use Rattle.replay_step.proofs.WordLaws.{mid-sets}
 use Rattle.replay_events.specs.Writing.{CanWriteEvents, EventsWritten, LinkRoom, LinkedEvent, TagsFit, Written, endsBy, isQuery, junctionsBy}
 use Rattle.replay_events.specs.Writing.{keyOf, lastBy, listOf, namesTag, nextBy, queriesBy, tagBy, tagsBy, tagsIn}
 

@@ -5,13 +5,13 @@ use mathlib.Core.List.{List, List·Memᴰ, _∷_, map}
 use mathlib.Core.Path.{_∙_, _≡_, ap, ap₂, refl, subst, sym}
 use lib.Dec.{eqb}
 use lib.ListN.{drop, getD, length, length-drop, length-map, length-take, take}
-use lib.Seq.{drop-drop, length-sets, length-take-le, sets, take-take}
+use lib.Seq.{drop-drop, length-sets, sets, take-take}
 use native.Mathlib.Omega.{arith}
 use borrow.Rule.Slice.PartMut.{putMid, same-len-mid, take-put}
 use Rattle.core_loading.proofs.LoadingLaws.{entered-most}
 use Rattle.core_reduce.specs.Core.{Loaded, Reduced, activeIn, edgesIn, edgesOut}
 use Rattle.core_reduce.specs.declared.Counts.{Counts}
-use Rattle.core_words.specs.Fields.{ACTIVE, LOWER, MAPPED, UPPER, half, node}
+use Rattle.core_words.specs.Fields.{ACTIVE, LOWER, MAPPED, UPPER, node}
 use Rattle.theory_graph.proofs.ActiveLists.{in-firsts, small-repeats}
 use Rattle.theory_graph.proofs.EdgeCount.{firsts-most, mostNodes-double, small-edges-most}
 use Rattle.theory_graph.proofs.Lists.{table-length, table-mem}

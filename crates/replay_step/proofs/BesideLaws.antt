@@ -1,19 +1,17 @@
 -- The events beside a part: whether one adds its key, its edge loaded, and events one after another.
 -- Assumes nothing.
-use Prim.Native.Nat.{_%_, _*_, _+_, _-_, _/_, _<_, _≤_, suc, ℕ}
-use mathlib.Core.Bool.{Bool, _&&_, and-false, cond, false, true}
+use Prim.Native.Nat.{_*_, _+_, _-_, _<_, _≤_, suc, ℕ}
+use mathlib.Core.Bool.{Bool, _&&_, cond, false, true}
 use mathlib.Core.List.{List, [], _∷_}
-use mathlib.Core.Path.{_∙_, _≡_, ap, ap₂, refl, subst, sym}
-use lib.Dec.{eqb, leb, ltb}
+use mathlib.Core.Path.{_∙_, _≡_, ap, ap₂, refl, sym}
+use lib.Dec.{leb, ltb}
 use lib.ListN.{drop, getD, length, length-drop, length-take, take}
 use native.Mathlib.Omega.{arith}
 use borrow.Author.Tests.{le-leb, le-ltb, lt-leb, lt-ltb}
-use borrow.Rule.Slice.PartMut.{putMid, same-len-mid, take-put}
+use borrow.Rule.Slice.PartMut.{putMid, same-len-mid}
 use Rattle.core_loading.specs.Loading.{PutEdge}
-use Rattle.core_reduce.specs.Core.{edgesIn}
-use Rattle.core_words.specs.Fields.{half, node}
 use Rattle.theory_graph.specs.Cut.{crosses, cut}
-use Rattle.theory_graph.specs.Graph.{Edge, NodeSet}
+use Rattle.theory_graph.specs.Graph.{Edge}
 use Rattle.theory_timeline.proofs.TagLaws.{pick-ext-events, pick-snoc}
 use Rattle.theory_timeline.specs.Tags.{adds, isOpenAfter, pickEvents, wasOpen}
 use Rattle.theory_timeline.specs.Windows as Windows

@@ -4,7 +4,7 @@
 use Prim.Native.Nat.{_*_, _+_, _-_, _<_, _≤_, suc, zero, ℕ}
 use mathlib.Core.List.{List, [], _++_, _∷_, map}
 use mathlib.Core.Path.{_∙_, _≡_, ap, ap₂, refl, subst, sym}
-use lib.Dec.{eqb, ltb}
+use lib.Dec.{ltb}
 use lib.ListN.{drop, getD, length, length-drop, length-take, take}
 use lib.Seq.{getD-drop, getD-take, length-take-le, take-take}
 use native.Mathlib.Omega.{arith}
@@ -25,7 +25,7 @@ use Rattle.theory_graph.proofs.TableLaws.{pairs-at, pairs-length, table-equal}
 use Rattle.theory_graph.proofs.Uniqueness.{small-bound}
 use Rattle.theory_graph.specs.Cut.{cut}
 use Rattle.theory_graph.specs.Graph.{Edge, NodeSet}
-use Rattle.theory_graph.specs.Lists.{pairs, table}
+use Rattle.theory_graph.specs.Lists.{pairs}
 use Rattle.theory_graph.specs.SmallGraph.{image}
 use Rattle.theory_timeline.proofs.Acceptance.{sound-good, sound-segment}
 use Rattle.theory_timeline.proofs.DemandThree.{small-is}
@@ -34,13 +34,13 @@ use Rattle.theory_timeline.proofs.TagLaws.{events-added, pick-image, pick-shift
 use Rattle.theory_timeline.specs.Events.{Event, activeOf, ends}
 use Rattle.theory_timeline.specs.Steps as Steps
 use Rattle.theory_timeline.specs.Steps.{Sound, added}
-use Rattle.theory_timeline.specs.Tags.{addsEvent, endsAt, eventWords, pickEvents, word}
+use Rattle.theory_timeline.specs.Tags.{addsEvent, endsAt, pickEvents, word}
 use Rattle.theory_timeline.specs.Windows as Windows
 use Rattle.theory_timeline.specs.Windows.{Timeline, active, during, event, network, size}
 use Rattle.replay_step.proofs.BesideLaws.{adds-same, beside-same}
 use Rattle.replay_step.proofs.WordLaws.{front-get, low-map, mid-less, mid-take, take-less}
 use Rattle.replay_step.specs.Area.{Area, EventsIn, SmallArea, StepReady, Stepped, WholeMade, WholeReady, areaEdges, span}
-use Rattle.replay_step.specs.Load.{ActiveReady, Actives, AddReady, Added, AreaMade, Copied, EdgesReady, Edged, IsPart, MakeReady, PartLoaded, WholeLoaded, addsIn, placesIn, scratch}
+use Rattle.replay_step.specs.Load.{ActiveReady, Actives, AddReady, Added, AreaMade, Copied, EdgesReady, IsPart, MakeReady, PartLoaded, WholeLoaded, addsIn, placesIn, scratch}
 use Rattle.replay_step.specs.declared.Graph.{Graph}
 use Rattle.replay_step.specs.declared.Part.{Part}
 use Rattle.replay_step.specs.declared.Window.{Window}

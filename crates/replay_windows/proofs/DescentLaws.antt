@@ -2,7 +2,7 @@
 -- In order: the counts of an area; the windows of a share; what a step and a part need; a window of two parts; a window of one event.
 -- Assumes nothing.
 use Prim.Native.Nat.{_*_, _+_, _-_, _<_, _≤_, suc, zero, ℕ}
-use mathlib.Core.Bool.{_||_, cond, false, not, true}
+use mathlib.Core.Bool.{cond, false, true}
 use mathlib.Core.List.{List, [], _++_, _∷_, map}
 use mathlib.Core.Path.{_∙_, _≡_, ap, ap₂, refl, subst, sym}
 use lib.Dec.{eqb, ltb}
@@ -10,9 +10,9 @@ use lib.ListN.{drop, getD, length, length-drop, length-take, set, take}
 use lib.Seq.{getD-drop, getD-take, sets, take-take}
 use native.Mathlib.Nat.{mul-le-mul-left}
 use native.Mathlib.Omega.{arith}
-use borrow.Author.Tests.{eq-eqb, eqb-false, eqb-true, ltb-false, ltb-true, ne-eqb, not-false, not-true}
+use borrow.Author.Tests.{eq-eqb, eqb-false, eqb-true, ltb-false, ltb-true, ne-eqb}
 use borrow.Rule.Slice.PartMut.{putMid, take-put}
-use Rattle.theory_graph.proofs.Booleans.{contradict, onBool}
+use Rattle.theory_graph.proofs.Booleans.{onBool}
 use Rattle.theory_graph.proofs.EdgeCount.{firsts-most, small-edges, small-edges-most}
 use Rattle.theory_graph.proofs.Renumbering.{renumbered-small}
 use Rattle.theory_graph.proofs.SmallGraphs.{SmallGraph}
@@ -27,7 +27,7 @@ use Rattle.theory_timeline.proofs.Leaves.{alone, during-one}
 use Rattle.theory_timeline.proofs.TagLaws.{tag-says, word-change, word-query, words-at}
 use Rattle.theory_timeline.proofs.WindowLaws.{large-one, small-one}
 use Rattle.theory_timeline.specs.DemandThree.{Allowed}
-use Rattle.theory_timeline.specs.Events.{asks, closes, opens}
+use Rattle.theory_timeline.specs.Events.{asks}
 use Rattle.theory_timeline.specs.Replay.{byte}
 use Rattle.theory_timeline.specs.Steps.{Sound}
 use Rattle.theory_timeline.specs.Tags.{eventWords, tag, word}

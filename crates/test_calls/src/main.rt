@@ -31,14 +31,6 @@ fn differ(held: [u64; 128], marks: &Marks) -> usize {
     count
 }
 
-fn ones(marks: &Marks) -> usize {
-    let mut count: usize = 0;
-    for s in 0..8192 {
-        count = counts::counted(count, tables::marked(marks, s));
-    }
-    count
-}
-
 // Opens and closes random segments in the set and in the marks; 1 where they differ then.
 fn compare(seed: usize) -> usize {
     let mut held = [0u64; 128];
@@ -50,7 +42,7 @@ fn compare(seed: usize) -> usize {
         held = next;
         tables::mark(&mut marks, s, opens);
     }
-    let wrong = call_open_set::count(held) != ones(&marks);
+    let wrong = call_open_set::count(held) != tables::ones(&marks);
     counts::least(counts::counted(differ(held, &marks), wrong), 1)
 }
 

@@ -3,6 +3,7 @@
 // 9 entries and 9 numbers of the map, 11 first ends and 11 second ends of the edges out, of which as many count as the sizes say.
 use libc::STDIN_FILENO;
 use test_library::calls::Reply;
+use test_library::counts;
 use test_library::lists;
 use test_library::lists::List;
 
@@ -13,13 +14,9 @@ pub(crate) fn read(text: &mut Text) -> usize {
     io::read_full(STDIN_FILENO, text) / 78
 }
 
-fn wide(x: u8) -> usize {
-    x as usize
-}
-
 // Number j of line i.
 fn number(text: &Text, i: usize, j: usize) -> usize {
-    wide(text[(i % 60 * 78 + j % 78) % 4680]) % 48
+    counts::byte(text[(i % 60 * 78 + j % 78) % 4680]) % 48
 }
 
 // Copies numbers of line i, from this one on, into a table of the list.

@@ -53,20 +53,12 @@ fn wanted(want: &List, table: usize, count: usize, i: usize) -> usize {
     7
 }
 
-fn wide_byte(v: u8) -> usize {
-    v as usize
-}
-
-fn wide_entry(v: u16) -> usize {
-    v as usize
-}
-
 // How many bytes are wrong of all that were lent, where the first count are to be as wanted and the others as before.
 pub fn bytes_wrong(t: &[u8], want: &List, table: usize, count: usize, all: usize) -> usize {
     let n = counts::least(all, t.len());
     let mut wrong: usize = 0;
     for i in 0..n {
-        wrong = counts::counted(wrong, wide_byte(t[i]) != wanted(want, table, count, i));
+        wrong = counts::counted(wrong, counts::byte(t[i]) != wanted(want, table, count, i));
     }
     wrong
 }
@@ -76,7 +68,7 @@ pub fn entries_wrong(t: &[u16], want: &List, table: usize, count: usize, all: us
     let n = counts::least(all, t.len());
     let mut wrong: usize = 0;
     for i in 0..n {
-        wrong = counts::counted(wrong, wide_entry(t[i]) != wanted(want, table, count, i));
+        wrong = counts::counted(wrong, counts::entry(t[i]) != wanted(want, table, count, i));
     }
     wrong
 }

@@ -1,8 +1,21 @@
-// Sums, differences and bounds.
+// Sums, differences, bounds and widths.
 ghost use Prim.Native.Nat.{_≤_};
 
 pub fn plus(x: usize, y: usize) -> usize {
     x % 1073741824 + y % 1073741824
+}
+
+// A byte, an entry and a word as numbers. The prover does not follow a cast within an index or a call.
+pub fn byte(v: u8) -> usize {
+    v as usize
+}
+
+pub fn entry(v: u16) -> usize {
+    v as usize
+}
+
+pub fn word(v: u32) -> usize {
+    v as usize
 }
 
 // The difference, or 0 where y is larger.

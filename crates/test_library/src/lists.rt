@@ -1,5 +1,6 @@
 // A network with its events, or with its active entries: four tables of 8192 entries, then four sizes. A has the segments' first ends, B their second ends, X and Y the
 // events. The sizes stand under the same names: N, M, T and the share. Of a contraction X has the active entries and K, and Y nothing.
+use crate::counts;
 
 pub type List = [u16; 32776];
 
@@ -11,12 +12,8 @@ pub const X: usize = 2;
 
 pub const Y: usize = 3;
 
-fn wide(v: u16) -> usize {
-    v as usize
-}
-
 pub fn at(l: &List, table: usize, i: usize) -> usize {
-    wide(l[table % 4 * 8192 + i % 8192])
+    counts::entry(l[table % 4 * 8192 + i % 8192])
 }
 
 pub fn set(l: &mut List, table: usize, i: usize, v: usize) {
@@ -25,7 +22,7 @@ pub fn set(l: &mut List, table: usize, i: usize, v: usize) {
 
 // The size that stands under this name.
 pub fn size(l: &List, table: usize) -> usize {
-    wide(l[32768 + table % 4])
+    counts::entry(l[32768 + table % 4])
 }
 
 fn set_size(l: &mut List, table: usize, v: usize) {

@@ -1,4 +1,5 @@
 // Tables of numbers and of marks. An index goes round at the end, so that no caller has to know the bounds.
+use crate::counts;
 
 // Numbers of at most 512 nodes, or counts of a report.
 pub type Table = [u32; 512];
@@ -6,12 +7,8 @@ pub type Table = [u32; 512];
 // A mark for each segment, or for each junction.
 pub type Marks = [bool; 8192];
 
-fn wide(v: u32) -> usize {
-    v as usize
-}
-
 pub fn get(t: &Table, i: usize) -> usize {
-    wide(t[i % 512])
+    counts::word(t[i % 512])
 }
 
 pub fn put(t: &mut Table, i: usize, v: usize) {
@@ -20,6 +17,15 @@ pub fn put(t: &mut Table, i: usize, v: usize) {
 
 pub fn marked(t: &Marks, i: usize) -> bool {
     t[i % 8192]
+}
+
+// How many marks are set.
+pub fn ones(t: &Marks) -> usize {
+    let mut count: usize = 0;
+    for i in 0..8192 {
+        count = counts::counted(count, marked(t, i));
+    }
+    count
 }
 
 pub fn mark(t: &mut Marks, i: usize, to: bool) {

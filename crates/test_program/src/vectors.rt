@@ -9,12 +9,8 @@ use test_library::counts;
 
 type Text = [u8; 24576];
 
-fn wide(x: u8) -> usize {
-    x as usize
-}
-
 fn byte_at(text: &Text, i: usize) -> usize {
-    wide(text[i % 24576])
+    counts::byte(text[i % 24576])
 }
 
 // The first place of this byte from start on, or the end of the text.
@@ -69,7 +65,7 @@ fn printed(c: usize) -> usize {
 // Whether the output is that which stands from start to end.
 fn matches(out: &Output, count: usize, text: &Text, start: usize, end: usize) -> bool {
     for j in 0..count {
-        if wide(out[j % 2048]) != printed(byte_at(text, counts::plus(start, j))) {
+        if counts::byte(out[j % 2048]) != printed(byte_at(text, counts::plus(start, j))) {
             return false;
         }
     }

@@ -89,7 +89,7 @@ fn run(t: &mut Table, l: &List, places: usize, most: usize, planted: usize, work
 }
 
 fn run_small(t: &mut Table, work: &mut Work) {
-    for s in 0..42000 {
+    for s in 0..60000 {
         let mut l = [65000u16; 32776];
         random_lists::small(&mut l, s);
         run(t, &l, 0, 12, 0, work);
@@ -97,7 +97,7 @@ fn run_small(t: &mut Table, work: &mut Work) {
 }
 
 fn run_large(t: &mut Table, work: &mut Work) {
-    for s in 0..21 {
+    for s in 0..36 {
         let mut l = [65000u16; 32776];
         random_lists::large(&mut l, s);
         run(t, &l, 0, 512, 0, work);

@@ -61,7 +61,7 @@ fn ring_nodes(l: &List, open: &Marks, start: usize, end: usize, places: usize) -
     rings::number(&mut classes, open, places);
     let mut active = [false; 8192];
     mark_active(&mut active, l, start, end, &classes, places);
-    rings::ones(&active)
+    tables::ones(&active)
 }
 
 // The nodes of a window's small graph.
@@ -188,7 +188,7 @@ fn accepted(r: &mut List, l: &List, open: &Marks, places: usize) -> Reply {
     if t > 0 {
         sum = kept(l, 0, t % 65536, places);
     }
-    [0, 0, queries, rings::ones(open), sum, 0, 0, 0]
+    [0, 0, queries, tables::ones(open), sum, 0, 0, 0]
 }
 
 // The reply to a list, with its answers; or the refusal by 4 to 7.

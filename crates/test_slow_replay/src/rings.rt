@@ -86,12 +86,3 @@ pub(crate) fn class(classes: &List, places: usize, v: usize) -> usize {
     }
     counts::plus(v, 4096)
 }
-
-// How many marks are set.
-pub(crate) fn ones(t: &Marks) -> usize {
-    let mut count: usize = 0;
-    for e in 0..8192 {
-        count = counts::counted(count, tables::marked(t, e));
-    }
-    count
-}

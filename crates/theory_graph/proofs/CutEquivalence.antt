@@ -2,20 +2,18 @@
 -- small graphs and contractions. So the order of the edges in a network and the direction in which an edge is written never matter.
 -- Assumes nothing.
 use Prim.Native.Nat.{ℕ}
-use mathlib.Core.Bool.{Bool, _&&_, cond, not}
-use mathlib.Core.List.{List, _++_, map}
+use mathlib.Core.Bool.{_&&_, cond, not}
+use mathlib.Core.List.{List}
 use mathlib.Core.Path.{_∙_, _≡_, ap, ap₂, fun-ext, refl, sym}
-use lib.ListN.{length}
 use native.Mathlib.Omega.{arith}
 use Rattle.theory_graph.proofs.Adjacency.{induced-split}
 use Rattle.theory_graph.proofs.Booleans.{bool-iff}
 use Rattle.theory_graph.proofs.Definitions.{joined-from, joined-to, kept-from, kept-to, twoEdge-from, twoEdge-to}
 use Rattle.theory_graph.proofs.Kept.{Kept}
 use Rattle.theory_graph.proofs.SmallGraphs.{Linked, SmallGraph}
-use Rattle.theory_graph.specs.Contraction.{Contracted, contract, kept, keptClasses, linked, links, third}
+use Rattle.theory_graph.specs.Contraction.{contract, kept, keptClasses, linked, third}
 use Rattle.theory_graph.specs.Cut.{Between, Separated, _∖_, _∩_, cut}
 use Rattle.theory_graph.specs.Graph.{Edge, NodeSet, answer, induced, joined, twoEdge}
-use Rattle.theory_graph.specs.Lists.{filter, firsts, position, range}
 
 module _ (E E′ : List Edge) (q : (U : NodeSet) → cut U E ≡ cut U E′) where
   insep-cuts : (j x y : ℕ) → ¬ Separated j E x y → ¬ Separated j E′ x y

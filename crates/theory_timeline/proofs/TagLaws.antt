@@ -3,7 +3,7 @@
 -- Assumes nothing.
 use Prim.Native.Nat.{_%_, _*_, _+_, _-_, _/_, _<_, _≤_, suc, zero, ℕ}
 use mathlib.Core.Bool.{Bool, _&&_, _||_, and-false, cond, false, not, or-assoc, or-false, or-true, true}
-use mathlib.Core.List.{List, [], _++_, _∷_}
+use mathlib.Core.List.{List, [], _∷_}
 use mathlib.Core.Logic.{_⊎_, inl, inr}
 use mathlib.Core.Path.{_∙_, _≡_, ap, ap₂, refl, subst, sym}
 use lib.Dec.{eqb, leb, ltb}
@@ -11,20 +11,18 @@ use lib.ListN.{drop, getD, length, take}
 use lib.Seq.{drop-cons, take-add, take-suc}
 use native.Mathlib.Numerals.{add-one}
 use native.Mathlib.Omega.{arith}
-use borrow.Author.Tests.{eq-eqb, eqb-false, eqb-true, le-leb, le-ltb, leb-false, leb-true, lt-ltb, ltb-false, ltb-true, ne-eqb, not-false, not-true}
+use borrow.Author.Tests.{eq-eqb, eqb-false, eqb-true, le-ltb, leb-false, leb-true, lt-ltb, ltb-false, ltb-true, ne-eqb, not-false, not-true}
 use Rattle.call_sizes.proofs.RefusalLaws.{seek-before, seek-found}
 use Rattle.call_sizes.specs.Refusal.{seek}
-use Rattle.theory_graph.proofs.Booleans.{and-elim, contradict, onBool}
-use Rattle.theory_graph.proofs.Cuts.{cut-image}
+use Rattle.theory_graph.proofs.Booleans.{contradict, onBool}
 use Rattle.theory_graph.proofs.Lists.{any-in, range-mem}
 use Rattle.theory_graph.specs.Cut.{crosses, cut}
 use Rattle.theory_graph.specs.Graph.{Edge, NodeSet}
 use Rattle.theory_graph.specs.Lists.{any, range}
-use Rattle.theory_graph.specs.SmallGraph.{_∘_, image}
-use Rattle.theory_timeline.proofs.Acceptance.{Fine}
+use Rattle.theory_graph.specs.SmallGraph.{image}
 use Rattle.theory_timeline.proofs.EventLaws.{after-stays, pick-ext, pick-sum}
 use Rattle.theory_timeline.proofs.Networks.{after-append}
-use Rattle.theory_timeline.specs.Events.{Event, SegmentSet, after, afterAll, asks, closes, ends, named, names, opens, pick}
+use Rattle.theory_timeline.specs.Events.{Event, SegmentSet, after, afterAll, asks, closes, named, opens, pick}
 use Rattle.theory_timeline.specs.Steps.{Part, added}
 use Rattle.theory_timeline.specs.Tags.{adds, addsEvent, bit, endsAt, eventWords, isOpenAfter, key, last, namesKey, next, pickEvents, seekLast, tag, wasOpen, word}
 use Rattle.theory_timeline.specs.Windows.{Timeline, Window, atStart, during, event, openBefore, size}

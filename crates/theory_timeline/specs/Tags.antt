@@ -4,9 +4,8 @@
 -- Assumes nothing: these are definitions.
 use Prim.Native.Nat.{_%_, _*_, _+_, _-_, _/_, suc, zero, ℕ}
 use mathlib.Core.Bool.{Bool, _&&_, cond}
-use mathlib.Core.List.{List, [], _++_, _∷_}
+use mathlib.Core.List.{List, [], _∷_}
 use lib.Dec.{eqb, leb, ltb}
-use lib.ListN.{getD}
 use Rattle.call_sizes.specs.Refusal.{seek}
 use Rattle.theory_graph.specs.Graph.{Edge}
 use Rattle.theory_timeline.specs.Events.{asks, ends, names}

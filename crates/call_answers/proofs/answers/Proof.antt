@@ -10,9 +10,6 @@ use Rattle.call_answers.proofs.answers.Tie as tie
 slice-aggregate-result : tie.Need-slice-aggregate-result
 slice-aggregate-result c = sym (length-take-le _ _ (omega (arith, c .before .if1 .taken)))
 
-slice-aggregate-result-2 : tie.Need-slice-aggregate-result-2
-slice-aggregate-result-2 c = search needs
-
 returns : tie.Need-returns
 returns c = simp (le-leb (c .before .before .args .t) (length (c .before .before .args .table .now)) (omega (arith, c .before .if1 .taken)))
 
@@ -21,4 +18,4 @@ returns-2 c = simp (lt-leb (c .before .before .args .t) (length (c .before .befo
 
 pub answers-spec : {M : Type 1} → statement M
 answers-spec =
-    tie.close (tie.spec slice-aggregate-result slice-aggregate-result-2 returns returns-2)
+    tie.close (tie.spec slice-aggregate-result (λ c. search needs) returns returns-2)

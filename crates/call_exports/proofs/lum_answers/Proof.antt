@@ -7,13 +7,10 @@ use borrow.Author.Needs.{needs}
 use Rattle.call_exports.proofs.lum_answers.Statement.{statement}
 use Rattle.call_exports.proofs.lum_answers.Tie as tie
 
-answers-requires : tie.Need-answers-requires
-answers-requires c κs = search needs
-
 returns : tie.Need-returns
 returns c =
     let e = ap length (c .answers .ensures) in
     (e, ap (λ (k : ℕ). take k (c .before .before .args .table .now)) e ∙ part-first (c .before .before .args .table .now) (c .before .before .args .t))
 
 pub lum-answers-spec : {M : Type 1} → statement M
-lum-answers-spec = tie.close (tie.spec answers-requires returns)
+lum-answers-spec = tie.close (tie.spec (λ c κs. search needs) returns)

@@ -4,19 +4,10 @@ use borrow.Author.Needs.{needs}
 use Rattle.call_exports.proofs.lum_sizes.Statement.{statement}
 use Rattle.call_exports.proofs.lum_sizes.Tie as tie
 
-check-requires : tie.Need-check-requires
-check-requires c κs = search needs
-
-enum-known-reply : tie.Need-enum-known-reply
-enum-known-reply c = search needs
-
 returns : tie.Need-returns
 returns c =
     let args = c .before .before .before .before .args in
     sizes-within (args .n) (args .m) (args .t) (args .k) (c .before .before .before .check .ensures) (c .before .reply .given .1)
-
-enum-known-reply-2 : tie.Need-enum-known-reply-2
-enum-known-reply-2 c = search needs
 
 returns-2 : tie.Need-returns-2
 returns-2 c =
@@ -25,4 +16,4 @@ returns-2 c =
 
 pub lum-sizes-spec : {M : Type 1} → statement M
 lum-sizes-spec =
-    tie.close (tie.spec check-requires enum-known-reply returns enum-known-reply-2 returns-2)
+    tie.close (tie.spec (λ c κs. search needs) (λ c. search needs) returns (λ c. search needs) returns-2)

@@ -6,17 +6,8 @@ use Rattle.call_open_set.proofs.is_open.Tie as tie
 returns : tie.Need-returns
 returns c = bit-past (c .before .args .t1) (c .before .args .s) (c .before .good .0 .1 .0 .1) (c .if1 .taken)
 
-mul-result : tie.Need-mul-result
-mul-result c = search needs
-
-array-read-result : tie.Need-array-read-result
-array-read-result c = search needs
-
-shr-result : tie.Need-shr-result
-shr-result c = search needs
-
 returns-2 : tie.Need-returns-2
 returns-2 c = bit-open (c .before .args .t1) (c .before .args .s) (c .before .good .0 .1 .0 .1) (c .if1 .left)
 
 pub is-open-spec : {M : Type 1} → statement M
-is-open-spec = tie.close (tie.spec returns mul-result array-read-result shr-result returns-2)
+is-open-spec = tie.close (tie.spec returns (λ c. search needs) (λ c. search needs) (λ c. search needs) returns-2)

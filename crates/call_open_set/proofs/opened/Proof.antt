@@ -6,21 +6,6 @@ use Rattle.call_open_set.proofs.opened.Tie as tie
 returns : tie.Need-returns
 returns c = set-past _ _ 1 (c .before .good .0 .1 .0 .1) (c .if1 .taken)
 
-mul-with-bit : tie.Need-mul-with-bit
-mul-with-bit c = search needs
-
-array-read-with-bit : tie.Need-array-read-with-bit
-array-read-with-bit c = search needs
-
-with-bit-requires : tie.Need-with-bit-requires
-with-bit-requires c κs = search needs
-
-mul-next : tie.Need-mul-next
-mul-next c = search needs
-
-array-write-next : tie.Need-array-write-next
-array-write-next c = search needs
-
 returns-2 : tie.Need-returns-2
 returns-2 c = set-at-segment _ _ _ 1 (c .before .before .good .0 .1 .0 .1) (c .before .if1 .left) (c .with-bit .ensures)
 
@@ -29,9 +14,9 @@ opened-spec =
     tie.close
     (tie.spec
     returns
-    mul-with-bit
-    array-read-with-bit
-    with-bit-requires
-    mul-next
-    array-write-next
+    (λ c. search needs)
+    (λ c. search needs)
+    (λ c κs. search needs)
+    (λ c. search needs)
+    (λ c. search needs)
     returns-2)

@@ -3,11 +3,8 @@ use Rattle.call_open_set.proofs.OpenSetLaws.{off-digit, one-bit}
 use Rattle.call_open_set.proofs.without_bit.Statement.{statement}
 use Rattle.call_open_set.proofs.without_bit.Tie as tie
 
-shl-bit : tie.Need-shl-bit
-shl-bit c = search needs
-
 returns : tie.Need-returns
 returns c = rw (one-bit (c .args .b) (c .pre)) (off-digit (c .args .b) (c .args .w) (c .pre))
 
 pub without-bit-spec : {M : Type 1} → statement M
-without-bit-spec = tie.close (tie.spec shl-bit returns)
+without-bit-spec = tie.close (tie.spec (λ c. search needs) returns)

@@ -7,18 +7,9 @@ use Rattle.replay_checks.proofs.contains.Tie as tie
 returns : tie.Need-returns
 returns c = bit-past (c .before .args .words .now) (c .before .args .s) (c .before .pre) (c .if1 .taken)
 
-mul-result : tie.Need-mul-result
-mul-result c = search needs
-
-element-copy-out-result : tie.Need-element-copy-out-result
-element-copy-out-result c = search needs
-
-shr-result : tie.Need-shr-result
-shr-result c = search needs
-
 returns-2 : tie.Need-returns-2
 returns-2 c = bit-open (c .before .before .args .words .now) (c .before .before .args .s) (c .before .before .pre) (c .before .if1 .left)
 
 pub contains-spec : {M : Type 1} → statement M
 contains-spec =
-    tie.close (tie.spec returns mul-result element-copy-out-result shr-result returns-2)
+    tie.close (tie.spec returns (λ c. search needs) (λ c. search needs) (λ c. search needs) returns-2)

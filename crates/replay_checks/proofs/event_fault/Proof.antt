@@ -6,12 +6,6 @@ use Rattle.replay_checks.proofs.CheckLaws.{closes-bad, closes-closed, c
 use Rattle.replay_checks.proofs.event_fault.Statement.{statement}
 use Rattle.replay_checks.proofs.event_fault.Tie as tie
 
-kind-of-requires : tie.Need-kind-of-requires
-kind-of-requires c κs = search needs
-
-enum-told : tie.Need-enum-told
-enum-told c = search needs
-
 returns : tie.Need-returns
 returns c =
     let at-kind-of = c .before .before .before in
@@ -25,9 +19,6 @@ returns-2 c =
     let start = at-kind-of .before in
     let a = start .args in
     query-bad (a .n) (a .m) (isOpen (a .held .now)) (a .x) (a .y) (sym (at-kind-of .kind-of .ensures) ∙ c .before .enum-told .given .1) (c .if1 .left)
-
-enum-told-2 : tie.Need-enum-told-2
-enum-told-2 c = search needs
 
 returns-3 : tie.Need-returns-3
 returns-3 c =
@@ -61,9 +52,6 @@ returns-5 c =
     opens-fine (a .n) (a .m) (isOpen (a .held .now)) (a .x) (a .y) (sym (at-kind-of .kind-of .ensures) ∙ at-enum-told2 .enum-told2 .given .1)
     (at-if2 .if2 .left) (sym (c .before .contains .ensures) ∙ c .if3 .left)
 
-enum-told-3 : tie.Need-enum-told-3
-enum-told-3 c = search needs
-
 returns-6 : tie.Need-returns-6
 returns-6 c =
     let at-kind-of = c .before .before .before in
@@ -96,9 +84,6 @@ returns-8 c =
     closes-closed (a .n) (a .m) (isOpen (a .held .now)) (a .x) (a .y) (sym (at-kind-of .kind-of .ensures) ∙ at-enum-told3 .enum-told3 .given .1)
     (at-if4 .if4 .left) (sym (c .before .contains2 .ensures) ∙ c .if5 .left)
 
-enum-told-4 : tie.Need-enum-told-4
-enum-told-4 c = search needs
-
 returns-9 : tie.Need-returns-9
 returns-9 c =
     let at-kind-of = c .before .before in
@@ -110,19 +95,19 @@ pub event-fault-spec : {M : Type 1} → statement M
 event-fault-spec =
     tie.close
     (tie.spec
-    kind-of-requires
-    enum-told
+    (λ c κs. search needs)
+    (λ c. search needs)
     returns
     returns-2
-    enum-told-2
+    (λ c. search needs)
     returns-3
     contains-requires
     returns-4
     returns-5
-    enum-told-3
+    (λ c. search needs)
     returns-6
     contains-requires-2
     returns-7
     returns-8
-    enum-told-4
+    (λ c. search needs)
     returns-9)

@@ -5,11 +5,6 @@ use Rattle.replay_step.proofs.StepLaws.{active-need, behind-need, edges
 use borrow.Author.Needs.{needs}
 use Rattle.replay_step.proofs.load_part.Statement.{statement}
 use Rattle.replay_step.proofs.load_part.Tie as tie
-use Rattle.replay_step.proofs.load_part.Reads as reads
-use Rattle.replay_step.proofs.load_part.Lts as lts
-use Rattle.replay_step.proofs.beside.add_events.Reads as add-events-reads
-use Rattle.replay_step.proofs.load.copy_edges.Reads as copy-edges-reads
-use Rattle.replay_step.proofs.load.enter_places.Reads as enter-places-reads
 
 enter-places-requires : tie.Need-enter-places-requires
 enter-places-requires c κs =

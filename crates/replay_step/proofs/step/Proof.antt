@@ -5,10 +5,6 @@ use Rattle.replay_step.proofs.StepLaws.{part-ready, stepped}
 use borrow.Author.Needs.{needs}
 use Rattle.replay_step.proofs.step.Statement.{statement}
 use Rattle.replay_step.proofs.step.Tie as tie
-use Rattle.replay_step.proofs.step.Reads as reads
-use Rattle.replay_step.proofs.step.Lts as lts
-use Rattle.replay_step.proofs.area.make_area.Reads as make-area-reads
-use Rattle.replay_step.proofs.load_part.Reads as load-part-reads
 
 load-part-requires : tie.Need-load-part-requires
 load-part-requires c κs =

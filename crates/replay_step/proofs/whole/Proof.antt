@@ -4,10 +4,6 @@ use Rattle.replay_step.proofs.StepLaws.{whole-active, whole-made, whole
 use borrow.Author.Needs.{needs}
 use Rattle.replay_step.proofs.whole.Statement.{statement}
 use Rattle.replay_step.proofs.whole.Tie as tie
-use Rattle.replay_step.proofs.whole.Reads as reads
-use Rattle.replay_step.proofs.whole.Lts as lts
-use Rattle.replay_step.proofs.area.make_area.Reads as make-area-reads
-use Rattle.replay_step.proofs.load_whole.Reads as load-whole-reads
 
 load-whole-requires : tie.Need-load-whole-requires
 load-whole-requires c κs = whole-active (c .before .before .pre)

@@ -9,37 +9,16 @@ Inv-loop t₀ text count i₀ t i = i ≤ count
 abbrev μ-loop : tie.MeasureT-loop
 μ-loop t₀ text count i₀ t i = count - i
 
-read-requires : tie.Need-read-requires Inv-loop μ-loop
-read-requires c κs = search needs
-
-loop-holds : tie.Need-loop-holds Inv-loop μ-loop
-loop-holds c = search needs
-
-add-vector-requires : tie.Need-add-vector-requires Inv-loop μ-loop
-add-vector-requires c κs = search needs
-
-add-i : tie.Need-add-i Inv-loop μ-loop
-add-i c = search needs
-
-loop-less : tie.Need-loop-less Inv-loop μ-loop
-loop-less c = search needs
-
-loop-again : tie.Need-loop-again Inv-loop μ-loop
-loop-again c = search needs
-
-returns : tie.Need-returns Inv-loop μ-loop
-returns c = search needs
-
 pub add-vectors-spec : {M : Type 1} → statement M
 add-vectors-spec =
     tie.close
     (tie.spec
     Inv-loop
     μ-loop
-    read-requires
-    loop-holds
-    add-vector-requires
-    add-i
-    loop-less
-    loop-again
-    returns)
+    (λ c κs. search needs)
+    (λ c. search needs)
+    (λ c κs. search needs)
+    (λ c. search needs)
+    (λ c. search needs)
+    (λ c. search needs)
+    (λ c. search needs))

@@ -4,31 +4,10 @@ use Rattle.test_replay.proofs.run_large.Statement.{statement}
 use Rattle.test_replay.proofs.run_large.Tie as tie
 
 abbrev Inv-loop : tie.InvT-loop
-Inv-loop t₀ work₀ s₀ t work s = s ≤ 21
+Inv-loop t₀ work₀ s₀ t work s = s ≤ 36
 
 abbrev μ-loop : tie.MeasureT-loop
-μ-loop t₀ work₀ s₀ t work s = 21 - s
-
-loop-holds : tie.Need-loop-holds Inv-loop μ-loop
-loop-holds c = search needs
-
-large-requires : tie.Need-large-requires Inv-loop μ-loop
-large-requires c κs = search needs
-
-run-requires : tie.Need-run-requires Inv-loop μ-loop
-run-requires c κs = search needs
-
-add-s : tie.Need-add-s Inv-loop μ-loop
-add-s c = search needs
-
-loop-less : tie.Need-loop-less Inv-loop μ-loop
-loop-less c = search needs
-
-loop-again : tie.Need-loop-again Inv-loop μ-loop
-loop-again c = search needs
-
-returns : tie.Need-returns Inv-loop μ-loop
-returns c = search needs
+μ-loop t₀ work₀ s₀ t work s = 36 - s
 
 pub run-large-spec : {M : Type 1} → statement M
 run-large-spec =
@@ -36,10 +15,10 @@ run-large-spec =
     (tie.spec
     Inv-loop
     μ-loop
-    loop-holds
-    large-requires
-    run-requires
-    add-s
-    loop-less
-    loop-again
-    returns)
+    (λ c. search needs)
+    (λ c κs. search needs)
+    (λ c κs. search needs)
+    (λ c. search needs)
+    (λ c. search needs)
+    (λ c. search needs)
+    (λ c. search needs))

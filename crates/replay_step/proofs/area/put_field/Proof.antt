@@ -17,21 +17,6 @@ Inv-loop work₀ m k s q i₀ work i = (i ≤ m) × (work ≡ sets work₀ q (ta
 abbrev μ-loop : tie.MeasureT-loop
 μ-loop work₀ m k s q i₀ work i = m - i
 
-loop-holds : tie.Need-loop-holds Inv-loop μ-loop
-loop-holds c = search needs
-
-mul-x : tie.Need-mul-x Inv-loop μ-loop
-mul-x c = search needs
-
-add-x : tie.Need-add-x Inv-loop μ-loop
-add-x c = search needs
-
-add-x-2 : tie.Need-add-x-2 Inv-loop μ-loop
-add-x-2 c = search needs
-
-mul-x-2 : tie.Need-mul-x-2 Inv-loop μ-loop
-mul-x-2 c = search needs
-
 slice-read-x : tie.Need-slice-read-x Inv-loop μ-loop
 slice-read-x c =
     let at-loop = c .before .before in
@@ -39,24 +24,12 @@ slice-read-x c =
     let a = start .args in
     omega (arith, fill-length (a .work .now) (a .q) (table (node (a .k) (drop (a .s) (a .work .now))) 0 (at-loop .loop .i)) (at-loop .loop .inv .1))
 
-add-work : tie.Need-add-work Inv-loop μ-loop
-add-work c = search needs
-
-mul-work : tie.Need-mul-work Inv-loop μ-loop
-mul-work c = search needs
-
 slice-write-work : tie.Need-slice-write-work Inv-loop μ-loop
 slice-write-work c =
     let at-loop = c .before .before in
     let start = at-loop .before in
     let a = start .args in
     omega (arith, fill-length (a .work .now) (a .q) (table (node (a .k) (drop (a .s) (a .work .now))) 0 (at-loop .loop .i)) (at-loop .loop .inv .1))
-
-add-i : tie.Need-add-i Inv-loop μ-loop
-add-i c = search needs
-
-loop-less : tie.Need-loop-less Inv-loop μ-loop
-loop-less c = search needs
 
 loop-again : tie.Need-loop-again Inv-loop μ-loop
 loop-again c =
@@ -80,17 +53,17 @@ put-field-spec =
     (tie.spec
     Inv-loop
     μ-loop
-    loop-holds
-    mul-x
-    add-x
-    add-x-2
-    mul-x-2
+    (λ c. search needs)
+    (λ c. search needs)
+    (λ c. search needs)
+    (λ c. search needs)
+    (λ c. search needs)
     slice-read-x
-    add-work
-    mul-work
+    (λ c. search needs)
+    (λ c. search needs)
     slice-write-work
-    add-i
-    loop-less
+    (λ c. search needs)
+    (λ c. search needs)
     loop-again
     same-length
     returns)

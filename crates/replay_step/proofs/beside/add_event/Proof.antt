@@ -4,11 +4,6 @@ use Rattle.replay_step.proofs.BesideLaws.{add-need, add-none, add-put}
 use borrow.Author.Needs.{needs}
 use Rattle.replay_step.proofs.beside.add_event.Statement.{statement}
 use Rattle.replay_step.proofs.beside.add_event.Tie as tie
-use Rattle.replay_step.proofs.beside.add_event.Reads as reads
-use Rattle.replay_step.proofs.beside.add_event.Lts as lts
-use Rattle.core_loading.proofs.put_edge.Reads as put-edge-reads
-use Rattle.replay_step.proofs.beside.event_adds.Reads as event-adds-reads
-use Rattle.replay_step.proofs.beside.word.Reads as word-reads
 
 returns : tie.Need-returns
 returns c =

@@ -1,5 +1,4 @@
 -- Each way out is one case of the definition.
-use mathlib.Core.Path.{_∙_, ap}
 use native.Mathlib.Omega.{arith}
 use borrow.Author.Needs.{needs}
 use Rattle.replay_step.proofs.BesideLaws.{adds-back, adds-back-named, adds-front, adds-front-named, adds-query}

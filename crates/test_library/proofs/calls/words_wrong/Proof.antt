@@ -9,49 +9,19 @@ Inv-loop w count all n wrong₀ i₀ wrong i = i ≤ n
 abbrev μ-loop : tie.MeasureT-loop
 μ-loop w count all n wrong₀ i₀ wrong i = n - i
 
-least-requires : tie.Need-least-requires Inv-loop μ-loop
-least-requires c κs = search needs
-
-loop-holds : tie.Need-loop-holds Inv-loop μ-loop
-loop-holds c = search needs
-
-mul-counted : tie.Need-mul-counted Inv-loop μ-loop
-mul-counted c = search needs
-
-shared-slice-read-counted : tie.Need-shared-slice-read-counted Inv-loop μ-loop
-shared-slice-read-counted c = search needs
-
-wanted-word-requires : tie.Need-wanted-word-requires Inv-loop μ-loop
-wanted-word-requires c κs = search needs
-
-counted-requires : tie.Need-counted-requires Inv-loop μ-loop
-counted-requires c κs = search needs
-
-add-i : tie.Need-add-i Inv-loop μ-loop
-add-i c = search needs
-
-loop-less : tie.Need-loop-less Inv-loop μ-loop
-loop-less c = search needs
-
-loop-again : tie.Need-loop-again Inv-loop μ-loop
-loop-again c = search needs
-
-returns : tie.Need-returns Inv-loop μ-loop
-returns c = search needs
-
 pub words-wrong-spec : {M : Type 1} → statement M
 words-wrong-spec =
     tie.close
     (tie.spec
     Inv-loop
     μ-loop
-    least-requires
-    loop-holds
-    mul-counted
-    shared-slice-read-counted
-    wanted-word-requires
-    counted-requires
-    add-i
-    loop-less
-    loop-again
-    returns)
+    (λ c κs. search needs)
+    (λ c. search needs)
+    (λ c. search needs)
+    (λ c. search needs)
+    (λ c κs. search needs)
+    (λ c κs. search needs)
+    (λ c. search needs)
+    (λ c. search needs)
+    (λ c. search needs)
+    (λ c. search needs))

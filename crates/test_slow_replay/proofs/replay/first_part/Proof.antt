@@ -10,11 +10,5 @@ mul-f c =
     let h : c .args .p % 16 ≤ 15 = omega arith in
     omega (arith, mul-le-mul-left (c .args .n) h)
 
-returns : tie.Need-returns
-returns c = search needs
-
-returns-2 : tie.Need-returns-2
-returns-2 c = search needs
-
 pub first-part-spec : {M : Type 1} → statement M
-first-part-spec = tie.close (tie.spec mul-f returns returns-2)
+first-part-spec = tie.close (tie.spec mul-f (λ c. search needs) (λ c. search needs))
