@@ -10,8 +10,9 @@ use borrow.Author.Tests.{eqb-false, eqb-true}
 use Rattle.theory_graph.proofs.TableLaws.{pairs-table, table-equal}
 use Rattle.contraction_tables.specs.Transfer.{Edges, Entries, Loadable, Prepared}
 use Rattle.theory_graph.proofs.Booleans.{onBool}
-use Rattle.core_loading.proofs.LoadingLaws.{entered-most, entered-none}
-use Rattle.core_loading.specs.Loading.{Cleared, Entering, PutEdge}
+use Rattle.core_loading.proofs.LoadingLaws.{cleared-past, entered-most, entered-none}
+use Rattle.core_loading.specs.Loading.{Entering, PutEdge}
+use Rattle.core_words.specs.Clearing.{Cleared}
 use Rattle.core_words.specs.Fields.{ACTIVE, MARK, TO, half, node}
 
 pub entries-none : {n : ℕ} (w : List ℕ) → ((v : ℕ) → v < n → node MARK w v ≡ 0) → Entries n [] w w 0
@@ -40,10 +41,10 @@ edges-more {n} {m} {s} {from} {to} {a} {w} {z} l g p = record {
 }
 
 -- ---- all that is loaded
-module _ {n m k : ℕ} {from to active w₀ w₁ : List ℕ} (c : Loadable n m k from to active w₀) (z : Cleared n w₀ w₁) where
+module _ {n m k : ℕ} {from to active w₀ w₁ : List ℕ} (c : Loadable n m k from to active w₀) (z : Cleared (MARK ∷ []) n n w₀ w₁) where
   module _ {d : ℕ} {w₂ w₃ : List ℕ} (g : Entries n (take k active) w₁ w₂ d) (l : Edges n m from to w₂ w₃ m) where
     same : length w₃ ≡ length w₀
-    same = l .same ∙ g .same ∙ z .same
+    same = l .same ∙ g .same ∙ z .rest .same
 
     less : d ≤ n
     less = entered-most (g .entered)
@@ -64,7 +65,7 @@ module _ {n m k : ℕ} {from to active w₀ w₁ : List ℕ} (c : Loadable n m k
     pub prepared : Prepared n m k from to active w₀ w₃ d
     prepared = record {
       same = same;
-      past = λ i j. l .past i j ∙ g .past i (omega arith) ∙ z .past i (omega arith);
+      past = λ i j. l .past i j ∙ g .past i (omega arith) ∙ cleared-past z i (omega arith);
       loaded = record {
         few = c .few;
         much = c .much;

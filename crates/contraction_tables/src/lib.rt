@@ -46,7 +46,7 @@ pub fn load(
     requires { ⌜ Loadable n m k (now from) (now to) (now active) (now work) ⌝ }
     ensures { λ r. ⌜ Prepared n m k (now (from .entry)) (now (to .entry)) (now (active .entry)) (now (work .entry)) (now (work .exit)) r ⌝ }
 {
-    core_loading::clear_marks(work, n);
+    core_words::clear_field(work, n, core_words::MARK, n);
     let d = enter_active(work, n, k, active);
     put_edges(work, n, m, from, to);
     d

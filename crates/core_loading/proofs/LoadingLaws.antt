@@ -16,6 +16,7 @@ use Rattle.theory_graph.proofs.TableLaws.{table-equal, table-more}
 use Rattle.theory_graph.specs.Lists.{filter, firsts, member, table}
 use Rattle.core_loading.specs.Loading.{Entered, Entering, Past, PutEdge, Unmarked}
 use Rattle.core_words.proofs.FieldLaws.{update-at, update-other, update-same}
+use Rattle.core_words.specs.Clearing.{Cleared}
 use Rattle.core_words.specs.Fields.{ACTIVE, MARK, TO, Put, PutHalf, half, node, update}
 
 -- ---- the different entries of a list
@@ -161,23 +162,12 @@ halves-past n a b f i l =
     let e : 16 * n + 2 * 0 + (i - 16 * n) ≡ i = omega arith in
     ap (λ j. getD b j 0) (sym e) ∙ ap (λ (h : ℕ → ℕ). h 0) (f (i - 16 * n)) ∙ ap (λ j. getD a j 0) e
 
--- in a loop: the marks of the nodes below v are cleared
-pub record Clearing (n v : ℕ) (a b : List ℕ) : Type 0 where
-  pub low : v ≤ n
-  pub same : length b ≡ length a
-  pub past : Past (16 * n) a b
-  pub none : Unmarked v b
+-- the marks cleared
+pub cleared-past : {n : ℕ} {a b : List ℕ} → Cleared (MARK ∷ []) n n a b → Past (16 * n) a b
+cleared-past {n} {a} {b} z = halves-past n a b (z .rest .halves)
 
-pub clearing-none : (n : ℕ) (a : List ℕ) → Clearing n 0 a a
-clearing-none n a = record { low = omega arith; same = refl; past = λ i l. refl; none = λ u l. absurd (omega arith) }
-
-pub clearing-more : {n v : ℕ} {a b c : List ℕ} → Clearing n v a b → v < n → Put MARK v 0 b c → Clearing n (v + 1) a c
-clearing-more {n} {v} {a} {b} {c} k l p = record {
-  low = omega arith;
-  same = p .same ∙ k .same;
-  past = λ i u. halves-past n b c (λ j. p .halves n l j) i u ∙ k .past i u;
-  none = rw (p .here) (update-at (λ u x. u < v + 1 → x ≡ 0) (node MARK b) v 0 (λ _. refl) (λ u ne h. k .none u (omega arith)));
-}
+pub cleared-unmarked : {n : ℕ} {a b : List ℕ} → Cleared (MARK ∷ []) n n a b → Unmarked n b
+cleared-unmarked z v l = z .zero MARK (omega arith) refl v l
 
 -- a node that has its mark already
 pub entering-again : {n d v : ℕ} {a : List ℕ} → v < n → 0 < node MARK a v → Entering n d v a a d

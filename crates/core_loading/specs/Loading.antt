@@ -1,4 +1,4 @@
--- The parts of loading a graph into the words: marks cleared, a node entered as active, where it is not yet, and an edge stored.
+-- The parts of loading a graph into the words: no mark at first, a node entered as active, where it is not yet, and an edge stored.
 -- Assumes nothing: these are definitions.
 use Prim.Native.Nat.{_*_, _+_, _<_, _≤_, ℕ}
 use mathlib.Core.List.{List, [], _++_, _∷_}
@@ -15,12 +15,6 @@ Past i a b = (j : ℕ) → i ≤ j → getD b j 0 ≡ getD a j 0
 -- no node is marked
 abbrev pub Unmarked : ℕ → List ℕ → Type 0
 Unmarked n w = (v : ℕ) → v < n → node MARK w v ≡ 0
-
--- from a to b the marks of n nodes are cleared
-pub record Cleared (n : ℕ) (a b : List ℕ) : Type 0 where
-  pub same : length b ≡ length a
-  pub past : Past (16 * n) a b
-  pub unmarked : Unmarked n b
 
 -- The entries S are entered: act lists the d different ones in order of first appearance, and mark is one more than a node's place among them.
 pub record Entered (n : ℕ) (S : List ℕ) (d : ℕ) (mark act : ℕ → ℕ) : Type 0 where

@@ -1,21 +1,10 @@
-// Marks cleared, and one active node and one edge put into the words that the contraction takes, for the public call and for the replay's step alike.
+// One active node and one edge put into the words that the contraction takes, for the public call and for the replay's step alike.
 use core_words::*;
 ghost use mathlib.Core.List.{List};
 ghost use Prim.Native.Nat.{ℕ, _+_, _*_, _<_, _≤_};
 ghost use lib.ListN.{length};
 ghost use Rattle.core_words.specs.Fields.{ACTIVE, MARK, node};
-ghost use Rattle.core_loading.specs.Loading.{Cleared, Entered, Entering, PutEdge};
-
-// Internal: clears the marks of n nodes.
-pub fn clear_marks(work: &mut [u32], n: usize)
-    requires { ⌜ (16 * n ≤ length (now work)) × (n ≤ 65536) ⌝ }
-    ensures { λ _. ⌜ Cleared n (now (work .entry)) (now (work .exit)) ⌝ }
-{
-    // The nodes below v have no mark.
-    for v in 0..n {
-        core_words::put(work, v, MARK, 0);
-    }
-}
+ghost use Rattle.core_loading.specs.Loading.{Entered, Entering, PutEdge};
 
 // Internal: enters v, where it is not entered yet; the new count of different active nodes.
 pub fn enter(work: &mut [u32], n: usize, d: usize, v: usize) -> usize

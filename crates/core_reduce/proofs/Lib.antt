@@ -1,4 +1,3 @@
-pub mod ClearLaws
 pub mod EdgeListLaws
 pub mod ListingLaws
 pub mod NumberLaws

@@ -7,7 +7,7 @@ use mathlib.Core.Path.{_∙_, _≡_, ap, refl, sym}
 use native.Mathlib.Omega.{arith}
 use Rattle.core_reduce.proofs.EdgeListLaws.{first-after, first-from, first-least, first-none, first-stay, listed-few, listed-more}
 use Rattle.core_reduce.proofs.EdgeListLaws.{listed-next, listed-none, lists-push, lists-skip, edges-ascend, edge-in, edge-out}
-use Rattle.core_reduce.specs.Clearing.{ClearedNodes}
+use Rattle.core_words.specs.Clearing.{Cleared}
 use Rattle.core_reduce.specs.EdgeList.{CanList, EdgePair, EdgesListed, FirstFrom, IfAbove, LargerChild, LeastNonzero, ListedPairs, NextChild, Pushing, Writing, edgeTable, listFields}
 use Rattle.theory_graph.specs.Graph.{Edge}
 use Rattle.core_words.proofs.ChangeLaws.{only-more, only-none, only-put, only-then, only-then-put}
@@ -47,7 +47,7 @@ pub pushing-down : {n h i : ℕ} {a w : List ℕ} → (i ≡ 0 → ⊥) → Push
 pushing-down {i = i} ne k = let e : i - 1 + 1 ≡ i = omega arith in rw e (pushing-self k)
 
 -- the lists are empty
-pub pushing-cleared : {n h : ℕ} {a w : List ℕ} → CanList n h a → ClearedNodes (CHILD ∷ []) n h a w → Pushing n h a w h
+pub pushing-cleared : {n h : ℕ} {a w : List ℕ} → CanList n h a → Cleared (CHILD ∷ []) n h a w → Pushing n h a w h
 pushing-cleared {n} {h} {a} {w} r c = record {
   ready = ready-still rest r;
   rest = rest;

@@ -13,7 +13,8 @@ use Rattle.core_branches.specs.SmallForest.{ParentPairs}
 use Rattle.core_components.proofs.JoinLaws.{between-still}
 use Rattle.core_components.specs.Components.{CanMergeComponents, Components}
 use Rattle.core_reduce.proofs.EdgeOrder.{canonical-cuts-equal, edges-cut}
-use Rattle.core_reduce.specs.Clearing.{ClearedNodes, startFields}
+use Rattle.core_words.specs.Clearing.{Cleared}
+use Rattle.core_reduce.specs.Core.{startFields}
 use Rattle.core_reduce.specs.Core.{Loaded, Reduced, activeIn, edgesIn, edgesOut}
 use Rattle.core_reduce.specs.EdgeList.{CanList, EdgesListed}
 use Rattle.core_reduce.specs.Numbers.{CanWrite, WritingNumbers}
@@ -45,7 +46,7 @@ module _ {n m k : ℕ} {w₀ : List ℕ} (s : Loaded n m k w₀) where
   pub can-clear : (16 * n ≤ length w₀) × (n ≤ 65536)
   can-clear = (omega (arith, s .room), s .few)
 
-  module _ {w₁ : List ℕ} (c : ClearedNodes startFields n n w₀ w₁) where
+  module _ {w₁ : List ℕ} (c : Cleared startFields n n w₀ w₁) where
     pub can-link : CanLink n m w₁
     can-link = record { few = s .few; much = s .much; room = rw (c .rest .same) (s .room); ends = rw (c .rest .halves TO) (s .ends); empty = c .zero HEAD (omega arith) refl }
 

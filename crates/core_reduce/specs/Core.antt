@@ -4,12 +4,16 @@
 -- Assumes nothing: these are definitions.
 use Prim.Native.Nat.{ℕ, _+_, _*_, _≤_, _<_}
 use mathlib.Core.Path.{_≡_}
-use mathlib.Core.List.{List}
+use mathlib.Core.List.{List, [], _∷_}
 use lib.ListN.{length, getD}
 use Rattle.theory_graph.specs.Lists.{table}
 use Rattle.theory_graph.specs.Graph.{Edge}
 use Rattle.theory_graph.specs.SmallGraph.{IsSmallGraph, Canonical}
-use Rattle.core_words.specs.Fields.{ACTIVE, LOWER, MAPPED, MARK, TO, UPPER, half, node}
+use Rattle.core_words.specs.Fields.{ACTIVE, BRANCH, HEAD, LIVE, LOWER, MAPPED, MARK, NUMBER, OTHER, POSITION, TO, UPPER, half, node}
+
+-- the fields of a node that start at 0
+abbrev pub startFields : List ℕ
+startFields = NUMBER ∷ OTHER ∷ BRANCH ∷ LIVE ∷ POSITION ∷ HEAD ∷ []
 
 -- the edges and the active nodes in the words
 abbrev pub edgesIn : ℕ → ℕ → List ℕ → List Edge

@@ -1,11 +1,9 @@
 // The edges between each number and its parent number, written in ascending order without a sort: each number is put into the list of its parent where that is smaller,
 // from the last number down, so that each list ascends; then for each number its list is written, with its own parent merged in where that is larger.
 use core_words::*;
-ghost use mathlib.Core.List.{[], _∷_};
 ghost use Prim.Native.Nat.{_+_, _-_, _*_, _<_, _≤_};
 ghost use lib.ListN.{length};
-ghost use Rattle.core_words.specs.Fields.{ABOVE, CHILD, node};
-ghost use Rattle.core_reduce.specs.Clearing.{ClearedNodes};
+ghost use Rattle.core_words.specs.Fields.{ABOVE, node};
 ghost use Rattle.core_reduce.specs.EdgeList.{EdgePair, FirstFrom, LeastNonzero, IfAbove, NextChild, CanList, Pushing, Writing, EdgesListed};
 
 // The smaller of those that are not 0, or 0.
@@ -43,16 +41,6 @@ fn next_child(work: &[u32], c: usize, t: usize) -> usize
         return core_words::get(work, t - 1, SIBLING);
     }
     c
-}
-
-// The h numbers have empty lists.
-fn clear_lists(work: &mut [u32], n: usize, h: usize)
-    requires { ⌜ CanList n h (now work) ⌝ }
-    ensures { λ _. ⌜ ClearedNodes (CHILD ∷ []) n h (now (work .entry)) (now (work .exit)) ⌝ }
-{
-    for s in 0..h {
-        core_words::put(work, s, CHILD, 0);
-    }
 }
 
 // Number x comes first in the list of its parent, where that is smaller.
@@ -132,7 +120,7 @@ pub(crate) fn list_edges(work: &mut [u32], n: usize, h: usize) -> usize
     requires { ⌜ CanList n h (now work) ⌝ }
     ensures { λ r. ⌜ EdgesListed n h (now (work .entry)) (now (work .exit)) r ⌝ }
 {
-    clear_lists(work, n, h);
+    core_words::clear_field(work, n, CHILD, h);
     push_children(work, n, h);
     write_rows(work, n, h)
 }

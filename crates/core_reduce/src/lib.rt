@@ -24,11 +24,11 @@ use core_words::*;
 ghost use mathlib.Core.Path.{_≡_};
 ghost use Prim.Native.Nat.{_-_, _*_, _<_, _≤_};
 ghost use lib.ListN.{length};
+ghost use Rattle.core_words.specs.Clearing.{Cleared, ClearedNode};
 ghost use Rattle.core_words.specs.Fields.{NUMBER, TOP, node};
 ghost use Rattle.core_branches.specs.Classes.{HasNumber};
-ghost use Rattle.core_reduce.specs.Clearing.{ClearedNode, ClearedNodes, startFields};
 ghost use Rattle.core_reduce.specs.Numbers.{CanWrite, WritingNumbers};
-ghost use Rattle.core_reduce.specs.Core.{Loaded, Reduced};
+ghost use Rattle.core_reduce.specs.Core.{Loaded, Reduced, startFields};
 
 // The nodes and the edges of a small graph.
 pub struct Counts {
@@ -52,7 +52,7 @@ fn clear_node(work: &mut [u32], n: usize, v: usize)
 // Clears the fields that start at 0.
 fn clear_nodes(work: &mut [u32], n: usize)
     requires { ⌜ (16 * n ≤ length (now work)) × (n ≤ 65536) ⌝ }
-    ensures { λ _. ⌜ ClearedNodes startFields n n (now (work .entry)) (now (work .exit)) ⌝ }
+    ensures { λ _. ⌜ Cleared startFields n n (now (work .entry)) (now (work .exit)) ⌝ }
 {
     for v in 0..n {
         clear_node(work, n, v);

@@ -1,7 +1,9 @@
 ghost use mathlib.Core.Path.{_≡_};
+ghost use mathlib.Core.List.{[], _∷_};
 ghost use Prim.Native.Nat.{_+_, _*_, _<_, _≤_};
 ghost use lib.ListN.{length, replicate};
 ghost use Rattle.theory_graph.specs.Lists.{over};
+ghost use Rattle.core_words.specs.Clearing.{Cleared};
 ghost use Rattle.core_words.specs.Fields.{node, half, Put, PutHalf};
 
 // Internal: fields of a node. Some have a second use, with a name of its own; 14 and 15 are free. specs/Fields says what each holds.
@@ -82,6 +84,16 @@ pub fn put_half(work: &mut [u32], n: usize, h: usize, k: usize, x: usize)
     ensures { λ _. ⌜ PutHalf n k h x (now (work .entry)) (now (work .exit)) ⌝ }
 {
     work[16 * n + 2 * h + k] = x as u32;
+}
+
+// Internal: sets field k of the first h of n nodes to 0.
+pub fn clear_field(work: &mut [u32], n: usize, k: usize, h: usize)
+    requires { ⌜ (16 * n ≤ length (now work)) × (n ≤ 65536) × (h ≤ n) × (k < 16) ⌝ }
+    ensures { λ _. ⌜ Cleared (k ∷ []) n h (now (work .entry)) (now (work .exit)) ⌝ }
+{
+    for v in 0..h {
+        put(work, v, k, 0);
+    }
 }
 
 // Internal: sets the first count words to 0.

@@ -9,8 +9,9 @@ use native.Mathlib.Numerals.{add-one}
 use native.Mathlib.Omega.{arith}
 use borrow.Rule.Slice.PartMut.{putMid, same-len-mid, take-put}
 use Rattle.replay_step.proofs.WordLaws.{drop-back, front-get, mid-less, take-whole}
-use Rattle.core_loading.proofs.LoadingLaws.{entered-none}
-use Rattle.core_loading.specs.Loading.{Cleared, Entered, Entering, Unmarked}
+use Rattle.core_loading.proofs.LoadingLaws.{cleared-unmarked, entered-none}
+use Rattle.core_loading.specs.Loading.{Entered, Entering, Unmarked}
+use Rattle.core_words.specs.Clearing.{Cleared}
 use Rattle.replay_step.specs.Load.{ActiveReady, Actives}
 use Rattle.core_words.specs.Fields.{ACTIVE, MARK, node}
 
@@ -69,15 +70,15 @@ after-clear {from} {count} {s} {n} {k} w zs {z} h u b a =
     record { front = a .front ∙ f; entered = rw (← mid-less from count s w c b (omega arith) (omega arith) f) (a .entered) }
 
 -- after clearing, nothing is entered
-pub clear-need : (from count s n : ℕ) (w zs : List ℕ) → ActiveReady from count s n w → Cleared n (take (length w - s) (drop s w)) zs → Needs from count s n (putMid s (length w - s) w zs)
+pub clear-need : (from count s n : ℕ) (w zs : List ℕ) → ActiveReady from count s n w → Cleared (MARK ∷ []) n n (take (length w - s) (drop s w)) zs → Needs from count s n (putMid s (length w - s) w zs)
 clear-need from count s n w zs q c =
     let h : s ≤ length w = omega arith in
-    let lc = same-len-mid s (length w - s) w zs (c .same) in (
+    let lc = same-len-mid s (length w - s) w zs (c .rest .same) in (
       record {
         front = q .front;
         room = omega (arith, lc, q .room);
         many = q .many;
         nodes = λ i l. rw (front-get s (from + i) w (putMid s (length w - s) w zs) (take-put s (length w - s) w zs h) (omega arith)) (q .nodes i l);
       },
-      rw (drop-back s w zs h) (c .unmarked),
+      rw (drop-back s w zs h) (cleared-unmarked c),
     )

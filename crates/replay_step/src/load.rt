@@ -25,7 +25,7 @@ pub(crate) fn enter_places(work: &mut [u32], from: usize, count: usize, s: usize
     requires { ⌜ ActiveReady from count s n (now work) ⌝ }
     ensures { λ r. ⌜ Actives from count s n (now (work .entry)) (now (work .exit)) r ⌝ }
 {
-    core_loading::clear_marks(&mut work[s..], n);
+    core_words::clear_field(&mut work[s..], n, core_words::MARK, n);
     enter_all(work, from, count, s, n)
 }
 

@@ -2,25 +2,26 @@
 -- Assumes nothing.
 use native.Mathlib.Omega.{arith}
 use borrow.Author.Needs.{needs}
+use Rattle.core_loading.proofs.LoadingLaws.{cleared-unmarked}
 use Rattle.contraction_tables.proofs.TransferLaws.{prepared}
 use Rattle.contraction_tables.proofs.load.Statement.{statement}
 use Rattle.contraction_tables.proofs.load.Tie as tie
 
 enter-active-requires : tie.Need-enter-active-requires
 enter-active-requires c κs =
-    let at-clear-marks = c .before .before .before in
-    let start = at-clear-marks .before .before .before .before .before .before in
+    let at-clear-field = c .before .before .before in
+    let start = at-clear-field .before .before .before .before .before .before in
     let p = start .pre in
-    let z = at-clear-marks .clear-marks .ensures in
-    (p .few, omega (arith, p .room, z .same), p .active-length, p .entries, z .unmarked)
+    let z = at-clear-field .clear-field .ensures in
+    (p .few, omega (arith, p .room, z .rest .same), p .active-length, p .entries, cleared-unmarked z)
 
 returns : tie.Need-returns
 returns c =
     let at-put-edges = c .before .before in
     let at-enter-active = at-put-edges .before .before .before .before in
-    let at-clear-marks = at-enter-active .before .before .before .before in
-    let start = at-clear-marks .before .before .before .before .before .before in
-    prepared (start .pre) (at-clear-marks .clear-marks .ensures) (at-enter-active .enter-active .ensures) (at-put-edges .put-edges .ensures)
+    let at-clear-field = at-enter-active .before .before .before .before in
+    let start = at-clear-field .before .before .before .before .before .before in
+    prepared (start .pre) (at-clear-field .clear-field .ensures) (at-enter-active .enter-active .ensures) (at-put-edges .put-edges .ensures)
 
 pub load-spec : {M : Type 1} → statement M
 load-spec =

@@ -1,6 +1,6 @@
 -- `clear_node` meets its contract.
 -- Assumes nothing.
-use Rattle.core_reduce.proofs.ClearLaws.{clear-none, clear-put}
+use Rattle.core_words.proofs.ClearLaws.{clear-none, clear-put}
 use mathlib.Core.Path.{refl}
 use borrow.Author.Needs.{needs}
 use Rattle.core_reduce.proofs.clear_node.Statement.{statement}

@@ -1,7 +1,8 @@
 -- `clear_nodes` meets its contract. The loop's invariant: the first v nodes are cleared.
 -- Assumes nothing.
-use Rattle.core_reduce.proofs.ClearLaws.{cleared-none, cleared-more}
-use Rattle.core_reduce.specs.Clearing.{ClearedNodes, startFields}
+use Rattle.core_words.proofs.ClearLaws.{cleared-none, cleared-more}
+use Rattle.core_words.specs.Clearing.{Cleared}
+use Rattle.core_reduce.specs.Core.{startFields}
 use mathlib.Core.Path.{_≡_}
 use Prim.Native.Nat.{_-_, _≤_}
 use native.Mathlib.Omega.{arith}
@@ -9,7 +10,7 @@ use Rattle.core_reduce.proofs.clear_nodes.Statement.{statement}
 use Rattle.core_reduce.proofs.clear_nodes.Tie as tie
 
 abbrev Inv-loop : tie.InvT-loop
-Inv-loop work₀ n v₀ work v = (v ≤ n) × ClearedNodes startFields n v work₀ work
+Inv-loop work₀ n v₀ work v = (v ≤ n) × Cleared startFields n v work₀ work
 
 abbrev μ-loop : tie.MeasureT-loop
 μ-loop work₀ n v₀ work v = n - v

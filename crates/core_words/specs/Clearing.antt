@@ -2,15 +2,11 @@
 -- Assumes nothing: these are definitions.
 use Prim.Native.Nat.{ℕ, _<_}
 use mathlib.Core.Bool.{true}
-use mathlib.Core.List.{List, [], _∷_}
+use mathlib.Core.List.{List}
 use mathlib.Core.Path.{_≡_}
 use Rattle.theory_graph.specs.Lists.{member}
 use Rattle.core_words.specs.Changes.{OnlyFields}
-use Rattle.core_words.specs.Fields.{BRANCH, HEAD, LIVE, NUMBER, OTHER, POSITION, node, update}
-
--- the fields that start at 0
-abbrev pub startFields : List ℕ
-startFields = NUMBER ∷ OTHER ∷ BRANCH ∷ LIVE ∷ POSITION ∷ HEAD ∷ []
+use Rattle.core_words.specs.Fields.{node, update}
 
 -- from a to b the fields fs of node v become 0, and nothing else changes
 pub record ClearedNode (fs : List ℕ) (n v : ℕ) (a b : List ℕ) : Type 0 where
@@ -18,6 +14,6 @@ pub record ClearedNode (fs : List ℕ) (n v : ℕ) (a b : List ℕ) : Type 0 whe
   pub zero : (j : ℕ) → j < 16 → member fs j ≡ true → node j b ≡ update (node j a) v 0
 
 -- the fields fs of the first i nodes are 0, and only these fields have changed
-pub record ClearedNodes (fs : List ℕ) (n i : ℕ) (a b : List ℕ) : Type 0 where
+pub record Cleared (fs : List ℕ) (n i : ℕ) (a b : List ℕ) : Type 0 where
   pub rest : OnlyFields fs n a b
   pub zero : (j : ℕ) → j < 16 → member fs j ≡ true → (v : ℕ) → v < i → node j b v ≡ 0
