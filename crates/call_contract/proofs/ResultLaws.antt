@@ -1,4 +1,5 @@
--- From the words to the outcome: the small graph that the words hold is the contraction that the definition gives, and the tables filled from them are those of the outcome.
+-- From the words to the outcome: the small graph that the words hold is the contraction that the definition gives, and the tables filled from them are
+-- those of the outcome.
 -- Assumes nothing.
 use Prim.Native.Nat.{_*_, _+_, _<_, _≤_, suc, zero, ℕ}
 use mathlib.Core.Bool.{_&&_, true}

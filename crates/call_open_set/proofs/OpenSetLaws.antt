@@ -1,4 +1,5 @@
--- Laws of the set of open segments: the digits of a word after a bit is set or cleared, then the bits of the 128 words, their count, and what is known of a word of the array.
+-- Laws of the set of open segments: the digits of a word after a bit is set or cleared, then the bits of the 128 words, their count, and what is known of a
+-- word of the array.
 -- Assumes nothing.
 use Prim.Native.Nat.{_%_, _*_, _+_, _-_, _/_, _<_, _^_, _≤_, max, suc, zero, ℕ}
 use mathlib.Core.Bool.{false}

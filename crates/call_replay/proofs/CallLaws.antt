@@ -112,6 +112,13 @@ bytes-table f i (suc k) = ap (λ (l : List ℕ). f i ∷ l) (bytes-table f (suc 
 over-prefix : (vs zs w : List ℕ) → length zs ≡ length vs → over vs (zs ++ drop (length vs) w) ≡ over vs w
 over-prefix vs zs w e = ap (λ (l : List ℕ). vs ++ l) (drop-at zs (drop (length vs) w) (length vs) e)
 
+-- a list, its tables cut to their sizes, with k words of work; and what its windows leave
+abbrev ReadyOf : Lent → ℕ → ℕ → Type 0
+ReadyOf l p k = ListReady (l .n) p (take (l .m) (l .a)) (take (l .m) (l .b)) (take (l .t) (l .x)) (take (l .t) (l .y)) (l .answers) (take k (l .work))
+
+abbrev RepliedOf : Lent → ℕ → List ℕ → ℕ → Type 0
+RepliedOf l p after kept = ListReplied (l .n) p (take (l .m) (l .a)) (take (l .m) (l .b)) (take (l .t) (l .x)) (take (l .t) (l .y)) (l .answers) after kept
+
 module _ (l : Lent) (p : ℕ) (f : Faultless l p) where
   pub granted : Accepted l p
   granted = accepted-from l p f
@@ -123,7 +130,7 @@ module _ (l : Lent) (p : ℕ) (f : Faultless l p) where
   long-x : length (take (l .t) (l .x)) ≡ l .t
   long-x = length-take-le (l .t) (l .x) (granted .x-long)
 
-  pub list-need : ListReady (l .n) p (take (l .m) (l .a)) (take (l .m) (l .b)) (take (l .t) (l .x)) (take (l .t) (l .y)) (l .answers) (take need (l .work))
+  pub list-need : ReadyOf l p need
   unfolding given
   list-need =
       let w = length-take-le need (l .work) (granted .work-long) in
@@ -146,7 +153,7 @@ module _ (l : Lent) (p : ℕ) (f : Faultless l p) where
       sym (ap (λ (e : Event). e .0) (pairs-at (take (l .t) (l .x)) (take (l .t) (l .y)) i (omega (arith, long-x))
       (omega (arith, length-take-le (l .t) (l .y) (granted .y-long)))) ∙ getD-take (l .t) (l .x) i 0 u)
 
-  module _ {after : List ℕ} {kept′ : ℕ} (d : ListReplied (l .n) p (take (l .m) (l .a)) (take (l .m) (l .b)) (take (l .t) (l .x)) (take (l .t) (l .y)) (l .answers) after kept′) where
+  module _ {after : List ℕ} {kept′ : ℕ} (d : RepliedOf l p after kept′) where
     replied : Replied (given l) 0 (l .t) p (l .answers) after kept′
     unfolding given
     replied = rw long-x at d
@@ -198,11 +205,12 @@ module _ {l : Lent} {p : ℕ} {r : Checked} (c : CheckedTables l p r) (z : r .co
     pub work-need : k ≤ length (l .work)
     work-need = omega (arith, grants .work-long)
 
-    pub list-ready : ListReady (l .n) p (take (l .m) (l .a)) (take (l .m) (l .b)) (take (l .t) (l .x)) (take (l .t) (l .y)) (l .answers) (take k (l .work))
+    pub list-ready : ReadyOf l p k
     list-ready = rw e (list-need l p (faultless c z))
 
-    module _ {after : List ℕ} {kept′ : ℕ} (d : ListReplied (l .n) p (take (l .m) (l .a)) (take (l .m) (l .b)) (take (l .t) (l .x)) (take (l .t) (l .y)) (l .answers) after kept′) where
-      pub replay-is : {cleared : List ℕ} (zs : List ℕ) (q : ℕ) → q ≡ queriesBy (l .n) (l .x) (l .t) → length zs ≡ length (take k (l .work)) → cleared ≡ over (replicate k 0) (zs ++ drop k (l .work))
+    module _ {after : List ℕ} {kept′ : ℕ} (d : RepliedOf l p after kept′) where
+      pub replay-is : {cleared : List ℕ} (zs : List ℕ) (q : ℕ) → q ≡ queriesBy (l .n) (l .x) (l .t) → length zs ≡ length (take k (l .work))
+          → cleared ≡ over (replicate k 0) (zs ++ drop k (l .work))
           → Promise l p (outcome (Done (record { queries = q; «open» = r .«open»; kept = kept′ })) after cleared)
       replay-is zs q eq lz ew =
           let f = faultless c z in

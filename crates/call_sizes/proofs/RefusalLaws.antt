@@ -1,4 +1,5 @@
--- Laws of refusals: where a list of faults refuses nothing no test holds, and the other way round; and what the first number that passes a test says of those before it.
+-- Laws of refusals: where a list of faults refuses nothing no test holds, and the other way round; and what the first number that passes a test says of
+-- those before it.
 -- Assumes nothing.
 use Prim.Native.Nat.{_*_, _+_, _-_, _/_, _<_, _≤_, suc, zero, ℕ}
 use mathlib.Core.Bool.{Bool, cond, false, true}

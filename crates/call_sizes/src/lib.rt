@@ -1,4 +1,5 @@
-// The sizes of a replay or a contraction, with their limits and their check; and what refusals share: a fault with its place, the lengths of tables, the search for a bad end.
+// The sizes of a replay or a contraction, with their limits and their check; and what refusals share: a fault with its place, the lengths of tables, the
+// search for a bad end.
 ghost use mathlib.Core.Path.{_≡_};
 ghost use Prim.Native.Nat.{_≤_};
 ghost use lib.ListN.{length};

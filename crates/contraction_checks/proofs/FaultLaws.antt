@@ -1,4 +1,5 @@
--- Laws of the call's faults: the first fault of two lists of rows, the searches of the two loops, what holds where nothing is refused, and the call's outcome in both cases.
+-- Laws of the call's faults: the first fault of two lists of rows, the searches of the two loops, what holds where nothing is refused, and the call's
+-- outcome in both cases.
 -- Assumes nothing.
 use Prim.Native.Nat.{_*_, _+_, _-_, _<_, _≤_, ℕ}
 use mathlib.Core.Bool.{Bool, _||_, false, true}

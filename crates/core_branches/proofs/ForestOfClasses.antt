@@ -1,4 +1,5 @@
--- The forest of the search with its final tops is a spanning forest with tops as graph/proofs/SpanningForest has it, and what counting leaves are its witnesses.
+-- The forest of the search with its final tops is a spanning forest with tops as graph/proofs/SpanningForest has it, and what counting leaves are its
+-- witnesses.
 -- Assumes nothing.
 use Prim.Native.Nat.{_*_, _+_, _-_, _<_, _≤_, suc, zero, ℕ}
 use mathlib.Core.Bool.{Bool, _&&_, _||_, false, not, true}

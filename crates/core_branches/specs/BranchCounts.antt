@@ -1,4 +1,5 @@
--- The branches of a class: the classes right below it that have an active node at or below them. Witnesses in place of a count: `live` is one more than an active node
+-- The branches of a class: the classes right below it that have an active node at or below them. Witnesses in place of a count: `live` is one more than an
+-- active node
 -- at or below the class, `child` one more than the last branch reported, `other` one more than one reported before; 0 stands for none.
 -- Assumes nothing: these are definitions.
 use Prim.Native.Nat.{_*_, _+_, _-_, _<_, _≤_, ℕ}
@@ -53,13 +54,15 @@ Report n v a b = ((b ≡ a) × (node TOP a v ≡ v → (node EDGE a v ≡ 0 → 
 -- those after place i have reported
 pub record Branches (n : ℕ) (pos par te top live₀ live child other : ℕ → ℕ) (i : ℕ) : Type 0 where
   -- a relation that goes up from a class to the one above holds of each active node kept as a witness
-  pub witness : (P : ℕ → ℕ → Bool) → ((t c x : ℕ) → Child n pos par te top t c → P c x ≡ true → P t x ≡ true) → ((t : ℕ) → t < n → (live₀ t ≡ 0 → ⊥) → P t (live₀ t) ≡ true)
+  pub witness : (P : ℕ → ℕ → Bool) → ((t c x : ℕ) → Child n pos par te top t c → P c x ≡ true → P t x ≡ true)
+      → ((t : ℕ) → t < n → (live₀ t ≡ 0 → ⊥) → P t (live₀ t) ≡ true)
       → (t : ℕ) → t < n → (live t ≡ 0 → ⊥) → P t (live t) ≡ true
   pub still : (t : ℕ) → (live₀ t ≡ 0 → ⊥) → live t ≡ 0 → ⊥
   pub one : (t : ℕ) → t < n → (child t ≡ 0 → ⊥) → Child n pos par te top t (child t - 1) × (i < pos (child t - 1)) × (live (child t - 1) ≡ 0 → ⊥)
   pub two : (t : ℕ) → t < n → (other t ≡ 0 → ⊥) → Child n pos par te top t (other t - 1) × (i < pos (other t - 1)) × (live (other t - 1) ≡ 0 → ⊥)
       × (other t ≡ child t → ⊥) × (child t ≡ 0 → ⊥)
-  pub all : (t c : ℕ) → t < n → Child n pos par te top t c → i < pos c → (live c ≡ 0 → ⊥) → (live t ≡ 0 → ⊥) × (child t ≡ 0 → ⊥) × ((c + 1 ≡ child t) ⊎ (other t ≡ 0 → ⊥))
+  pub all : (t c : ℕ) → t < n → Child n pos par te top t c → i < pos c → (live c ≡ 0 → ⊥)
+      → (live t ≡ 0 → ⊥) × (child t ≡ 0 → ⊥) × ((c + 1 ≡ child t) ⊎ (other t ≡ 0 → ⊥))
 
 pub record Counting (n seen : ℕ) (a : List ℕ) (i : ℕ) (w : List ℕ) : Type 0 where
   pub rest : OnlyFields (LIVE ∷ BRANCH ∷ OTHER ∷ []) n a w

@@ -1,5 +1,7 @@
--- The loops that number the kept classes and find the nearest kept class above each. Functions: `nr` of a top is one more than the number of its class (0 for none),
--- `rep` of a number a node of its class, `near` of a top one more than the number of the nearest kept class at or above, `up` of a number that of the nearest above.
+-- The loops that number the kept classes and find the nearest kept class above each. Functions: `nr` of a top is one more than the number of its class (0
+-- for none),
+-- `rep` of a number a node of its class, `near` of a top one more than the number of the nearest kept class at or above, `up` of a number that of the
+-- nearest above.
 -- Assumes nothing: these are definitions.
 use Prim.Native.Nat.{_*_, _+_, _-_, _<_, _≤_, ℕ}
 use mathlib.Core.List.{List, [], _∷_}
@@ -86,7 +88,9 @@ pub record NumberedOther (n h v : ℕ) (a b : List ℕ) (h′ : ℕ) : Type 0 wh
   pub is : Assigned n h v (node TOP a v) a b
 
 abbrev pub OtherStep : ℕ → ℕ → ℕ → List ℕ → List ℕ → ℕ → Type 0
-OtherStep n h v a b h′ = ((b ≡ a) × (h′ ≡ h) × (¬ (node POSITION a v ≡ 0) → ¬ (node OTHER a (node TOP a v) ≡ 0) → ¬ (node NUMBER a (node TOP a v) ≡ 0))) ⊎ NumberedOther n h v a b h′
+OtherStep n h v a b h′ =
+    ((b ≡ a) × (h′ ≡ h) × (¬ (node POSITION a v ≡ 0) → ¬ (node OTHER a (node TOP a v) ≡ 0) → ¬ (node NUMBER a (node TOP a v) ≡ 0)))
+    ⊎ NumberedOther n h v a b h′
 
 -- of the classes that had no number those with two branches and a node below v have got theirs, by their smallest nodes
 pub record OtherNumbers (n h₀ v h : ℕ) (pos top other nr₀ nr rep₀ rep : ℕ → ℕ) : Type 0 where

@@ -1,8 +1,10 @@
 use core_words::*;
 ghost use Prim.Native.Nat.{_+_};
 ghost use Rattle.core_branches.specs.BranchCounts.{CanReport, Report, CanCount, Counting};
-ghost use Rattle.core_branches.specs.Numbers.{CanAssign, Assigned, CanNumber, ActiveStep, CanNumberActives, NumberingActives, OtherStep, CanNumberOthers, NumberingOthers};
-ghost use Rattle.core_branches.specs.Numbers.{CanSetNearest, NearestStep, CanFindNearest, NearestLoop, CanSetParent, SetParent, CanSetParents, ParentLoop};
+ghost use Rattle.core_branches.specs.Numbers.{CanAssign, Assigned, CanNumber, ActiveStep, CanNumberActives, NumberingActives};
+ghost use Rattle.core_branches.specs.Numbers.{OtherStep, CanNumberOthers, NumberingOthers};
+ghost use Rattle.core_branches.specs.Numbers.{CanSetNearest, NearestStep, CanFindNearest, NearestLoop};
+ghost use Rattle.core_branches.specs.Numbers.{CanSetParent, SetParent, CanSetParents, ParentLoop};
 ghost use Rattle.core_branches.specs.Classes.{CanNumberClasses, ClassNumbers};
 
 // The class with the top t, which has no number, gets the number h, by its node v.

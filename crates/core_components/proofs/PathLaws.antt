@@ -1,4 +1,5 @@
--- Laws of merging along a tree path: a top into the top of its parent; the loop of `merge_tops`, over functions and then at the words; and both ends found first.
+-- Laws of merging along a tree path: a top into the top of its parent; the loop of `merge_tops`, over functions and then at the words; and both ends found
+-- first.
 -- Assumes nothing.
 use Prim.Native.Nat.{_*_, _<_, _≤_, ℕ}
 use mathlib.Core.Bool.{Bool}

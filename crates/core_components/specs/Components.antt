@@ -26,4 +26,5 @@ pub record Components (n m : ℕ) (a w : List ℕ) : Type 0 where
   pub forest : ForestAt n m w
   pub final : FinalTops n m (half n TO w) (node POSITION w) (node PARENT w) (node EDGE w) (node TOP w)
   pub same : (x y : ℕ) → x < n → y < n → node TOP w x ≡ node TOP w y → Inseparable 1 (edgesBelow (half n TO w) m) x y
-  pub back : (x y : ℕ) → x < n → y < n → 0 < node POSITION w x → 0 < node POSITION w y → Inseparable 1 (edgesBelow (half n TO w) m) x y → node TOP w x ≡ node TOP w y
+  pub back : (x y : ℕ) → x < n → y < n → 0 < node POSITION w x → 0 < node POSITION w y
+      → Inseparable 1 (edgesBelow (half n TO w) m) x y → node TOP w x ≡ node TOP w y

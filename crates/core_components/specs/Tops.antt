@@ -76,7 +76,8 @@ pub record SearchOrder (n : ℕ) (pos par root : ℕ → ℕ) : Type 0 where
 abbrev pub FollowsParents : ℕ → (ℕ → ℕ) → (ℕ → ℕ) → (ℕ → Bool) → Type 0
 FollowsParents n par t D = (u : ℕ) → u < n → (t u ≡ u → ⊥) → D u ≡ D (par u)
 
--- a set that allows merging from x to y: where x and y on one side would put a and b of one tree on one side, it does not part the later of the two from its parent
+-- a set that allows merging from x to y: where x and y on one side would put a and b of one tree on one side, it does not part the later of the two from
+-- its parent
 abbrev pub AllowsMerge : ℕ → (ℕ → ℕ) → (ℕ → ℕ) → (ℕ → ℕ) → ℕ → ℕ → (ℕ → Bool) → Type 0
 AllowsMerge n pos par root x y D = (a b : ℕ) → a < n → b < n → 0 < pos b → pos b < pos a → root a ≡ root b → (D x ≡ D y → D a ≡ D b) → D (par a) ≡ D a
 

@@ -3,7 +3,8 @@ ghost use mathlib.Core.Path.{_≡_};
 ghost use Prim.Native.Nat.{_+_, _*_, _<_, _≤_};
 ghost use lib.ListN.{length};
 ghost use Rattle.core_words.specs.Fields.{ROOT, TOP, Put, node};
-ghost use Rattle.core_components.specs.Tops.{CanFind, Found, CanMergeUp, MergedUpAt, CanMergePath, SeenTop, SameTree, MergedPath, OwnTops, CanCompress, Compressed};
+ghost use Rattle.core_components.specs.Tops.{CanFind, Found, CanMergeUp, MergedUpAt, CanMergePath, SeenTop, SameTree, MergedPath};
+ghost use Rattle.core_components.specs.Tops.{OwnTops, CanCompress, Compressed};
 ghost use Rattle.core_components.specs.Merging.{CanMergeEdge, EdgeMerged, CanMerge, EdgesMerged};
 ghost use Rattle.core_components.specs.Components.{CanMergeComponents, Components};
 
@@ -125,7 +126,8 @@ fn compress_all(work: &mut [u32], n: usize, seen: usize)
     }
 }
 
-// Internal: merges the 2-edge-connected components of the forest's seen nodes: the top of a node is then the same for all of its component, and no other has it.
+// Internal: merges the 2-edge-connected components of the forest's seen nodes: the top of a node is then the same for all of its component, and no other
+// has it.
 pub fn merge_components(work: &mut [u32], n: usize, m: usize, seen: usize)
     requires { ⌜ CanMergeComponents n m seen (now work) ⌝ }
     ensures { λ _. ⌜ Components n m (now (work .entry)) (now (work .exit)) ⌝ }

@@ -1,5 +1,7 @@
--- The edges in the half-edges' far ends, and a spanning forest of them: each node that was seen is a root, or has a parent that was seen before it by a tree edge.
--- Functions of a node: `pos` one more than its place in the search (0 unseen), `par` the parent, `te` one more than the tree edge (0 for none), `root` the root of its tree.
+-- The edges in the half-edges' far ends, and a spanning forest of them: each node that was seen is a root, or has a parent that was seen before it by a
+-- tree edge.
+-- Functions of a node: `pos` one more than its place in the search (0 unseen), `par` the parent, `te` one more than the tree edge (0 for none), `root` the
+-- root of its tree.
 -- Assumes nothing: these are definitions.
 use Prim.Native.Nat.{_*_, _+_, _<_, _≤_, suc, zero, ℕ}
 use mathlib.Core.List.{List, [], _∷_}

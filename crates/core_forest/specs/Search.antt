@@ -1,4 +1,5 @@
--- The breadth-first search that makes the forest, over functions that are read off the words: what holds between its steps, and what each step asks for and ensures.
+-- The breadth-first search that makes the forest, over functions that are read off the words: what holds between its steps, and what each step asks for and
+-- ensures.
 -- Each half-edge that leaves a finished node leads to a seen node of the same root, and a seen node that is not finished has the current root; so at the end
 -- the ends of each edge have the same root, and no argument about closure is needed.
 -- Assumes nothing: these are definitions.

@@ -1,4 +1,5 @@
--- The words from one call of `reduce` to the next: what each call asks for follows from what those before it ensure, and at the end the small graph stands in the words.
+-- The words from one call of `reduce` to the next: what each call asks for follows from what those before it ensure, and at the end the small graph stands
+-- in the words.
 -- Assumes nothing.
 use Prim.Native.Nat.{ℕ, _+_, _-_, _*_, _<_, _≤_}
 use mathlib.Core.Bool.{false, true}

@@ -1,6 +1,7 @@
 -- What the contraction on words takes and gives. n nodes, m edges by their half-edges, k different active nodes.
 -- Before: TO of half-edge 2e is one end of edge e and that of 2e + 1 the other; ACTIVE of i is the i-th active node, and MARK of an active node
--- is one more than its place among them, 0 of any other node. After: MAPPED of an active node is its new number, and LOWER and UPPER of j are the ends of the j-th edge out.
+-- is one more than its place among them, 0 of any other node. After: MAPPED of an active node is its new number, and LOWER and UPPER of j are the ends of
+-- the j-th edge out.
 -- Assumes nothing: these are definitions.
 use Prim.Native.Nat.{ℕ, _+_, _*_, _≤_, _<_}
 use mathlib.Core.Path.{_≡_}

@@ -1,4 +1,5 @@
-// The edges between each number and its parent number, written in ascending order without a sort: each number is put into the list of its parent where that is smaller,
+// The edges between each number and its parent number, written in ascending order without a sort: each number is put into the list of its parent where that
+// is smaller,
 // from the last number down, so that each list ascends; then for each number its list is written, with its own parent merged in where that is larger.
 use core_words::*;
 ghost use Prim.Native.Nat.{_+_, _-_, _*_, _<_, _≤_};

@@ -1,4 +1,5 @@
--- Laws of the checks: the first that passes, met from the front; the fault of the sizes; the faults of the tables and the share; the first segment and the first event with a fault.
+-- Laws of the checks: the first that passes, met from the front; the fault of the sizes; the faults of the tables and the share; the first segment and the
+-- first event with a fault.
 -- Assumes nothing.
 use Prim.Native.Nat.{_+_, _-_, _<_, _≤_, ℕ}
 use mathlib.Core.Bool.{Bool, _||_, cond, false, not, true}

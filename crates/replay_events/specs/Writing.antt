@@ -82,7 +82,8 @@ pub record LinkRoom (t i k : ℕ) (w : List ℕ) : Type 0 where
 
 -- one event: the head of its key becomes its word, and v the head; 0 for a query
 pub record LinkedEvent (t i k v : ℕ) (heads w heads′ w′ : List ℕ) : Type 0 where
-  pub change : ltb 0 (tagsIn t w i) ≡ true → (w′ ≡ set w (2 * t + 3 * i + k) (getD heads (keyOf (tagsIn t w i)) 0)) × (heads′ ≡ set heads (keyOf (tagsIn t w i)) v)
+  pub change : ltb 0 (tagsIn t w i) ≡ true
+      → (w′ ≡ set w (2 * t + 3 * i + k) (getD heads (keyOf (tagsIn t w i)) 0)) × (heads′ ≡ set heads (keyOf (tagsIn t w i)) v)
   pub query : ltb 0 (tagsIn t w i) ≡ false → (w′ ≡ set w (2 * t + 3 * i + k) 0) × (heads′ ≡ heads)
 
 -- ---- the whole

@@ -8,7 +8,8 @@ ghost use lib.ListN.{length, set};
 ghost use lib.Seq.{sets};
 ghost use Rattle.theory_graph.specs.Lists.{pairs};
 ghost use Rattle.theory_timeline.specs.Events.{kindOf};
-ghost use Rattle.replay_events.specs.Writing.{CanWriteEvents, EventsWritten, LinkRoom, LinkedEvent, TagsFit, Written, endsBy, isQuery, junctionsBy, lastBy, nextBy, queriesBy, tagBy, tagsBy, tagsIn};
+ghost use Rattle.replay_events.specs.Writing.{CanWriteEvents, EventsWritten, LinkRoom, LinkedEvent, TagsFit, Written};
+ghost use Rattle.replay_events.specs.Writing.{endsBy, isQuery, junctionsBy, lastBy, nextBy, queriesBy, tagBy, tagsBy, tagsIn};
 
 // Whether an event with this X is a query.
 fn is_query(x: u16, n: usize) -> bool

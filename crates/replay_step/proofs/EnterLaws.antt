@@ -70,7 +70,8 @@ after-clear {from} {count} {s} {n} {k} w zs {z} h u b a =
     record { front = a .front ∙ f; entered = rw (← mid-less from count s w c b (omega arith) (omega arith) f) (a .entered) }
 
 -- after clearing, nothing is entered
-pub clear-need : (from count s n : ℕ) (w zs : List ℕ) → ActiveReady from count s n w → Cleared (MARK ∷ []) n n (take (length w - s) (drop s w)) zs → Needs from count s n (putMid s (length w - s) w zs)
+pub clear-need : (from count s n : ℕ) (w zs : List ℕ) → ActiveReady from count s n w
+    → Cleared (MARK ∷ []) n n (take (length w - s) (drop s w)) zs → Needs from count s n (putMid s (length w - s) w zs)
 clear-need from count s n w zs q c =
     let h : s ≤ length w = omega arith in
     let lc = same-len-mid s (length w - s) w zs (c .rest .same) in (

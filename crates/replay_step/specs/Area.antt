@@ -37,11 +37,13 @@ pub record Area (g : Timeline) (w : Window) (v : List ℕ) : Type 0 where
   pub events : EventsIn g (span w) σ v
   pub few : w .edges ≤ 4 * w .events
 
--- The words v hold the window's small graph, where only nodes without an active junction may be numbered otherwise, their edges then being written and ordered by those numbers;
+-- The words v hold the window's small graph, where only nodes without an active junction may be numbered otherwise, their edges then being written and
+-- ordered by those numbers;
 -- and so it has at most 2k - 2 nodes for k active junctions (k where k is below 2).
 pub record SmallArea (g : Timeline) (w : Window) (v : List ℕ) : Type 0 where
   pub σ : ℕ → ℕ
-  pub graph : Renumbered (active g (span w)) ((small g (span w)) .nodes) ((small g (span w)) .edges) (stands g (span w)) (w .nodes) (areaEdges (w .events) (w .edges) v) σ
+  pub graph : Renumbered (active g (span w)) ((small g (span w)) .nodes) ((small g (span w)) .edges) (stands g (span w))
+      (w .nodes) (areaEdges (w .events) (w .edges) v) σ
   pub bound : w .nodes ≤ mostNodes (different (active g (span w)))
   pub events : EventsIn g (span w) σ v
 
@@ -63,7 +65,8 @@ pub record Stepped (w : Window) (lo c : ℕ) (v z : List ℕ) (r : Window) : Typ
   pub at : r .at ≡ lo
   pub events : r .events ≡ c
   pub front : take (13 * w .events) z ≡ take (13 * w .events) v
-  pub made : (g : Timeline) → Sound g → w .at + w .events ≤ size g → Area g w (take (13 * w .events) v) → SmallArea g r (take (13 * c) (drop (13 * w .events) z))
+  pub made : (g : Timeline) → Sound g → w .at + w .events ≤ size g → Area g w (take (13 * w .events) v)
+      → SmallArea g r (take (13 * c) (drop (13 * w .events) z))
 
 -- ---- the whole list of t events over n junctions: the junctions themselves and the words of the events stand at the front
 pub record WholeReady (n t : ℕ) (v : List ℕ) : Type 0 where
@@ -79,4 +82,5 @@ pub record WholeReady (n t : ℕ) (v : List ℕ) : Type 0 where
 pub record WholeMade (n t : ℕ) (v z : List ℕ) (r : Window) : Type 0 where
   pub at : r .at ≡ 0
   pub events : r .events ≡ t
-  pub made : (g : Timeline) → Sound g → g .junctions ≡ n → size g ≡ t → EventsIn g (0, t) (λ a. a) (take (5 * t) v) → SmallArea g r (take (13 * t) (drop (5 * t) z))
+  pub made : (g : Timeline) → Sound g → g .junctions ≡ n → size g ≡ t → EventsIn g (0, t) (λ a. a) (take (5 * t) v)
+      → SmallArea g r (take (13 * t) (drop (5 * t) z))

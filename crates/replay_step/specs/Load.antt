@@ -1,5 +1,6 @@
 -- What the pieces of a step do to the words: a front that they only read, and the contraction's words behind it, from `scratch` on.
--- First the active nodes, then the edges of the window's graph, then those of the events beside the part; then the part's area is written out of the contraction's result.
+-- First the active nodes, then the edges of the window's graph, then those of the events beside the part; then the part's area is written out of the
+-- contraction's result.
 -- Assumes nothing: these are definitions.
 use Prim.Native.Nat.{_*_, _+_, _-_, _<_, _≤_, ℕ}
 use mathlib.Core.Bool.{Bool}
@@ -60,7 +61,9 @@ pub record Copied (e m s n : ℕ) (w z : List ℕ) : Type 0 where
 -- ---- the events beside the part
 -- event i of the window adds its key, and its two nodes, by the words of the area
 abbrev pub addsIn : Window → Part → List ℕ → ℕ → Bool
-addsIn w p v i = adds (span w) (p .at, p .events) (w .at + i) (getD v (2 * w .events + 3 * i) 0) (getD v (2 * w .events + 3 * i + 1) 0) (getD v (2 * w .events + 3 * i + 2) 0)
+addsIn w p v i =
+    adds (span w) (p .at, p .events) (w .at + i)
+    (getD v (2 * w .events + 3 * i) 0) (getD v (2 * w .events + 3 * i + 1) 0) (getD v (2 * w .events + 3 * i + 2) 0)
 
 abbrev pub placesIn : List ℕ → ℕ → Edge
 placesIn v i = (getD v (2 * i) 0, getD v (2 * i + 1) 0)
@@ -80,7 +83,8 @@ pub record AddReady (w : Window) (p : Part) (i j m : ℕ) (v : List ℕ) : Type 
 pub record Added (w : Window) (p : Part) (i j m : ℕ) (v z : List ℕ) (r : ℕ) : Type 0 where
   pub long : length z ≡ length v
   pub edged : Edged (scratch p) (w .nodes) r v z
-  pub more : (U : NodeSet) → cut U (edgesIn (w .nodes) r (drop (scratch p) z)) ≡ cut U (edgesIn (w .nodes) m (drop (scratch p) v)) + cut U (pickEvents (addsIn w p v) (placesIn v) i (j - i))
+  pub more : (U : NodeSet) → cut U (edgesIn (w .nodes) r (drop (scratch p) z))
+      ≡ cut U (edgesIn (w .nodes) m (drop (scratch p) v)) + cut U (pickEvents (addsIn w p v) (placesIn v) i (j - i))
   pub most : r ≤ m + (j - i)
 
 -- ---- the part's area

@@ -1,4 +1,5 @@
-// Runs contract on vectors, which it reads; on random graphs against a slow contraction; and at the limits: the full sizes, sizes of one more, tables of one entry less, and
+// Runs contract on vectors, which it reads; on random graphs against a slow contraction; and at the limits: the full sizes, sizes of one more, tables of
+// one entry less, and
 // the order of the refusals. Prints counts and replies.
 mod calls;
 mod limits;
@@ -51,7 +52,8 @@ fn add_vectors(t: &mut Table) {
     }
 }
 
-// Counts a random graph: all, those on which the call and the slow contraction disagree, those with a kept class without an active node, and those that are refused.
+// Counts a random graph: all, those on which the call and the slow contraction disagree, those with a kept class without an active node, and those that are
+// refused.
 fn add_random(t: &mut Table, s: usize) {
     let mut l = [65000u16; 32776];
     graphs::make(&mut l, s);

@@ -1,5 +1,7 @@
-// Contractions made by a slow program before any code of the product; they stand on standard input. A line has 77 numbers, where the character 0 is 0, and each later one in
-// ASCII is one more: the nodes n, the edges m and the active entries k; the nodes and the edges of the contraction; then 16 first ends and 16 second ends of the edges,
+// Contractions made by a slow program before any code of the product; they stand on standard input. A line has 77 numbers, where the character 0 is 0, and
+// each later one in
+// ASCII is one more: the nodes n, the edges m and the active entries k; the nodes and the edges of the contraction; then 16 first ends and 16 second ends
+// of the edges,
 // 9 entries and 9 numbers of the map, 11 first ends and 11 second ends of the edges out, of which as many count as the sizes say.
 use libc::STDIN_FILENO;
 use test_library::calls::Reply;

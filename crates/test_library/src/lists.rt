@@ -1,4 +1,5 @@
-// A network with its events, or with its active entries: four tables of 8192 entries, then four sizes. A has the segments' first ends, B their second ends, X and Y the
+// A network with its events, or with its active entries: four tables of 8192 entries, then four sizes. A has the segments' first ends, B their second ends,
+// X and Y the
 // events. The sizes stand under the same names: N, M, T and the share. Of a contraction X has the active entries and K, and Y nothing.
 use crate::counts;
 

@@ -29,7 +29,8 @@ fn centre_end(s: usize, i: usize, side: usize, row: usize) -> usize {
     random::at(s, 1, i, 3)
 }
 
-// One end of edge e over the nodes below n. The kinds: any edges; a ring; a ring with each edge twice; a tree; a tree with each edge twice; three centres in a row and
+// One end of edge e over the nodes below n. The kinds: any edges; a ring; a ring with each edge twice; a tree; a tree with each edge twice; three centres
+// in a row and
 // in a ring, with leaves; edges within the even nodes and within the odd ones; a ring with a loop at each node; a path.
 pub fn end(kind: usize, s: usize, n: usize, e: usize, side: usize) -> usize {
     let i = e % 8192;

@@ -9,7 +9,8 @@ use test_library::tables;
 use test_library::tables::Table;
 use test_random::lists as random_lists;
 
-// N, M, T, the share, the table that is short, and the numbers that vary in a list on the path 0-1-2, with loops for the segments that are left: the end at which segment 1
+// N, M, T, the share, the table that is short, and the numbers that vary in a list on the path 0-1-2, with loops for the segments that are left: the end at
+// which segment 1
 // begins, and X of the first two events. Each Y is 1, and the other events ask for junction 1 with itself.
 type Case = [usize; 8];
 
@@ -23,7 +24,8 @@ fn reply(c: Case, work: &mut Work) -> Reply {
     crate::calls::run(&l, c[4], &l, &mut answers, work)
 }
 
-// The cases in the order of the report. Sizes are refused before lengths, lengths before the share, the share before ends, ends before events: the last five have all these
+// The cases in the order of the report. Sizes are refused before lengths, lengths before the share, the share before ends, ends before events: the last
+// five have all these
 // faults, all but the first, and so on.
 fn case(i: usize) -> Case {
     match i {

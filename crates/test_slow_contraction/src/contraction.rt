@@ -48,7 +48,8 @@ fn next_class(l: &List, c: &Table, i: usize) -> usize {
     counts::minus(i, k)
 }
 
-// Gives the class z the next number, where it has none yet, and answers how many there are. `of` has a class's number, with one added, and `first` a number's class.
+// Gives the class z the next number, where it has none yet, and answers how many there are. `of` has a class's number, with one added, and `first` a
+// number's class.
 fn give(of: &mut Table, first: &mut Table, z: usize, count: usize) -> usize {
     if tables::get(of, z) > 0 {
         return count;

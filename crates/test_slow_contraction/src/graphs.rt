@@ -125,7 +125,8 @@ fn part_along(c: &mut Table, p: &mut Table, l: &List, open: &Marks, e: usize) {
     }
 }
 
-// The classes: for each node the smallest that it is joined to, also after the removal of each single edge; and the pieces. All were one class before, and each alone in p.
+// The classes: for each node the smallest that it is joined to, also after the removal of each single edge; and the pieces. All were one class before, and
+// each alone in p.
 pub fn classes(c: &mut Table, p: &mut Table, l: &List, open: &Marks) {
     let m = lists::size(l, lists::B);
     part_without(c, l, open, m);

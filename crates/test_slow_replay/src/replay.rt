@@ -1,4 +1,5 @@
-// The slow replay. Where places is not 0, the network is a ring of that many places, and walking round tells the answers and the nodes; else the open segments are removed
+// The slow replay. Where places is not 0, the network is a ring of that many places, and walking round tells the answers and the nodes; else the open
+// segments are removed
 // in turn. Answers stand in A of a list.
 use crate::rings;
 use test_library::calls::Reply;

@@ -1,4 +1,5 @@
--- The other way (docs/theory.md 7, C and SC'): kept nodes that are joined are joined in the small graph, and each small cut of a small graph comes from one of the graph.
+-- The other way (docs/theory.md 7, C and SC'): kept nodes that are joined are joined in the small graph, and each small cut of a small graph comes from one
+-- of the graph.
 -- Assumes nothing.
 use Prim.Native.Nat.{_<_, _≤_, suc, zero, ℕ}
 use mathlib.Core.Bool.{Bool, _&&_, _||_, false, not, or-true, true}

@@ -1,4 +1,5 @@
--- Two small graphs of one graph and one active list differ only by a renumbering of the nodes without an active node; and what differs so from a small graph is one.
+-- Two small graphs of one graph and one active list differ only by a renumbering of the nodes without an active node; and what differs so from a small
+-- graph is one.
 -- Assumes nothing.
 use Prim.Native.Nat.{_<_, max, min, ℕ}
 use mathlib.Core.Bool.{Bool, false, true}

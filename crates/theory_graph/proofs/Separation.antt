@@ -1,4 +1,5 @@
--- Separated and Inseparable (docs/theory.md 2, 4): inseparable nodes form classes; a class lies on one side of each small cut; small cuts of one piece do not cross.
+-- Separated and Inseparable (docs/theory.md 2, 4): inseparable nodes form classes; a class lies on one side of each small cut; small cuts of one piece do
+-- not cross.
 -- Assumes nothing.
 use Prim.Native.Nat.{_<_, _≤_, ℕ}
 use mathlib.Core.Bool.{Bool, _&&_, _||_, false, not, true, true≢false}

@@ -1,4 +1,5 @@
--- Laws of lists as the values of a function: table (its length, entries, members, one more entry), take and pairs as tables, and over, a table whose first entries are written.
+-- Laws of lists as the values of a function: table (its length, entries, members, one more entry), take and pairs as tables, and over, a table whose first
+-- entries are written.
 -- Assumes nothing.
 use Prim.Native.Nat.{_+_, _-_, _<_, _≤_, suc, zero, ℕ}
 use mathlib.Core.List.{List, [], _++_, _∷_, map}

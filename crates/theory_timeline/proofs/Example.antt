@@ -1,4 +1,5 @@
--- Demand 3 on document 01's example, the triangle of three segments, with the shares 8 and 12: its hypotheses are met there, and its parts say what they should.
+-- Demand 3 on document 01's example, the triangle of three segments, with the shares 8 and 12: its hypotheses are met there, and its parts say what they
+-- should.
 -- Assumes nothing.
 use mathlib.Core.List.{List·Memᴰ, List·Memᴰ·head, List·Memᴰ·tail, [], _++_, _∷_}
 use mathlib.Core.Path.{_≡_, refl, subst, sym}

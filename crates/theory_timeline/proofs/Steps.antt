@@ -1,5 +1,6 @@
 -- The graphs that are made step by step down the windows: each window has one, it has the small graph's nodes and places and is as small,
--- and kept is the sum of its nodes. So kept is defined by the contraction of each window's own network, though the program contracts what the window above kept.
+-- and kept is the sum of its nodes. So kept is defined by the contraction of each window's own network, though the program contracts what the window above
+-- kept.
 -- Assumes nothing.
 use Prim.Native.Nat.{_+_, _<_, _≤_, ℕ}
 use mathlib.Core.Bool.{true}

@@ -13,5 +13,14 @@ lent n m t a b x y answers work = record { n = n; m = m; t = t; a = a; b = b; x 
 
 -- what a reply says, with the two tables that may be written as they are afterwards
 abbrev pub outcome : ReplayReply → List ℕ → List ℕ → Outcome
-outcome (Done r) answers work = record { accepted = true; code = 0; place = 0; queries = r .queries; opened = r .«open»; kept = r .kept; answers = answers; work = work }
+outcome (Done r) answers work = record {
+  accepted = true;
+  code = 0;
+  place = 0;
+  queries = r .queries;
+  opened = r .«open»;
+  kept = r .kept;
+  answers = answers;
+  work = work;
+}
 outcome (Refused c i) answers work = record { accepted = false; code = c; place = i; queries = 0; opened = 0; kept = 0; answers = answers; work = work }

@@ -26,7 +26,17 @@ pub data Seen : Type 0 where
 -- tables of just the least lengths, the answer table filled with 9 and the work table with 7
 abbrev pub replayOf : ℕ → List ℕ → List ℕ → List ℕ → List ℕ → ℕ → Seen
 replayOf n a b x y p =
-    let l : R.Lent = record { n = n; m = length a; t = length x; a = a; b = b; x = x; y = y; answers = replicate (length x) 9; work = replicate (R.required (length x) n) 7 } in
+    let l : R.Lent = record {
+      n = n;
+      m = length a;
+      t = length x;
+      a = a;
+      b = b;
+      x = x;
+      y = y;
+      answers = replicate (length x) 9;
+      work = replicate (R.required (length x) n) 7;
+    } in
     let r : R.Outcome = R.replay l p in
     replayed (r .code, r .place, r .queries, r .opened, r .kept, r .answers)
 
@@ -68,7 +78,8 @@ table =
     ∷ (
       wrote (output (bytesOf (3 ∷ 3 ∷ 5 ∷ 8 ∷ 0 ∷ 1 ∷ 2 ∷ 1 ∷ 2 ∷ 0 ∷ 65535 ∷ 65535 ∷ 0 ∷ 65535 ∷ 0 ∷ 0 ∷ 1 ∷ 2 ∷ 2 ∷ 2 ∷ []))),
       -- "2 1", "4 2", "asks 2 open 3 kept 19"
-      wrote (50 ∷ 32 ∷ 49 ∷ 10 ∷ 52 ∷ 32 ∷ 50 ∷ 10 ∷ 97 ∷ 115 ∷ 107 ∷ 115 ∷ 32 ∷ 50 ∷ 32 ∷ 111 ∷ 112 ∷ 101 ∷ 110 ∷ 32 ∷ 51 ∷ 32 ∷ 107 ∷ 101 ∷ 112 ∷ 116 ∷ 32 ∷ 49 ∷ 57 ∷ 10 ∷ []),
+      wrote (50 ∷ 32 ∷ 49 ∷ 10 ∷ 52 ∷ 32 ∷ 50 ∷ 10
+          ∷ 97 ∷ 115 ∷ 107 ∷ 115 ∷ 32 ∷ 50 ∷ 32 ∷ 111 ∷ 112 ∷ 101 ∷ 110 ∷ 32 ∷ 51 ∷ 32 ∷ 107 ∷ 101 ∷ 112 ∷ 116 ∷ 32 ∷ 49 ∷ 57 ∷ 10 ∷ []),
     )
     -- with p = 12 the answers are the same and kept is 20
     ∷ (example 12, replayed (0, 0, 2, 3, 20, 3 ∷ 3 ∷ 1 ∷ 3 ∷ 2 ∷ []))

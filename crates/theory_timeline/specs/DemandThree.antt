@@ -1,5 +1,6 @@
 -- Demand 3: one statement about two replays, with its parts (a) to (e). Its proof is proofs/DemandThree.
--- It cites, of Replay: Lent, given, Outcome, replay; of Call: outcome; of Windows: windows, network, active, small, stands; of the crate theory_graph: answer, the answer of two nodes,
+-- It cites, of Replay: Lent, given, Outcome, replay; of Call: outcome; of Windows: windows, network, active, small, stands; of the crate theory_graph:
+-- answer, the answer of two nodes,
 -- image, the edges of a list with their ends moved, different, the number of different entries, and mostNodes, the bound 2k - 2 (k where k is below 2).
 -- Assumes nothing: these are definitions.
 use Prim.Native.Nat.{_≤_, ℕ}
@@ -46,7 +47,8 @@ pub record Demand3 (l k : Lent) (p q : ℕ) (r s : Outcome) : Type 0 where
   -- (c)
   pub kept : r .code ≡ 0 → r .kept ≡ sum (map (λ w. (small (given l) w) .nodes) (windows p (l .t)))
   -- (d)
-  pub alike : r .code ≡ 0 → s .code ≡ 0 → Alike l k → (take (l .t) (r .answers) ≡ take (l .t) (s .answers)) × (r .queries ≡ s .queries) × (r .opened ≡ s .opened)
+  pub alike : r .code ≡ 0 → s .code ≡ 0 → Alike l k
+      → (take (l .t) (r .answers) ≡ take (l .t) (s .answers)) × (r .queries ≡ s .queries) × (r .opened ≡ s .opened)
   -- (e)
   pub tables : l ≡ k → (r .code ≡ 0 ↔ s .code ≡ 0) × (r .code ≡ 0 → (r .answers ≡ s .answers) × (r .work ≡ s .work))
 

@@ -13,4 +13,5 @@ use Rattle.theory_timeline.specs.Windows.{event, small, windows}
 -- each event has a window of its own, and an accepted replay's byte of it is 3, or read off that window's small graph
 pub record Demand2 (l : Lent) (p : ℕ) (r : Outcome) : Type 0 where
   pub window : (i : ℕ) → i < l .t → List·Memᴰ (i, 1) (windows p (l .t))
-  pub byte : (i : ℕ) → i < l .t → getD (r .answers) i 0 ≡ cond (asks (event (given l) i)) (readOff ((small (given l) (i, 1)) .nodes) ((small (given l) (i, 1)) .edges)) 3
+  pub byte : (i : ℕ) → i < l .t → getD (r .answers) i 0
+      ≡ cond (asks (event (given l) i)) (readOff ((small (given l) (i, 1)) .nodes) ((small (given l) (i, 1)) .edges)) 3

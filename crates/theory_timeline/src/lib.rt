@@ -1,4 +1,5 @@
-// The list of events over a network: definitions in specs/, their laws and demand 3 in proofs/. The replay itself is in the crate call_replay; its reply's types stand here, for demand 3 speaks of them.
+// The list of events over a network: definitions in specs/, their laws and demand 3 in proofs/. The replay itself is in the crate call_replay; its reply's
+// types stand here, for demand 3 speaks of them.
 
 ghost use mathlib.Core.Path.{_≡_};
 ghost use Rattle.theory_timeline.specs.Events.{kindOf};

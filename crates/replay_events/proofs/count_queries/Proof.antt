@@ -24,7 +24,12 @@ add-k c =
     let at-loop = c .before .before .before in
     let start = at-loop .before .before in
     let l = at-loop .loop in
-    omega (arith, queries-most (start .args .n) (start .args .x .now) (l .i), l .inv .1, query-most (isQuery (kindOf (start .args .n) (getD (start .args .x .now) (l .i) 0))) _ (c .one-if-query .ensures))
+    omega (
+      arith,
+      queries-most (start .args .n) (start .args .x .now) (l .i),
+      l .inv .1,
+      query-most (isQuery (kindOf (start .args .n) (getD (start .args .x .now) (l .i) 0))) _ (c .one-if-query .ensures),
+    )
 
 loop-again : tie.Need-loop-again Inv-loop μ-loop
 loop-again c =

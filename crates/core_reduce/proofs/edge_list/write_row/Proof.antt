@@ -1,4 +1,5 @@
--- `edge_list::write_row` meets its contract. The loop's invariant: the edges of s up to the larger end f are written, t is the next, and c the next of the list.
+-- `edge_list::write_row` meets its contract. The loop's invariant: the edges of s up to the larger end f are written, t is the next, and c the next of the
+-- list.
 -- Assumes nothing.
 use Prim.Native.Nat.{_+_, _-_}
 use native.Mathlib.Omega.{arith}
