@@ -1,7 +1,7 @@
 // The contraction as a public call: the checks in document 01's order, the graph loaded into words, its contraction, and the reply's tables filled.
 use core_words::*;
 ghost use mathlib.Core.Path.{_≡_};
-ghost use Rattle.theory_contraction.specs.Contraction.{fault, done, contraction, lent};
+ghost use Rattle.theory_contraction.specs.Contraction.{Faultless, done, contraction, lent};
 ghost use Rattle.call_contract.specs.Reply.{outcome};
 
 // The nodes and the edges of the contraction, or the refusal's number and its place.
@@ -23,7 +23,7 @@ fn contracted(
     out_to: &mut [u16],
     work: &mut [u32],
 ) -> ContractReply
-    requires { ⌜ fault (lent n m k (now from) (now to) (now active) (now map) (now «out_from») (now «out_to») (now work)) .0 ≡ 0 ⌝ }
+    requires { ⌜ Faultless (lent n m k (now from) (now to) (now active) (now map) (now «out_from») (now «out_to») (now work)) ⌝ }
     ensures { λ r. ⌜ outcome r (now (map .exit)) (now («out_from» .exit)) (now («out_to» .exit)) (now (work .exit))
         ≡ done (lent n m k (now (from .entry)) (now (to .entry)) (now (active .entry))
         (now (map .entry)) (now («out_from» .entry)) (now («out_to» .entry)) (now (work .entry))) ⌝ }

@@ -9,7 +9,7 @@ use lib.Dec.{leb, ltb}
 use lib.ListN.{getD, length}
 use native.Mathlib.Omega.{arith}
 use borrow.Author.Tests.{le-ltb, leb-false, lt-ltb, ltb-false}
-use Rattle.theory_contraction.specs.Contraction.{Lent, badEntry, fault, faults, required, shortTables, tableLengths}
+use Rattle.theory_contraction.specs.Contraction.{Faultless, Lent, badEntry, fault, faults, required, shortTables, tableLengths}
 use Rattle.call_sizes.proofs.RefusalLaws.{accepted-long, fault-silent, numbered-append, short-numbered, seek-none, silent-fault}
 use Rattle.call_sizes.proofs.RefusalLaws.{silent-left, silent-right, fault-left, fault-right, sizes-numbered}
 use Rattle.call_sizes.specs.Refusal.{Refusal, Row, firstFault, row, seek, badEnds}
@@ -94,7 +94,7 @@ module _ (l : Lent) where
       none-refused x a q i r j = sym (last ∙ rw (← q, le-ltb x (l .m) i, ← r, le-ltb a (l .k) j) refl)
 
   -- ---- where nothing is refused
-  pub sound : fault l .0 ≡ 0 → Accepted l
+  pub sound : Faultless l → Accepted l
   unfolding fault faults
   sound z =
       let sizes = sizeFaults (l .n) (l .m) 0 (l .k) in

@@ -3,6 +3,7 @@
 use Prim.Native.Nat.{ℕ, _+_, _*_}
 use mathlib.Core.Bool.{Bool, true, false}
 use mathlib.Core.List.{List, [], _∷_, _++_, map}
+use mathlib.Core.Path.{_≡_}
 use lib.Dec.{eqb, leb, ltb}
 use lib.ListN.{length, getD, take, replicate}
 use Rattle.theory_graph.specs.Lists.{pairs, over}
@@ -70,6 +71,10 @@ faults l =
 
 unfoldable pub fault : Lent → Refusal
 fault l = firstFault (faults l)
+
+-- nothing is wrong with what is lent
+abbrev pub Faultless : Lent → Type 0
+Faultless l = fault l .0 ≡ 0
 
 -- ---- what is returned, and what the tables hold afterwards
 pub record Outcome : Type 0 where
