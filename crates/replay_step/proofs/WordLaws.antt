@@ -90,17 +90,29 @@ map-table g w range count h = let z : range ≡ range + 0 = omega arith in ap (�
         ap (λ l. map g (take (suc k) l)) (drop-cons w (range + i) 0 (omega arith))
         ∙ ap (λ l. g (getD w (range + i) 0) ∷ l) (ap (λ j. map g (take k (drop j w))) z ∙ go k (suc i) (omega arith))
 
-pub map-step : (l w : List ℕ) (s q range i : ℕ) → w ≡ sets l q (table (λ j. node MAPPED (drop s l) (getD l (range + j) 0)) 0 i) → q + i ≤ s → range + i < q
-    → (getD w (range + i) 0 ≡ getD l (range + i) 0)
-    × (set w (q + i) (getD w (s + 16 * getD w (range + i) 0) 0) ≡ sets l q (table (λ j. node MAPPED (drop s l) (getD l (range + j) 0)) 0 (i + 1)))
-map-step l w s q range i e h b =
-    let f : ℕ → ℕ = λ j. node MAPPED (drop s l) (getD l (range + j) 0) in
-    let g : getD w (range + i) 0 ≡ getD l (range + i) 0 = ap (λ v. getD v (range + i) 0) e ∙ getD-sets-before (table f 0 i) l q (range + i) b in
-    let z : s + 16 * getD l (range + i) 0 ≡ s + 16 * getD l (range + i) 0 + 0 = omega arith in (
-      g,
-      ap₂ (λ v j. set v (q + i) (getD v (s + 16 * j) 0)) e g ∙ ap (λ j. set (sets l q (table f 0 i)) (q + i) (getD (sets l q (table f 0 i)) j 0)) z
-          ∙ fill-more f l q i _ (field-after 0 s (getD l (range + i) 0) q (table f 0 i) l (omega (arith, table-length f 0 i))),
-    )
+-- from l to w the numbers of the nodes at the words from `range` on, the first i of them, are written at q
+pub record Mapped (l : List ℕ) (s q range i : ℕ) (w : List ℕ) : Type 0 where
+  pub written : w ≡ sets l q (table (λ j. node MAPPED (drop s l) (getD l (range + j) 0)) 0 i)
+
+module _ {l w : List ℕ} {s q range i : ℕ} (m : Mapped l s q range i w) where
+  abbrev number : ℕ → ℕ
+  number j = node MAPPED (drop s l) (getD l (range + j) 0)
+
+  pub mapped-length : length w ≡ length l
+  mapped-length = fill-length l q (table number 0 i) (m .written)
+
+  -- the next node still stands where it stood
+  mapped-next : range + i < q → getD w (range + i) 0 ≡ getD l (range + i) 0
+  mapped-next b = ap (λ v. getD v (range + i) 0) (m .written) ∙ getD-sets-before (table number 0 i) l q (range + i) b
+
+  pub mapped-low : (n : ℕ) → range + i < q → getD l (range + i) 0 < n → getD w (range + i) 0 < n
+  mapped-low n b h = omega (arith, mapped-next b)
+
+  pub mapped-more : q + i ≤ s → range + i < q → Mapped l s q range (i + 1) (set w (q + i) (getD w (s + 16 * getD w (range + i) 0 + MAPPED) 0))
+  mapped-more h b = record {
+    written = ap₂ (λ v j. set v (q + i) (getD v (s + 16 * j + MAPPED) 0)) (m .written) (mapped-next b)
+        ∙ fill-more number l q i _ (field-after MAPPED s (getD l (range + i) 0) q (table number 0 i) l (omega (arith, table-length number 0 i)));
+  }
 
 pub map-ext : (f g : ℕ → ℕ) (xs : List ℕ) → ((x : ℕ) → List·Memᴰ x xs → f x ≡ g x) → map f xs ≡ map g xs
 map-ext f g [] h = refl

@@ -19,7 +19,7 @@ pub(crate) fn put_map(work: &mut [u32], from: usize, count: usize, s: usize, q: 
     // The first i numbers are written; before and behind them nothing has changed.
     while i < count {
         let v = work[from + i] as usize;
-        let x = work[s + 16 * v];
+        let x = work[s + 16 * v + core_words::MAPPED];
         work[q + i] = x;
         i += 1;
     }
