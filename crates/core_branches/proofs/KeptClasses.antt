@@ -1,6 +1,5 @@
 -- Kept classes by witnesses: a class without an active node is kept just where it has two branches; the nearest kept class at or above a class; and kept
--- classes
--- with numbers, each with the nearest above, are a small forest. Over a spanning forest with tops (theory_graph/proofs/SpanningForest).
+-- classes with numbers, each with the nearest above, are a small forest. Over a spanning forest with tops (theory_graph/proofs/SpanningForest).
 -- Assumes nothing.
 use Prim.Native.Nat.{_+_, _-_, _<_, _≤_, suc, zero, ℕ}
 use mathlib.Core.Bool.{false, true}

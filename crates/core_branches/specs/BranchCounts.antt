@@ -1,6 +1,5 @@
 -- The branches of a class: the classes right below it that have an active node at or below them. Witnesses in place of a count: `live` is one more than an
--- active node
--- at or below the class, `child` one more than the last branch reported, `other` one more than one reported before; 0 stands for none.
+-- active node at or below the class, `child` one more than the last branch reported, `other` one more than one reported before; 0 stands for none.
 -- Assumes nothing: these are definitions.
 use Prim.Native.Nat.{_*_, _+_, _-_, _<_, _≤_, ℕ}
 use mathlib.Core.Bool.{Bool, true}

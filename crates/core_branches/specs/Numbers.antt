@@ -1,7 +1,6 @@
 -- The loops that number the kept classes and find the nearest kept class above each. Functions: `nr` of a top is one more than the number of its class (0
--- for none),
--- `rep` of a number a node of its class, `near` of a top one more than the number of the nearest kept class at or above, `up` of a number that of the
--- nearest above.
+-- for none), `rep` of a number a node of its class, `near` of a top one more than the number of the nearest kept class at or above, `up` of a number that
+-- of the nearest above.
 -- Assumes nothing: these are definitions.
 use Prim.Native.Nat.{_*_, _+_, _-_, _<_, _≤_, ℕ}
 use mathlib.Core.List.{List, [], _∷_}

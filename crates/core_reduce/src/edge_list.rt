@@ -1,6 +1,6 @@
 // The edges between each number and its parent number, written in ascending order without a sort: each number is put into the list of its parent where that
-// is smaller,
-// from the last number down, so that each list ascends; then for each number its list is written, with its own parent merged in where that is larger.
+// is smaller, from the last number down, so that each list ascends; then for each number its list is written, with its own parent merged in where that is
+// larger.
 use core_words::*;
 ghost use Prim.Native.Nat.{_+_, _-_, _*_, _<_, _≤_};
 ghost use lib.ListN.{length};

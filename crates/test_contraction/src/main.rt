@@ -1,6 +1,5 @@
 // Runs contract on vectors, which it reads; on random graphs against a slow contraction; and at the limits: the full sizes, sizes of one more, tables of
-// one entry less, and
-// the order of the refusals. Prints counts and replies.
+// one entry less, and the order of the refusals. Prints counts and replies.
 mod calls;
 mod limits;
 mod vectors;

@@ -10,7 +10,7 @@ pub type Reply = [usize; 8];
 // Tables are longer than they have to be.
 pub const LONGER: usize = 9;
 
-// The length of a table that is lent: the least; one less where it is the table that is short; three more where all are longer.
+// Internal: the length of a table that is lent: the least; one less where it is the table that is short; three more where all are longer.
 pub fn length(least: usize, table: usize, short: usize) -> usize
     ensures { λ r. ⌜ r ≤ least + 3 ⌝ }
 {
@@ -20,7 +20,7 @@ pub fn length(least: usize, table: usize, short: usize) -> usize
     counts::minus(least, (table == short) as usize)
 }
 
-// How many numbers of two replies differ.
+// Internal: how many numbers of two replies differ.
 pub fn differ(r: Reply, want: Reply) -> usize {
     let mut count: usize = 0;
     for i in 0..8 {
@@ -29,7 +29,7 @@ pub fn differ(r: Reply, want: Reply) -> usize {
     count
 }
 
-// The number by which a call is refused, or 99 where it is refused and changed an entry.
+// Internal: the number by which a call is refused, or 99 where it is refused and changed an entry.
 pub fn code(r: Reply) -> usize {
     if (r[0] > 0) & (counts::plus(r[5], counts::plus(r[6], r[7])) > 0) {
         return 99;
@@ -37,7 +37,7 @@ pub fn code(r: Reply) -> usize {
     r[0]
 }
 
-// How many entries a call writes that would write so many, where it is not refused.
+// Internal: how many entries a call writes that would write so many, where it is not refused.
 pub fn written(r: Reply, count: usize) -> usize {
     if r[0] > 0 {
         return 0;
@@ -53,7 +53,7 @@ fn wanted(want: &List, table: usize, count: usize, i: usize) -> usize {
     7
 }
 
-// How many bytes are wrong of all that were lent, where the first count are to be as wanted and the others as before.
+// Internal: how many bytes are wrong of all that were lent, where the first count are to be as wanted and the others as before.
 pub fn bytes_wrong(t: &[u8], want: &List, table: usize, count: usize, all: usize) -> usize {
     let n = counts::least(all, t.len());
     let mut wrong: usize = 0;
@@ -63,7 +63,7 @@ pub fn bytes_wrong(t: &[u8], want: &List, table: usize, count: usize, all: usize
     wrong
 }
 
-// The same of entries.
+// Internal: the same of entries.
 pub fn entries_wrong(t: &[u16], want: &List, table: usize, count: usize, all: usize) -> usize {
     let n = counts::least(all, t.len());
     let mut wrong: usize = 0;
@@ -81,7 +81,7 @@ fn wanted_word(count: usize, i: usize) -> u32 {
     7
 }
 
-// How many words are wrong of all that were lent, where the first count are to be 0 and the others as before.
+// Internal: how many words are wrong of all that were lent, where the first count are to be 0 and the others as before.
 pub fn words_wrong(w: &[u32], count: usize, all: usize) -> usize {
     let n = counts::least(all, w.len());
     let mut wrong: usize = 0;

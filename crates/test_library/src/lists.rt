@@ -1,6 +1,5 @@
 // A network with its events, or with its active entries: four tables of 8192 entries, then four sizes. A has the segments' first ends, B their second ends,
-// X and Y the
-// events. The sizes stand under the same names: N, M, T and the share. Of a contraction X has the active entries and K, and Y nothing.
+// X and Y the events. The sizes stand under the same names: N, M, T and the share. Of a contraction X has the active entries and K, and Y nothing.
 use crate::counts;
 
 pub type List = [u16; 32776];
@@ -13,15 +12,17 @@ pub const X: usize = 2;
 
 pub const Y: usize = 3;
 
+// Internal: entry i of a table.
 pub fn at(l: &List, table: usize, i: usize) -> usize {
     counts::entry(l[table % 4 * 8192 + i % 8192])
 }
 
+// Internal: sets entry i of a table.
 pub fn set(l: &mut List, table: usize, i: usize, v: usize) {
     l[table % 4 * 8192 + i % 8192] = (v % 65536) as u16;
 }
 
-// The size that stands under this name.
+// Internal: the size that stands under this name.
 pub fn size(l: &List, table: usize) -> usize {
     counts::entry(l[32768 + table % 4])
 }
@@ -30,6 +31,7 @@ fn set_size(l: &mut List, table: usize, v: usize) {
     l[32768 + table % 4] = (v % 65536) as u16;
 }
 
+// Internal: sets the four sizes.
 pub fn set_sizes(l: &mut List, n: usize, m: usize, t: usize, p: usize) {
     set_size(l, A, n);
     set_size(l, B, m);

@@ -4,14 +4,14 @@ use crate::tables;
 use crate::tables::Table;
 use libc::STDOUT_FILENO;
 
-// Adds a row to the counts.
+// Internal: adds a row to the counts.
 pub fn add(numbers: &mut Table, row: [usize; 16]) {
     for i in 0..16 {
         tables::put(numbers, i, counts::plus(tables::get(numbers, i), row[i]));
     }
 }
 
-// Writes the text with the counts, in their order, in place of each #.
+// Internal: writes the text with the counts, in their order, in place of each #.
 pub fn report(text: &[u8], numbers: &Table) {
     let n = text.len();
     let mut next: usize = 0;

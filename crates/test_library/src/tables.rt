@@ -7,19 +7,22 @@ pub type Table = [u32; 512];
 // A mark for each segment, or for each junction.
 pub type Marks = [bool; 8192];
 
+// Internal: number i.
 pub fn get(t: &Table, i: usize) -> usize {
     counts::word(t[i % 512])
 }
 
+// Internal: sets number i.
 pub fn put(t: &mut Table, i: usize, v: usize) {
     t[i % 512] = (v % 4294967296) as u32;
 }
 
+// Internal: whether i is marked.
 pub fn marked(t: &Marks, i: usize) -> bool {
     t[i % 8192]
 }
 
-// How many marks are set.
+// Internal: how many marks are set.
 pub fn ones(t: &Marks) -> usize {
     let mut count: usize = 0;
     for i in 0..8192 {
@@ -28,6 +31,7 @@ pub fn ones(t: &Marks) -> usize {
     count
 }
 
+// Internal: marks i, or takes its mark away.
 pub fn mark(t: &mut Marks, i: usize, to: bool) {
     t[i % 8192] = to;
 }

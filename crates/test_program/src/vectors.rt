@@ -1,7 +1,6 @@
 // Inputs of the program and what it must print, made by a slow program before any code of the product; they stand on standard input. A vector is a line:
-// the input's bytes
-// in base 16, then = and the output, then ; at its end. In the output _ stands for a space and / for a line end. An input that ends with + goes on with
-// zeros up
+// the input's bytes in base 16, then = and the output, then ; at its end. In the output _ stands for a space and / for a line end. An input that ends with
+// + goes on with zeros up
 // to 5028 bytes.
 use crate::outputs;
 use crate::outputs::Input;

@@ -53,7 +53,7 @@ fn spoil(l: &mut List, s: usize) {
     }
 }
 
-// The random graph s, of each kind in turn, and every ninth with a fault.
+// Internal: the random graph s, of each kind in turn, and every ninth with a fault.
 pub fn make(l: &mut List, s: usize) {
     let kind = s % 8;
     let n = nodes(kind, s);
@@ -64,7 +64,7 @@ pub fn make(l: &mut List, s: usize) {
     }
 }
 
-// The path of n nodes with m edges and k active entries: each node in turn is active.
+// Internal: the path of n nodes with m edges and k active entries: each node in turn is active.
 pub fn path(l: &mut List, n: usize, m: usize, k: usize) {
     lists::set_sizes(l, n, m, k, 0);
     fill(l, networks::PATH, 0);

@@ -123,7 +123,7 @@ fn spoil(l: &mut List, s: usize) {
     }
 }
 
-// The list s of at most 8 junctions, 12 segments and 12 events, of each kind in turn, and every third with a fault.
+// Internal: the list s of at most 8 junctions, 12 segments and 12 events, of each kind in turn, and every third with a fault.
 pub fn small(l: &mut List, s: usize) {
     sized(l, s / 3 % 9, s, random::at(s, 7, 0, 9), 13, 12);
     if s % 3 == 2 {
@@ -131,7 +131,7 @@ pub fn small(l: &mut List, s: usize) {
     }
 }
 
-// The list s of 16, 64 or 256 junctions, and at most 512 segments and 512 events, of each kind in turn.
+// Internal: the list s of 16, 64 or 256 junctions, and at most 512 segments and 512 events, of each kind in turn.
 pub fn large(l: &mut List, s: usize) {
     let n = match s / 9 {
         0 => 16,
@@ -141,13 +141,13 @@ pub fn large(l: &mut List, s: usize) {
     sized(l, s % 32 * 5 % 9, s, n, 513, 512);
 }
 
-// A list of the full sizes on a ring of so many places.
+// Internal: a list of the full sizes on a ring of so many places.
 pub fn ring(l: &mut List, places: usize, p: usize) {
     lists::set_sizes(l, 4096, 8192, 4096, p);
     fill(l, 1, 0, places);
 }
 
-// The path 0-1-2 with loops for the segments that are left, where all entries of X and Y are 1.
+// Internal: the path 0-1-2 with loops for the segments that are left, where all entries of X and Y are 1.
 pub fn path(l: &mut List, n: usize, m: usize, t: usize, p: usize) {
     lists::set_sizes(l, n, m, t, p);
     networks::make(l, networks::PATH, 0, 3);

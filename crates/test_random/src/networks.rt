@@ -5,10 +5,7 @@ use test_library::lists::List;
 use test_library::random;
 
 // A path, with loops at its last node for the edges that are left.
-pub const PATH: usize = 9;
-
-// Three centres in a row, with leaves.
-pub const ROW: usize = 5;
+pub(crate) const PATH: usize = 9;
 
 // The end of a tree's edge: edge i joins node i + 1 to a smaller one.
 fn tree_end(s: usize, i: usize, side: usize) -> usize {
@@ -30,9 +27,8 @@ fn centre_end(s: usize, i: usize, side: usize, row: usize) -> usize {
 }
 
 // One end of edge e over the nodes below n. The kinds: any edges; a ring; a ring with each edge twice; a tree; a tree with each edge twice; three centres
-// in a row and
-// in a ring, with leaves; edges within the even nodes and within the odd ones; a ring with a loop at each node; a path.
-pub fn end(kind: usize, s: usize, n: usize, e: usize, side: usize) -> usize {
+// in a row and in a ring, with leaves; edges within the even nodes and within the odd ones; a ring with a loop at each node; a path.
+pub(crate) fn end(kind: usize, s: usize, n: usize, e: usize, side: usize) -> usize {
     let i = e % 8192;
     let far = side % 2;
     let v = match kind {
@@ -51,7 +47,7 @@ pub fn end(kind: usize, s: usize, n: usize, e: usize, side: usize) -> usize {
 }
 
 // Makes the segments of a list of this kind, over the first places junctions.
-pub fn make(l: &mut List, kind: usize, s: usize, places: usize) {
+pub(crate) fn make(l: &mut List, kind: usize, s: usize, places: usize) {
     let m = lists::size(l, lists::B);
     for e in 0..m {
         lists::set(l, lists::A, e, end(kind, s, places, e, 0));
@@ -60,7 +56,7 @@ pub fn make(l: &mut List, kind: usize, s: usize, places: usize) {
 }
 
 // Puts an end that is no junction.
-pub fn spoil(l: &mut List, s: usize) {
+pub(crate) fn spoil(l: &mut List, s: usize) {
     let v = lists::size(l, lists::A) % 8192 + random::at(s, 11, 0, 3) % 3;
     lists::set(l, random::at(s, 12, 0, 2), random::at(s, 13, 0, 12), v);
 }

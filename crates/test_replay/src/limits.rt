@@ -10,8 +10,7 @@ use test_library::tables::Table;
 use test_random::lists as random_lists;
 
 // N, M, T, the share, the table that is short, and the numbers that vary in a list on the path 0-1-2, with loops for the segments that are left: the end at
-// which segment 1
-// begins, and X of the first two events. Each Y is 1, and the other events ask for junction 1 with itself.
+// which segment 1 begins, and X of the first two events. Each Y is 1, and the other events ask for junction 1 with itself.
 type Case = [usize; 8];
 
 fn reply(c: Case, work: &mut Work) -> Reply {
@@ -25,8 +24,7 @@ fn reply(c: Case, work: &mut Work) -> Reply {
 }
 
 // The cases in the order of the report. Sizes are refused before lengths, lengths before the share, the share before ends, ends before events: the last
-// five have all these
-// faults, all but the first, and so on.
+// five have all these faults, all but the first, and so on.
 fn case(i: usize) -> Case {
     match i {
         0 => [4096, 8192, 4096, 8, 0, 1, 0, 0],

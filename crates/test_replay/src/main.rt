@@ -1,6 +1,5 @@
 // Runs replay on random lists, small and of some hundred events, against a slow replay; on lists of the full sizes on rings, where it shows too that the
-// comparison notices a
-// fault; and at the limits. Prints counts and replies.
+// comparison notices a fault; and at the limits. Prints counts and replies.
 mod calls;
 mod limits;
 
@@ -32,8 +31,7 @@ fn noticed(answers: &Bytes, want: &mut List, s: usize, planted: usize) -> usize 
 }
 
 // Counts a list: all, those with the most events, those on which the call and the slow replay disagree, faults that are planted and noticed, answers and
-// kept of those that are
-// accepted; and at 10 those that are accepted, and behind it those that are refused, by their number.
+// kept of those that are accepted; and at 10 those that are accepted, and behind it those that are refused, by their number.
 fn add(
     t: &mut Table,
     w: Reply,

@@ -8,7 +8,7 @@ use test_library::tables;
 use test_library::tables::Marks;
 use test_library::tables::Table;
 
-// The first edge with an end that is no node, or m.
+// Internal: the first edge with an end that is no node, or m.
 pub fn bad_edge(l: &List) -> usize {
     let n = lists::size(l, lists::A);
     let m = lists::size(l, lists::B);
@@ -154,7 +154,7 @@ fn small(r: &mut List, l: &List) -> Reply {
     [0, 0, nodes, edges, counts::minus(nodes, some), 0, 0, 0]
 }
 
-// The contraction, or the refusal by 4 or 8.
+// Internal: the contraction, or the refusal by 4 or 8.
 pub fn reply(r: &mut List, l: &List) -> Reply {
     let e = bad_edge(l);
     if e < lists::size(l, lists::B) {

@@ -20,7 +20,7 @@ fn top(p: &Table, v: usize) -> usize {
 }
 
 // Whether u and v are in one piece.
-pub fn together(p: &Table, u: usize, v: usize) -> bool {
+pub(crate) fn together(p: &Table, u: usize, v: usize) -> bool {
     top(p, u) == top(p, v)
 }
 
@@ -47,7 +47,7 @@ fn is_left(l: &List, open: &Marks, removed: usize, t: &Table, z: usize, e: usize
 }
 
 // The pieces of what is left, where each node was alone before.
-pub fn pieces(p: &mut Table, l: &List, open: &Marks, removed: usize, t: &Table, z: usize) {
+pub(crate) fn pieces(p: &mut Table, l: &List, open: &Marks, removed: usize, t: &Table, z: usize) {
     let m = lists::size(l, lists::B);
     for e in 0..m {
         if is_left(l, open, removed, t, z, e) {
@@ -68,7 +68,7 @@ fn joined(l: &List, open: &Marks, removed: usize, u: usize, v: usize) -> bool {
     together(&p, u, v)
 }
 
-// The answer to a query of u and v.
+// Internal: the answer to a query of u and v.
 pub fn answer(l: &List, open: &Marks, u: usize, v: usize) -> usize {
     let m = lists::size(l, lists::B);
     if !joined(l, open, m, u, v) {
@@ -127,7 +127,7 @@ fn part_along(c: &mut Table, p: &mut Table, l: &List, open: &Marks, e: usize) {
 
 // The classes: for each node the smallest that it is joined to, also after the removal of each single edge; and the pieces. All were one class before, and
 // each alone in p.
-pub fn classes(c: &mut Table, p: &mut Table, l: &List, open: &Marks) {
+pub(crate) fn classes(c: &mut Table, p: &mut Table, l: &List, open: &Marks) {
     let m = lists::size(l, lists::B);
     part_without(c, l, open, m);
     for e in 0..m {
@@ -138,7 +138,7 @@ pub fn classes(c: &mut Table, p: &mut Table, l: &List, open: &Marks) {
 }
 
 // Marks the classes with an active node.
-pub fn mark_held(held: &mut Table, l: &List, c: &Table, active: &Marks) {
+pub(crate) fn mark_held(held: &mut Table, l: &List, c: &Table, active: &Marks) {
     let n = lists::size(l, lists::A);
     for v in 0..n {
         if tables::marked(active, v) {
@@ -175,7 +175,7 @@ fn parts(l: &List, open: &Marks, c: &Table, p: &Table, active: &Marks, z: usize)
 }
 
 // Whether z is the smallest node of a kept class.
-pub fn is_kept(
+pub(crate) fn is_kept(
     l: &List,
     open: &Marks,
     c: &Table,
@@ -202,7 +202,7 @@ fn count_kept(l: &List, open: &Marks, c: &Table, p: &Table, active: &Marks, held
     count
 }
 
-// How many classes are kept.
+// Internal: how many classes are kept.
 pub fn kept(l: &List, open: &Marks, active: &Marks) -> usize {
     let mut c = [0u32; 512];
     let mut p = [0u32; 512];

@@ -1,6 +1,5 @@
 // The slow replay. Where places is not 0, the network is a ring of that many places, and walking round tells the answers and the nodes; else the open
-// segments are removed
-// in turn. Answers stand in A of a list.
+// segments are removed in turn. Answers stand in A of a list.
 use crate::rings;
 use test_library::calls::Reply;
 use test_library::counts;
@@ -112,7 +111,7 @@ fn answers(r: &mut List, l: &List, places: usize) {
     }
 }
 
-// How many of the answers have this value.
+// Internal: how many of the answers have this value.
 pub fn tally(r: &List, t: usize, value: usize) -> usize {
     let mut count: usize = 0;
     for i in 0..t {
@@ -192,7 +191,7 @@ fn accepted(r: &mut List, l: &List, open: &Marks, places: usize) -> Reply {
     [0, 0, queries, tables::ones(open), sum, 0, 0, 0]
 }
 
-// The reply to a list, with its answers; or the refusal by 4 to 7.
+// Internal: the reply to a list, with its answers; or the refusal by 4 to 7.
 pub fn reply(r: &mut List, l: &List, places: usize) -> Reply {
     let e = contraction::bad_edge(l);
     if e < lists::size(l, lists::B) {

@@ -1,7 +1,6 @@
 // Rings: the first junctions are the places of a ring, and segment e goes from place e to the next, counted round. An answer is told by walking both ways
-// round: each way
-// gives as many routes without a common segment as its weakest place has open copies. The classes of a ring lie in a row, so that no class without an
-// active junction
+// round: each way gives as many routes without a common segment as its weakest place has open copies. The classes of a ring lie in a row, so that no class
+// without an active junction
 // is kept. Where each place has an open copy to the next, the ring is one class; else a class ends at each place with at most one.
 use test_library::counts;
 use test_library::lists;

@@ -1,6 +1,5 @@
 -- Active lists: the numbers of a list in order of first appearance, one entry at a time; and a list with repeats has the small graphs of the list of its
--- different
--- entries, in order of first appearance.
+-- different entries, in order of first appearance.
 -- Assumes nothing.
 use Prim.Native.Nat.{_<_, _≤_, suc, ℕ}
 use mathlib.Core.Bool.{Bool, _&&_, false, not, or-true, true}

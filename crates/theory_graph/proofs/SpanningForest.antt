@@ -1,7 +1,6 @@
 -- A spanning forest with the tops of its 2-edge-connected classes (docs/theory.md 10): which classes are kept, and which are linked, told from the forest.
 -- In order: a cut of one edge and what it parts; the record of a forest with tops; ways up and the sets below a node; two branches with an active node make
--- a class
--- kept, and a kept class without an active node has two; a kept class is linked to the nearest kept class above it, and these are all links.
+-- a class kept, and a kept class without an active node has two; a kept class is linked to the nearest kept class above it, and these are all links.
 -- Assumes nothing.
 use Prim.Native.Nat.{_<_, _≤_, suc, zero, ℕ}
 use mathlib.Core.Bool.{_&&_, false, not, true}
@@ -32,8 +31,7 @@ between-branch E D t p a z b n c Dt Dp pz az bz Da Db (U, Uz, Ua, Ub, h) =
     omega (arith, induced-split W D E, adj-out W D n Wp, ap₂ crosses Dt Dp, cut-complement U E)
 
 -- The nodes that a search from the active nodes has seen. A node that is no root has a parent, seen before it, by an edge; top v is the first node of v's
--- class,
--- and at most one edge leaves the nodes below a top, none those below a root.
+-- class, and at most one edge leaves the nodes below a top, none those below a root.
 pub record ClassForest (E : List Edge) (S : List ℕ) : Type 0 where
   pub seen : NodeSet
   pub root : NodeSet

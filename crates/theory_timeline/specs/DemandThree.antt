@@ -1,7 +1,7 @@
 -- Demand 3: one statement about two replays, with its parts (a) to (e). Its proof is proofs/DemandThree.
 -- It cites, of Replay: Lent, given, Outcome, replay; of Call: outcome; of Windows: windows, network, active, small, stands; of the crate theory_graph:
--- answer, the answer of two nodes,
--- image, the edges of a list with their ends moved, different, the number of different entries, and mostNodes, the bound 2k - 2 (k where k is below 2).
+-- answer, the answer of two nodes, image, the edges of a list with their ends moved, different, the number of different entries, and mostNodes, the bound
+-- 2k - 2 (k where k is below 2).
 -- Assumes nothing: these are definitions.
 use Prim.Native.Nat.{_≤_, ℕ}
 use mathlib.Core.List.{List, List·Memᴰ, _++_, map}

@@ -1,6 +1,5 @@
 -- What a step reads of an event, in three words: its tag, and which events behind and before it name the same key. With them the segments that a part adds
--- are told event by event,
--- and neither the tables of the events nor a set of open segments goes down the windows.
+-- are told event by event, and neither the tables of the events nor a set of open segments goes down the windows.
 -- A key is what opens and closes as one: here a segment.
 -- Assumes nothing: these are definitions.
 use Prim.Native.Nat.{_%_, _*_, _+_, _-_, _/_, suc, zero, ℕ}
@@ -61,8 +60,7 @@ abbrev pub isOpenAfter : ℕ → Bool
 isOpenAfter t = eqb ((t - 1) % 2) 1
 
 -- Event i of the window w, beside its part c, adds its key by its words t, x and y: before the part where the next event of the key lies behind the part
--- and the key is open after it,
--- behind the part where the last event of the key lies before the window and the key is open before it.
+-- and the key is open after it, behind the part where the last event of the key lies before the window and the key is open before it.
 unfoldable pub adds : Window → Window → ℕ → ℕ → ℕ → ℕ → Bool
 adds w c i t x y = ltb 0 t && cond (ltb i (c .0)) (leb (c .0 + c .1) x && isOpenAfter t) (leb y (w .0) && wasOpen t)
 
