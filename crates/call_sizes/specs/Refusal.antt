@@ -42,3 +42,7 @@ seek f i (suc k) = cond (f i) i (seek f (i + 1) k)
 -- refusal 4: segment or edge s has an end not below n
 abbrev pub badEnds : ℕ → List ℕ → List ℕ → ℕ → Bool
 badEnds n from to s = leb n (getD from s 0) || leb n (getD to s 0)
+
+-- refusal 11 (document 02, No. 1): the starting entry of segment s is above 1
+abbrev pub badStart : List ℕ → ℕ → Bool
+badStart start s = ltb 1 (getD start s 0)

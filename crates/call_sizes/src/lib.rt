@@ -1,9 +1,9 @@
 // The sizes of a replay or a contraction, with their limits and their check; and what refusals share: a fault with its place, the lengths of tables, the
-// search for a bad end.
+// search for a bad end and for a bad starting entry.
 ghost use mathlib.Core.Path.{_≡_};
 ghost use Prim.Native.Nat.{_≤_};
 ghost use lib.ListN.{length};
-ghost use Rattle.call_sizes.specs.Refusal.{badEnds, byTwo, firstFault, seek, shortRows};
+ghost use Rattle.call_sizes.specs.Refusal.{badEnds, badStart, byTwo, firstFault, seek, shortRows};
 ghost use Rattle.call_sizes.specs.Sizes.{sizesOutcome, checkSizes, sizeFaults};
 
 // The sizes of a replay (n junctions, m segments, t events) or of a contraction (n nodes, m edges, k active entries), within the limits.
@@ -101,6 +101,22 @@ pub fn first_bad_ends(n: usize, m: usize, from: &[u16], to: &[u16]) -> usize
             return s;
         }
         if n <= to[s] as usize {
+            return s;
+        }
+        s += 1;
+    }
+    s
+}
+
+// Internal: refusal 11: the first segment whose starting entry is above 1, or m.
+pub fn first_bad_start(m: usize, start: &[u16]) -> usize
+    requires { ⌜ m ≤ length (now start) ⌝ }
+    ensures { λ r. ⌜ r ≡ seek (badStart (now (start .entry))) 0 m ⌝ }
+{
+    let mut s: usize = 0;
+    // No segment before s has such an entry.
+    while s < m {
+        if start[s] > 1 {
             return s;
         }
         s += 1;

@@ -1,4 +1,5 @@
--- What acceptance gives: sizes within the limits, tables long enough, an allowed share, ends and active junctions below N, and events without a fault.
+-- What acceptance gives: sizes within the limits, tables long enough, an allowed share, ends and active junctions below N, starting entries
+-- of 0 or 1, and events without a fault.
 -- In order: an event without a fault; parallel arrays as pairs; a list whose ends and active junctions are below N; an accepted replay; shares and acceptance.
 -- Assumes nothing.
 use Prim.Native.Nat.{_<_, _≤_, suc, zero, ℕ}
@@ -17,7 +18,7 @@ use Rattle.theory_graph.specs.Lists.{pairs}
 use Rattle.theory_graph.specs.SmallGraph.{endsIn}
 use Rattle.call_sizes.proofs.RefusalLaws.{Numbered, Silent, fault-silent, numbered-append, seek-found, seek-none}
 use Rattle.call_sizes.proofs.RefusalLaws.{short-long, short-numbered, silent-left, silent-right, sizes-numbered, skip-silent}
-use Rattle.call_sizes.specs.Refusal.{Refusal, Row, firstFault, badEnds}
+use Rattle.call_sizes.specs.Refusal.{Refusal, Row, firstFault, badEnds, badStart}
 use Rattle.call_sizes.specs.Sizes.{sizeFaults}
 use Rattle.theory_timeline.specs.DemandThree.{Allowed}
 use Rattle.theory_timeline.specs.Events.{Event, SegmentSet, activeOf, asks, closes, ends, opens, pick}
@@ -183,17 +184,19 @@ pub record Accepted (l : Lent) (p : ℕ) : Type 0 where
   pub t-fits : l .t ≤ 4096
   pub a-long : l .m ≤ length (l .a)
   pub b-long : l .m ≤ length (l .b)
+  pub start-long : l .m ≤ length (l .start)
   pub x-long : l .t ≤ length (l .x)
   pub y-long : l .t ≤ length (l .y)
   pub answers-long : l .t ≤ length (l .answers)
-  pub work-long : required (l .t) (l .n) ≤ length (l .work)
+  pub work-long : required (l .t) (l .n) (l .m) ≤ length (l .work)
   pub share : Allowed p
   pub ends-fit : (s : ℕ) → s < l .m → badEnds (l .n) (l .a) (l .b) s ≡ false
+  pub start-fits : (s : ℕ) → s < l .m → getD (l .start) s 0 ≤ 1
   pub events-fine : (i : ℕ) → i < l .t → faultAt l i ≡ 0
 
 list-numbered : (l : Lent) → Numbered (listFaults l)
 unfolding listFaults
-list-numbered l = (λ h. omega arith, (λ h. positive (seek-found (λ i. not (eqb (faultAt l i) 0)) 0 (l .t) (omega (arith, ltb-true _ (l .t) h))), tt))
+list-numbered l = (λ h. omega arith, (λ h. omega arith, (λ h. positive (seek-found (λ i. not (eqb (faultAt l i) 0)) 0 (l .t) (omega (arith, ltb-true _ (l .t) h))), tt)))
   where
     positive : {x : ℕ} → not (eqb x 0) ≡ true → 0 < x
     positive {x} h = let n : ¬ (x ≡ 0) = eqb-false x 0 (not-true (eqb x 0) h) in omega arith
@@ -211,7 +214,7 @@ accepted-from l p h =
     let s = fault-silent (faults l p) (faults-numbered l p) h in
     let a = silent-left (sizeFaults (l .n) (l .m) (l .t) 0) (shortTables l ++ shareFaults p ++ listFaults l) s in
     let r = silent-right (sizeFaults (l .n) (l .m) (l .t) 0) (shortTables l ++ shareFaults p ++ listFaults l) s in
-    let (la, (lb, (lx, (ly, (lr, (lw, _)))))) = short-long (tableLengths l) .0 (silent-left (shortTables l) (shareFaults p ++ listFaults l) r) in
+    let (la, (lb, (ls, (lx, (ly, (lr, (lw, _))))))) = short-long (tableLengths l) .0 (silent-left (shortTables l) (shareFaults p ++ listFaults l) r) in
     let q = silent-right (shortTables l) (shareFaults p ++ listFaults l) r in
     let c = silent-left (shareFaults p) (listFaults l) q in
     let e = silent-right (shareFaults p) (listFaults l) q in
@@ -221,13 +224,15 @@ accepted-from l p h =
       t-fits = ltb-false 4096 (l .t) (a .1 .1 .0);
       a-long = la;
       b-long = lb;
+      start-long = ls;
       x-long = lx;
       y-long = ly;
       answers-long = lr;
       work-long = lw;
       share = (ltb-false p 4 (c .0), ltb-false 12 p (c .1 .0));
       ends-fit = λ s k. seek-none (badEnds (l .n) (l .a) (l .b)) (l .m) s (e .0) k;
-      events-fine = λ i k. eqb-true (faultAt l i) 0 (not-false (eqb (faultAt l i) 0) (seek-none (λ i. not (eqb (faultAt l i) 0)) (l .t) i (e .1 .0) k));
+      start-fits = λ s k. ltb-false 1 (getD (l .start) s 0) (seek-none (badStart (l .start)) (l .m) s (e .1 .0) k);
+      events-fine = λ i k. eqb-true (faultAt l i) 0 (not-false (eqb (faultAt l i) 0) (seek-none (λ i. not (eqb (faultAt l i) 0)) (l .t) i (e .1 .1 .0) k));
     }
 
 module _ (l : Lent) (p : ℕ) (a : Accepted l p) where

@@ -1,4 +1,4 @@
--- One theorem over the table of the cases that document 01 marks P: every row holds, by computing both sides.
+-- One theorem over the table of the cases that document 01 marks P and those of document 02, No. 1: every row holds, by computing both sides.
 -- Assumes nothing.
 use mathlib.Core.Path.{refl}
 use Rattle.theory_graph.specs.Contraction.{contract, kept, keptClasses, linked, number, parts, third, without}
@@ -15,4 +15,4 @@ unfolding rep joined removals twoEdge answer without parts kept third linked kep
     W.during W.network W.active W.small W.stands W.kept R.byte R.bytes R.queries R.openAtEnd R.given R.eventFault R.faultAt R.listFaults R.faults R.fault R.done
     R.refused R.replay P.inputFaults P.inputFault P.inputLent P.spell P.decimal P.queryLine P.queryLines P.totalsLine P.refusedLine P.printed P.outputWith P.output
     C.edges C.entries C.faults C.fault C.done C.refused C.contraction
-cases = (refl, (refl, (refl, (refl, (refl, (refl, (refl, (refl, (refl, (refl, (refl, (refl, (refl, (refl, (refl, tt)))))))))))))))
+cases = (refl, (refl, (refl, (refl, (refl, (refl, (refl, (refl, (refl, (refl, (refl, (refl, (refl, (refl, (refl, (refl, (refl, (refl, (refl, (refl, (refl, (refl, tt))))))))))))))))))))))

@@ -26,7 +26,7 @@ use Rattle.theory_timeline.proofs.Acceptance.{Accepted, Good, accepted-
 use Rattle.theory_timeline.specs.DemandThree.{Alike, Allowed, Among, Demand-3, Demand-3-of-calls, Demand3, Faithful, outcomeOf}
 use Rattle.theory_timeline.specs.Events.{networkOf}
 use Rattle.theory_timeline.specs.Replay.{Lent, Outcome, bytes, done, fault, given, openAtEnd, queries, refused, replay}
-use Rattle.theory_timeline.specs.Windows.{Timeline, Window, active, kept, network, size, small, stands, windows}
+use Rattle.theory_timeline.specs.Windows.{Timeline, Window, active, atStart, kept, network, size, small, stands, windows}
 
 -- ---- one window
 within-among : (S : List ℕ) (F : List Edge) → Among S F → endsIn (member S) F ≡ true
@@ -97,7 +97,7 @@ answers-first l p a = take-at (bytes (given l)) (drop (length (bytes (given l)))
 
 alike-given : (l k : Lent) → Alike l k → given l ≡ given k
 unfolding given
-alike-given l k h = λ i. record { junctions = h .n i; segments = pairs (h .a i) (h .b i); events = pairs (h .x i) (h .y i) }
+alike-given l k h = λ i. record { junctions = h .n i; segments = pairs (h .a i) (h .b i); start = atStart (h .start i); events = pairs (h .x i) (h .y i) }
 
 code-done : (l : Lent) (p : ℕ) → (done l p) .code ≡ 0
 unfolding done

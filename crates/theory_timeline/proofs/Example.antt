@@ -25,6 +25,7 @@ triangle = record {
   t = 5;
   a = 0 ∷ 1 ∷ 2 ∷ [];
   b = 1 ∷ 2 ∷ 0 ∷ [];
+  start = 0 ∷ 0 ∷ 0 ∷ [];
   x = 65535 ∷ 65535 ∷ 0 ∷ 65535 ∷ 0 ∷ [];
   y = 0 ∷ 1 ∷ 2 ∷ 2 ∷ 2 ∷ [];
   answers = replicate 5 9;
@@ -68,7 +69,7 @@ eight = record {
   lends = triangle;
   reply = Done (record { queries = 2; «open» = 3; kept = 19 });
   answers = 3 ∷ 3 ∷ 1 ∷ 3 ∷ 2 ∷ [];
-  work = over (replicate 3424 0) (replicate 4096 7);
+  work = over (replicate 3448 0) (replicate 4096 7);
 }
 
 abbrev twelve : Call
@@ -77,7 +78,7 @@ twelve = record {
   lends = triangle;
   reply = Done (record { queries = 2; «open» = 3; kept = 20 });
   answers = 3 ∷ 3 ∷ 1 ∷ 3 ∷ 2 ∷ [];
-  work = over (replicate 3424 0) (replicate 4096 7);
+  work = over (replicate 3448 0) (replicate 4096 7);
 }
 
 eight-promised : Promised eight

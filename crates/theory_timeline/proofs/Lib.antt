@@ -5,6 +5,8 @@ pub mod Acceptance
 pub mod TagLaws
 pub mod DemandThree
 pub mod Steps
+pub mod EmptyList
+pub mod ProgramLaws
 pub mod Leaves
 pub mod Cases
 pub mod Example

@@ -8,7 +8,7 @@ use mathlib.Core.List.{List, List·Memᴰ, [], _++_, _∷_, map}
 use mathlib.Core.Logic.{_⊎_, inl, inr}
 use mathlib.Core.Path.{_∙_, _≡_, ap, ap₂, refl, subst, subst₂, sym}
 use lib.ListN.{drop, getD, take, take-append-drop}
-use lib.Seq.{drop-drop, take-add, take-nil, take-take}
+use lib.Seq.{drop-drop, take-add, take-length, take-nil, take-take}
 use native.Mathlib.Omega.{arith}
 use Rattle.theory_graph.proofs.Booleans.{and-elim, contradict, onBool}
 use Rattle.theory_graph.proofs.Composition.{compose}
@@ -89,10 +89,6 @@ pub after-append : (a b : List Event) (o : SegmentSet) → afterAll b (afterAll 
 after-append [] b o = refl
 after-append (e ∷ a) b o = after-append a b (after e o)
 
-pick-none : (i : ℕ) (es : List Edge) → pick (λ s. false) i es ≡ []
-pick-none i [] = refl
-pick-none i (e ∷ es) = pick-none (suc i) es
-
 -- ---- the events before a part, in it, and behind it
 module _ (g : Timeline) (w c : Window) (h : Part w c) where
   abbrev k : ℕ
@@ -131,8 +127,8 @@ module _ (g : Timeline) (w c : Window) (h : Part w c) where
       let b = h .before in
       let f : w .0 + k ≡ c .0 = omega arith in
       let i : k ≤ w .1 = omega arith in
-      after-append (take (w .0) (g .events)) pre (λ s. false)
-      ∙ ap (λ (l : List Event). afterAll l (λ s. false))
+      after-append (take (w .0) (g .events)) pre (g .start)
+      ∙ ap (λ (l : List Event). afterAll l (g .start))
       (ap (λ (l : List Event). take (w .0) (g .events) ++ l) (take-take k (w .1) (drop (w .0) (g .events)) i) ∙ sym (take-add (w .0) k (g .events)) ∙ ap (λ (n : ℕ). take n (g .events)) f)
 
   -- ---- the laws of a part
@@ -162,15 +158,15 @@ module _ (g : Timeline) (w c : Window) (h : Part w c) where
       small-cuts-equal _ _ network-part (active g c) n′ H′ _ _
       (compose (network g w) (active g w) n H ρ σ k (added g w c) added-active (active g c) active-part n′ H′ ρ′ σ′ s)
 
--- nothing is open at the start: the whole list's network is empty
-pub network-start : (g : Timeline) (n : ℕ) → network g (0, n) ≡ []
-unfolding network networkOf openBefore
-network-start g n = pick-none 0 (g .segments)
+-- the whole list's network: the segments that are open at the start and that no event names
+pub network-start : (g : Timeline) → network g (0, size g) ≡ networkOf (g .segments) (g .events) (g .start)
+unfolding network during openBefore
+network-start g = ap (λ (l : List Event). networkOf (g .segments) l (g .start)) (take-length (g .events))
 
 -- ---- down the windows
 pub made-small : {g : Timeline} {w : Window} {n : ℕ} {H : List Edge} {σ : ℕ → ℕ} → Made g w n H σ → (ρ : ℕ → ℕ) × SmallGraph (network g w) (active g w) n H ρ σ
 made-small {g} (top {n = n} {H = H} {σ = σ} ρ s) =
-    (ρ, subst (λ (E : List Edge). SmallGraph E (active g (0, size g)) n H ρ σ) (sym (network-start g (size g))) (definition-small [] (active g (0, size g)) n H ρ σ s))
+    (ρ, definition-small (network g (0, size g)) (active g (0, size g)) n H ρ σ s)
 made-small {g} (down {w = w} {n = n} {H = H} {σ = σ} {c = c} {n′ = n′} {H′ = H′} {σ′ = σ′} m h ρ′ s) =
     let (ρ, t) = made-small m in
     (λ v. ρ (ρ′ v), part-small g w c h n H ρ σ (small-carries (network g w) (active g w) n H ρ σ t) n′ H′ ρ′ σ′ (definition-small _ _ n′ H′ ρ′ σ′ s))

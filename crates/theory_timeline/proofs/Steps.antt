@@ -20,7 +20,7 @@ use Rattle.theory_graph.specs.Graph.{Edge}
 use Rattle.theory_graph.specs.Lists.{member, sum}
 use Rattle.theory_graph.specs.SmallGraph.{Renumbered, different, endsIn, image, mostNodes}
 use Rattle.theory_timeline.proofs.Acceptance.{Good}
-use Rattle.theory_timeline.proofs.DemandThree.{faithful, small-is}
+use Rattle.theory_timeline.proofs.DemandThree.{faithful, network-inside, small-is}
 use Rattle.theory_timeline.proofs.Networks.{active-part, added-active, left-part, made-small, right-part}
 use Rattle.theory_timeline.proofs.WindowLaws.{Win, left, right, whole}
 use Rattle.theory_timeline.specs.DemandThree.{Allowed}
@@ -66,7 +66,13 @@ step g w c h (n, H, σ, m) =
     )
 
 pub made : (g : Timeline) → Good g → (p : ℕ) → Allowed p → {at n : ℕ} → Win p (size g) at n → Some g (at, n)
-made g good p a (whole h) = (_, _, _, top _ (small-definition _ _ _ _ _ _ (contract-small (g .junctions) [] (active g (0, size g)) refl (good .active (0, size g)))))
+made g good p a (whole h) = (
+  _,
+  _,
+  _,
+  top _ (small-definition _ _ _ _ _ _
+      (contract-small (g .junctions) (network g (0, size g)) (active g (0, size g)) (network-inside g good (0, size g)) (good .active (0, size g)))),
+)
 made g good p a (left {at = at} {n = n} W h) = step g (at, n) _ (left-part p (at, n) a h) (made g good p a W)
 made g good p a (right {at = at} {n = n} W h) = step g (at, n) _ (right-part p (at, n) a h) (made g good p a W)
 

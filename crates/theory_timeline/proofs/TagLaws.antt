@@ -25,7 +25,7 @@ use Rattle.theory_timeline.proofs.Networks.{after-append}
 use Rattle.theory_timeline.specs.Events.{Event, SegmentSet, after, afterAll, asks, closes, named, opens, pick}
 use Rattle.theory_timeline.specs.Steps.{Part, added}
 use Rattle.theory_timeline.specs.Tags.{adds, addsEvent, bit, endsAt, eventWords, isOpenAfter, key, last, namesKey, next, pickEvents, seekLast, tag, wasOpen, word}
-use Rattle.theory_timeline.specs.Windows.{Timeline, Window, atStart, during, event, openBefore, size}
+use Rattle.theory_timeline.specs.Windows.{Timeline, Window, during, event, openBefore, size}
 
 -- ---- seeking
 module _ (f : ℕ → Bool) where
@@ -129,7 +129,7 @@ any-none : (f : ℕ → Bool) (a n : ℕ) → ((j : ℕ) → a ≤ j → j < a +
 any-none f a zero h = refl
 any-none f a (suc n) h = ap₂ _||_ (h a (omega arith) (omega arith)) (any-none f (suc a) n (λ j p q. h j (omega arith) (omega arith)))
 
-any-add : (f : ℕ → Bool) (a m n : ℕ) → any f (range a (m + n)) ≡ (any f (range a m) || any f (range (a + m) n))
+pub any-add : (f : ℕ → Bool) (a m n : ℕ) → any f (range a (m + n)) ≡ (any f (range a m) || any f (range (a + m) n))
 any-add f a zero n = let e : 0 + n ≡ n = omega arith in let z : a ≡ a + 0 = omega arith in ap₂ (λ (k b : ℕ). any f (range b k)) e z
 any-add f a (suc m) n =
     let e : suc m + n ≡ suc (m + n) = omega arith in
@@ -149,7 +149,7 @@ module _ (g : Timeline) where
       ap (λ (e : List Event). named (take (suc n) e) r) (drop-cons (g .events) a (0, 0) (omega arith))
       ∙ ap (λ b. namesKey g r a || b) (named-range (suc a) n r (omega arith))
 
-  named-during : (w : Window) (r : ℕ) → w .0 + w .1 ≤ size g → named (during g w) r ≡ namesIn (w .0) (w .1) r
+  pub named-during : (w : Window) (r : ℕ) → w .0 + w .1 ≤ size g → named (during g w) r ≡ namesIn (w .0) (w .1) r
   unfolding during
   named-during w r l = named-range (w .0) (w .1) r l
 
@@ -158,8 +158,8 @@ module _ (g : Timeline) where
   unfolding openBefore
   quiet a n r l h =
       ap (λ (o : SegmentSet). o r)
-      (ap (λ (e : List Event). afterAll e atStart) (take-add a n (g .events)) ∙ sym (after-append (take a (g .events)) (take n (drop a (g .events))) atStart))
-      ∙ after-stays (take n (drop a (g .events))) (afterAll (take a (g .events)) atStart) r (named-range a n r l ∙ h)
+      (ap (λ (e : List Event). afterAll e (g .start)) (take-add a n (g .events)) ∙ sym (after-append (take a (g .events)) (take n (drop a (g .events))) (g .start)))
+      ∙ after-stays (take n (drop a (g .events))) (afterAll (take a (g .events)) (g .start)) r (named-range a n r l ∙ h)
 
   -- from event a to event b
   pub quiet-to : (a b r : ℕ) → a ≤ b → b ≤ size g → ((j : ℕ) → a ≤ j → j < b → namesKey g r j ≡ false) → openBefore g b r ≡ openBefore g a r
@@ -171,8 +171,8 @@ module _ (g : Timeline) where
   pub open-next : (i : ℕ) → i < size g → openBefore g (i + 1) ≡ after (event g i) (openBefore g i)
   unfolding openBefore
   open-next i l =
-      ap (λ (l : List Event). afterAll l atStart) (ap (λ k. take k (g .events)) (add-one i) ∙ take-suc (g .events) i (0, 0) l)
-      ∙ sym (after-append (take i (g .events)) (event g i ∷ []) atStart)
+      ap (λ (l : List Event). afterAll l (g .start)) (ap (λ k. take k (g .events)) (add-one i) ∙ take-suc (g .events) i (0, 0) l)
+      ∙ sym (after-append (take i (g .events)) (event g i ∷ []) (g .start))
 
   -- an event that opens or closes names its own key, and no other
   pub names-own : (i : ℕ) → asks (event g i) ≡ false → namesKey g (key g i) i ≡ true

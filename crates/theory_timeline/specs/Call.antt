@@ -8,8 +8,8 @@ use Rattle.theory_timeline.specs.declared.ReplayReply.{ReplayReply}
 use Rattle.theory_timeline.specs.declared.ReplayReply.the-variants.{Done, Refused}
 
 -- the sizes and tables of a call
-abbrev pub lent : ℕ → ℕ → ℕ → List ℕ → List ℕ → List ℕ → List ℕ → List ℕ → List ℕ → Lent
-lent n m t a b x y answers work = record { n = n; m = m; t = t; a = a; b = b; x = x; y = y; answers = answers; work = work }
+abbrev pub lent : ℕ → ℕ → ℕ → List ℕ → List ℕ → List ℕ → List ℕ → List ℕ → List ℕ → List ℕ → Lent
+lent n m t a b start x y answers work = record { n = n; m = m; t = t; a = a; b = b; start = start; x = x; y = y; answers = answers; work = work }
 
 -- what a reply says, with the two tables that may be written as they are afterwards
 abbrev pub outcome : ReplayReply → List ℕ → List ℕ → Outcome

@@ -1,4 +1,5 @@
--- The cases that document 01 marks P, as one table: what the definitions of the calls give, and what document 01 says. proofs/Cases proves every row.
+-- The cases that document 01 marks P and those of document 02, No. 1, as one table: what the definitions of the calls give, and what the documents say.
+-- proofs/Cases proves every row.
 -- A replay is seen by its whole outcome but for the work table, a contraction by its outcome but for the work table, the program by the bytes that it writes.
 -- Assumes nothing: these are definitions.
 use Prim.Native.Nat.{_%_, _*_, _/_, ℕ}
@@ -24,21 +25,26 @@ pub data Seen : Type 0 where
   wrote : List ℕ → Seen
 
 -- tables of just the least lengths, the answer table filled with 9 and the work table with 7
-abbrev pub replayOf : ℕ → List ℕ → List ℕ → List ℕ → List ℕ → ℕ → Seen
-replayOf n a b x y p =
+abbrev pub replayFrom : List ℕ → ℕ → List ℕ → List ℕ → List ℕ → List ℕ → ℕ → Seen
+replayFrom start n a b x y p =
     let l : R.Lent = record {
       n = n;
       m = length a;
       t = length x;
       a = a;
       b = b;
+      start = start;
       x = x;
       y = y;
       answers = replicate (length x) 9;
-      work = replicate (R.required (length x) n) 7;
+      work = replicate (R.required (length x) n (length a)) 7;
     } in
     let r : R.Outcome = R.replay l p in
     replayed (r .code, r .place, r .queries, r .opened, r .kept, r .answers)
+
+-- with nothing open at the start, as document 01's cases are
+abbrev pub replayOf : ℕ → List ℕ → List ℕ → List ℕ → List ℕ → ℕ → Seen
+replayOf n a = replayFrom (replicate (length a) 0) n a
 
 -- edge tables and map filled with 9
 abbrev pub contractionOf : ℕ → List ℕ → List ℕ → List ℕ → Seen
@@ -76,7 +82,7 @@ table =
     -- the example with p = 8, and as the program prints it
     (example 8, replayed (0, 0, 2, 3, 19, 3 ∷ 3 ∷ 1 ∷ 3 ∷ 2 ∷ []))
     ∷ (
-      wrote (output (bytesOf (3 ∷ 3 ∷ 5 ∷ 8 ∷ 0 ∷ 1 ∷ 2 ∷ 1 ∷ 2 ∷ 0 ∷ 65535 ∷ 65535 ∷ 0 ∷ 65535 ∷ 0 ∷ 0 ∷ 1 ∷ 2 ∷ 2 ∷ 2 ∷ []))),
+      wrote (output (bytesOf (3 ∷ 3 ∷ 5 ∷ 8 ∷ 0 ∷ 1 ∷ 2 ∷ 1 ∷ 2 ∷ 0 ∷ 0 ∷ 0 ∷ 0 ∷ 65535 ∷ 65535 ∷ 0 ∷ 65535 ∷ 0 ∷ 0 ∷ 1 ∷ 2 ∷ 2 ∷ 2 ∷ []))),
       -- "2 1", "4 2", "asks 2 open 3 kept 19"
       wrote (50 ∷ 32 ∷ 49 ∷ 10 ∷ 52 ∷ 32 ∷ 50 ∷ 10
           ∷ 97 ∷ 115 ∷ 107 ∷ 115 ∷ 32 ∷ 50 ∷ 32 ∷ 111 ∷ 112 ∷ 101 ∷ 110 ∷ 32 ∷ 51 ∷ 32 ∷ 107 ∷ 101 ∷ 112 ∷ 116 ∷ 32 ∷ 49 ∷ 57 ∷ 10 ∷ []),
@@ -105,9 +111,26 @@ table =
     -- p = 3 refused by 3, with the answer table as it was; p = 4 accepted
     ∷ (example 3, replayed (3, 0, 0, 0, 0, 9 ∷ 9 ∷ 9 ∷ 9 ∷ 9 ∷ []))
     ∷ (example 4, replayed (0, 0, 2, 3, 19, 3 ∷ 3 ∷ 1 ∷ 3 ∷ 2 ∷ []))
+    -- T = 0 with two of three segments open at the start: 0, 2, 0
+    ∷ (replayFrom (1 ∷ 0 ∷ 1 ∷ []) 3 (0 ∷ 1 ∷ 2 ∷ []) (1 ∷ 2 ∷ 0 ∷ []) [] [] 8, replayed (0, 0, 0, 2, 0, []))
+    -- the triangle open at the start: 0 and 2 have answer 2, and 1 once a segment has closed
+    ∷ (
+      replayFrom (1 ∷ 1 ∷ 1 ∷ []) 3 (0 ∷ 1 ∷ 2 ∷ []) (1 ∷ 2 ∷ 0 ∷ []) (0 ∷ 65534 ∷ 0 ∷ []) (2 ∷ 2 ∷ 2 ∷ []) 8,
+      replayed (0, 0, 2, 2, 9, 2 ∷ 3 ∷ 1 ∷ []),
+    )
+    -- the same segments open, which no event names: 2
+    ∷ (replayFrom (1 ∷ 1 ∷ 1 ∷ []) 3 (0 ∷ 1 ∷ 2 ∷ []) (1 ∷ 2 ∷ 0 ∷ []) (0 ∷ []) (2 ∷ []) 8, replayed (0, 0, 1, 3, 1, 2 ∷ []))
+    -- opens a segment that is open at the start: 6
+    ∷ (replayFrom (1 ∷ []) 2 (0 ∷ []) (1 ∷ []) (65535 ∷ []) (0 ∷ []) 8, replayed (6, 0, 0, 0, 0, 9 ∷ []))
+    -- the first starting entry above 1: 11 with its segment as place, before the fault of an event
+    ∷ (replayFrom (1 ∷ 2 ∷ 3 ∷ []) 3 (0 ∷ 1 ∷ 2 ∷ []) (1 ∷ 2 ∷ 0 ∷ []) (9 ∷ []) (9 ∷ []) 8, replayed (11, 1, 0, 0, 0, 9 ∷ []))
+    -- with an end out of range at a later segment: 4
+    ∷ (replayFrom (2 ∷ 0 ∷ 0 ∷ []) 3 (0 ∷ 1 ∷ 2 ∷ []) (1 ∷ 2 ∷ 3 ∷ []) (9 ∷ []) (9 ∷ []) 8, replayed (4, 2, 0, 0, 0, 9 ∷ []))
+    -- the program: N = 177 is "refused 10 at 0"
+    ∷ (wrote (output (bytesOf (177 ∷ 0 ∷ 0 ∷ 8 ∷ []))), wrote (114 ∷ 101 ∷ 102 ∷ 117 ∷ 115 ∷ 101 ∷ 100 ∷ 32 ∷ 49 ∷ 48 ∷ 32 ∷ 97 ∷ 116 ∷ 32 ∷ 48 ∷ 10 ∷ []))
     ∷ []
 
--- every row holds: what is computed is what document 01 says
+-- every row holds: what is computed is what the documents say
 abbrev pub AllHold : List Case → Type 0
 AllHold [] = Unit {0}
 AllHold (r ∷ rs) = (r .0 ≡ r .1) × AllHold rs

@@ -37,6 +37,7 @@ pub record Alike (l k : Lent) : Type 0 where
   pub t : l .t ≡ k .t
   pub a : take (l .m) (l .a) ≡ take (k .m) (k .a)
   pub b : take (l .m) (l .b) ≡ take (k .m) (k .b)
+  pub start : take (l .m) (l .start) ≡ take (k .m) (k .start)
   pub x : take (l .t) (l .x) ≡ take (k .t) (k .x)
   pub y : take (l .t) (l .y) ≡ take (k .t) (k .y)
 

@@ -1,4 +1,4 @@
--- Document 01, "The program": the bytes that `replay` writes for the bytes that it reads.
+-- Document 01, "The program", with the starting table of document 02, No. 1: the bytes that `replay` writes for the bytes that it reads.
 -- Assumes nothing: these are definitions.
 use Prim.Native.Nat.{_%_, _*_, _+_, _/_, suc, zero, ℕ}
 use mathlib.Core.Bool.{false, not, true}
@@ -30,16 +30,16 @@ eventsOf ws = getD ws 2 0
 abbrev pub shareOf : List ℕ → ℕ
 shareOf ws = getD ws 3 0
 
--- the numbers that an input with these sizes has: N, M, T, p, then A, B, X, Y
+-- the numbers that an input with these sizes has: N, M, T, p, then A, B, the starting table, X, Y
 abbrev pub inputLength : ℕ → ℕ → ℕ
-inputLength m t = 4 + 2 * m + 2 * t
+inputLength m t = 4 + 3 * m + 2 * t
 
 -- fewer than 8 bytes give 9; then 10 for a size above the program's limits; then 9 for any other length
 unfoldable pub inputFaults : List ℕ → List Row
 inputFaults bytes =
     let ws : List ℕ = words16 bytes in
     row (ltb (length bytes) 8) 9 0
-    ∷ row (ltb 192 (junctionsOf ws)) 10 0
+    ∷ row (ltb 176 (junctionsOf ws)) 10 0
     ∷ row (ltb 64 (segmentsOf ws)) 10 0
     ∷ row (ltb 32 (eventsOf ws)) 10 0
     ∷ row (not (eqb (length bytes) (2 * inputLength (segmentsOf ws) (eventsOf ws)))) 9 0
@@ -60,8 +60,9 @@ inputLent work bytes =
       t = t;
       a = take m (drop 4 ws);
       b = take m (drop (4 + m) ws);
-      x = take t (drop (4 + 2 * m) ws);
-      y = take t (drop (4 + 2 * m + t) ws);
+      start = take m (drop (4 + 2 * m) ws);
+      x = take t (drop (4 + 3 * m) ws);
+      y = take t (drop (4 + 3 * m + t) ws);
       answers = replicate 32 0;
       work = work;
     }

@@ -8,10 +8,10 @@ use lib.Dec.{eqb, ltb}
 use lib.ListN.{length, replicate, take}
 use Rattle.theory_graph.specs.Graph.{answer}
 use Rattle.theory_graph.specs.Lists.{filter, over, pairs, range}
-use Rattle.call_sizes.specs.Refusal.{Refusal, Row, firstFault, row, seek, shortRows, badEnds}
+use Rattle.call_sizes.specs.Refusal.{Refusal, Row, firstFault, row, seek, shortRows, badEnds, badStart}
 use Rattle.call_sizes.specs.Sizes.{sizeFaults}
 use Rattle.theory_timeline.specs.Events.{Event, SegmentSet, asks, kindOf}
-use Rattle.theory_timeline.specs.Windows.{Timeline, edgesOf, event, kept, openBefore, size}
+use Rattle.theory_timeline.specs.Windows.{Timeline, atStart, edgesOf, event, kept, openBefore, size}
 use Rattle.theory_timeline.specs.declared.Kind.the-variants.{Closes, Nothing, Opens, Query}
 
 -- ---- what a replay finds
@@ -36,6 +36,7 @@ pub record Lent : Type 0 where
   pub t : ℕ
   pub a : List ℕ
   pub b : List ℕ
+  pub start : List ℕ
   pub x : List ℕ
   pub y : List ℕ
   pub answers : List ℕ
@@ -46,12 +47,13 @@ unfoldable pub given : Lent → Timeline
 given l = record {
   junctions = l .n;
   segments = pairs (take (l .m) (l .a)) (take (l .m) (l .b));
+  start = atStart (take (l .m) (l .start));
   events = pairs (take (l .t) (l .x)) (take (l .t) (l .y));
 }
 
 -- the required length of the work table
-abbrev pub required : ℕ → ℕ → ℕ
-required t n = 256 * t + 32 * n + 2048
+abbrev pub required : ℕ → ℕ → ℕ → ℕ
+required t n m = 256 * t + 32 * n + 8 * m + 2048
 
 -- ---- faults
 -- the fault of an event, where the segments of o are open before it and there are n junctions and m segments: 0, 5, 6 or 7
@@ -72,10 +74,11 @@ abbrev pub tableLengths : Lent → List (ℕ × ℕ)
 tableLengths l =
     (length (l .a), l .m)
     ∷ (length (l .b), l .m)
+    ∷ (length (l .start), l .m)
     ∷ (length (l .x), l .t)
     ∷ (length (l .y), l .t)
     ∷ (length (l .answers), l .t)
-    ∷ (length (l .work), required (l .t) (l .n))
+    ∷ (length (l .work), required (l .t) (l .n) (l .m))
     ∷ []
 
 abbrev pub shortTables : Lent → List Row
@@ -85,12 +88,13 @@ shortTables l = shortRows (tableLengths l)
 abbrev pub shareFaults : ℕ → List Row
 shareFaults p = row (ltb p 4) 3 0 ∷ row (ltb 12 p) 3 0 ∷ []
 
--- 1, 2, 3, then 4 at the first segment with an end not below N, then the first event that shows 5, 6 or 7
+-- 1, 2, 3, then 4 at the first segment with an end not below N, then 11 at the first starting entry above 1, then the first event that shows 5, 6 or 7
 unfoldable pub listFaults : Lent → List Row
 listFaults l =
     let s : ℕ = seek (badEnds (l .n) (l .a) (l .b)) 0 (l .m) in
+    let u : ℕ = seek (badStart (l .start)) 0 (l .m) in
     let i : ℕ = seek (λ i. not (eqb (faultAt l i) 0)) 0 (l .t) in
-    row (ltb s (l .m)) 4 s ∷ row (ltb i (l .t)) (faultAt l i) i ∷ []
+    row (ltb s (l .m)) 4 s ∷ row (ltb u (l .m)) 11 u ∷ row (ltb i (l .t)) (faultAt l i) i ∷ []
 
 unfoldable pub faults : Lent → ℕ → List Row
 faults l p = sizeFaults (l .n) (l .m) (l .t) 0 ++ shortTables l ++ shareFaults p ++ listFaults l
@@ -125,7 +129,7 @@ done l p = record {
   opened = openAtEnd (given l);
   kept = kept (given l) p;
   answers = over (bytes (given l)) (l .answers);
-  work = over (replicate (required (l .t) (l .n)) 0) (l .work);
+  work = over (replicate (required (l .t) (l .n) (l .m)) 0) (l .work);
 }
 
 unfoldable pub refused : Lent → Refusal → Outcome

@@ -2,7 +2,7 @@
 -- Assumes nothing: these are definitions.
 use Prim.Native.Nat.{_+_, _<_, _≤_, ℕ}
 use mathlib.Core.Bool.{_&&_, not, true}
-use mathlib.Core.List.{List, [], _++_, map}
+use mathlib.Core.List.{List, _++_, map}
 use mathlib.Core.Path.{_≡_}
 use lib.Dec.{ltb}
 use lib.ListN.{length}
@@ -10,7 +10,7 @@ use Rattle.theory_graph.specs.Graph.{Edge}
 use Rattle.theory_graph.specs.SmallGraph.{IsSmallGraph, endsIn, image}
 use Rattle.theory_timeline.specs.Events.{after, named}
 use Rattle.theory_timeline.specs.Replay.{eventFault}
-use Rattle.theory_timeline.specs.Windows.{Timeline, Window, active, during, edgesOf, event, openBefore, size}
+use Rattle.theory_timeline.specs.Windows.{Timeline, Window, active, during, edgesOf, event, network, openBefore, size}
 
 -- a list without a fault
 pub record Sound (g : Timeline) : Type 0 where
@@ -29,8 +29,8 @@ unfoldable pub added : Timeline → Window → Window → List Edge
 added g w c = edgesOf g (λ s. openBefore g (c .0) s && (named (during g w) s && not (named (during g c) s)))
 
 -- A graph of n nodes with the edges H, in which junction a stands at σ a, is made for a window:
--- for the whole list out of no edge, for a part out of the graph above it and the added segments.
+-- for the whole list out of its network, for a part out of the graph above it and the added segments.
 pub data Made (g : Timeline) : Window → ℕ → List Edge → (ℕ → ℕ) → Type 0 where
-  top : {n : ℕ} {H : List Edge} {σ : ℕ → ℕ} (ρ : ℕ → ℕ) → IsSmallGraph [] (active g (0, size g)) n H ρ σ → Made g (0, size g) n H σ
+  top : {n : ℕ} {H : List Edge} {σ : ℕ → ℕ} (ρ : ℕ → ℕ) → IsSmallGraph (network g (0, size g)) (active g (0, size g)) n H ρ σ → Made g (0, size g) n H σ
   down : {w : Window} {n : ℕ} {H : List Edge} {σ : ℕ → ℕ} {c : Window} {n′ : ℕ} {H′ : List Edge} {σ′ : ℕ → ℕ} → Made g w n H σ → Part w c
       → (ρ′ : ℕ → ℕ) → IsSmallGraph (H ++ image σ (added g w c)) (map σ (active g c)) n′ H′ ρ′ σ′ → Made g c n′ H′ (λ a. σ′ (σ a))

@@ -3,17 +3,18 @@
 use Prim.Native.Nat.{_*_, _+_, _-_, _/_, max, suc, zero, ℕ}
 use mathlib.Core.Bool.{false, true}
 use mathlib.Core.List.{List, [], _++_, _∷_, map}
-use lib.Dec.{ltb}
+use lib.Dec.{eqb, ltb}
 use lib.ListN.{drop, getD, length, take}
 use Rattle.theory_graph.specs.Contraction.{Contracted, contract, number}
 use Rattle.theory_graph.specs.Graph.{Edge}
 use Rattle.theory_graph.specs.Lists.{sum}
 use Rattle.theory_timeline.specs.Events.{Event, SegmentSet, activeOf, afterAll, networkOf, pick}
 
--- a network and its list of events
+-- a network, the segments open at the start, and the list of events
 pub record Timeline : Type 0 where
   pub junctions : ℕ
   pub segments : List Edge
+  pub start : SegmentSet
   pub events : List Event
 
 abbrev pub size : Timeline → ℕ
@@ -22,13 +23,13 @@ size g = length (g .events)
 abbrev pub event : Timeline → ℕ → Event
 event g i = getD (g .events) i (0, 0)
 
--- "Every segment is closed at the start"
-abbrev pub atStart : SegmentSet
-atStart s = false
+-- the segments open at the start, by the starting table: "1 for open at the start and 0 for closed"
+abbrev pub atStart : List ℕ → SegmentSet
+atStart start s = eqb (getD start s 0) 1
 
 -- the segments open before event i
 unfoldable pub openBefore : Timeline → ℕ → SegmentSet
-openBefore g i = afterAll (take i (g .events)) atStart
+openBefore g i = afterAll (take i (g .events)) (g .start)
 
 -- the edges of a set of segments: of those open at a query for its reply, and of a window's network
 abbrev pub edgesOf : Timeline → SegmentSet → List Edge
