@@ -1,20 +1,22 @@
--- Laws of the set of open segments: the digits of a word after a bit is set or cleared, then the bits of the 128 words, their count, and what is known of a
--- word of the array.
+-- Laws of the set of open segments: the digits of a word after a bit is set or cleared, then the bits of the 128 words and their count; the set after one
+-- segment is entered or taken out, the set of no segment, and the set that a starting table gives; and what is known of a word of the array.
 -- Assumes nothing.
 use Prim.Native.Nat.{_%_, _*_, _+_, _-_, _/_, _<_, _^_, _≤_, max, suc, zero, ℕ}
-use mathlib.Core.Bool.{false}
+use mathlib.Core.Bool.{Bool, _&&_, cond, false}
 use mathlib.Core.List.{List, [], _++_, _∷_}
 use mathlib.Core.Logic.{_⊎_, inl, inr, ⊎-elim}
 use mathlib.Core.Path.{_∙_, _≡_, ap, ap₂, refl, sym}
 use lib.Bits.{bitOr, bitXor, differ, or-step, or-zero-r, xor-step, xor-zero-r}
 use lib.Count.{ones, ones-step}
-use lib.Dec.{eqb, lit<}
-use lib.ListN.{List·getD-append, List·getD-eq-default, drop, getD, length, length-append, set}
+use lib.Dec.{eqb, lit<, ltb}
+use lib.ListN.{List·getD-append, List·getD-eq-default, drop, getD, length, length-append, length-replicate, length-set, replicate, set}
 use lib.Pow.{shl-exact, shr-shr}
-use lib.Seq.{drop-length, getD-append-add, getD-set-same, set-append-left, set-out, set-set}
+use lib.Seq.{drop-length, getD-append-add, getD-set-other, getD-set-same, set-append-left, set-out, set-set}
 use native.Mathlib.Nat.{div-add-mod', div-one, le-of-suc-le-suc, not-suc-le-zero, one-mul, pow-suc, suc-add, zero-add}
 use native.Mathlib.Numerals.{one-add}
 use native.Mathlib.Omega.{arith}
+use borrow.Author.Tests.{eq-eqb, eqb-false, eqb-true, le-ltb, lt-ltb, ltb-false, ltb-true, ne-eqb}
+use Rattle.theory_graph.proofs.Booleans.{onBool}
 use Rattle.theory_graph.specs.Lists.{sum}
 use Rattle.call_open_set.specs.OpenSet.{bits, digits, isOpen}
 use denote.Array.{Array, each}
@@ -162,6 +164,93 @@ sum-append (x ∷ xs) ys = omega (arith, sum-append xs ys)
 pub sum-bits : (w : ℕ) (ws : List ℕ) → w < 2 ^ 64 → sum (bits (w ∷ ws)) ≡ ones w + sum (bits ws)
 unfolding bits
 sum-bits w ws l = sum-append (digits 64 w) (bits ws) ∙ rw (ones-digits 64 w l)
+
+-- ---- one segment stored
+-- a store of a bit leaves the words as many as they are
+pub stored-length : (words words′ : List ℕ) (s v : ℕ) → length words ≡ 128 → bits words′ ≡ set (bits words) s v → length words′ ≡ 128
+stored-length words words′ s v l q = omega (arith, length-bits words, length-bits words′, ap length q, length-set (bits words) s v)
+
+module _ (words words′ : List ℕ) (s v : ℕ) (l : length words ≡ 128) (u : s < 8192) (q : bits words′ ≡ set (bits words) s v) where
+  pub stored : (k : ℕ) → isOpen words′ k ≡ cond (eqb k s) (eqb v 1) (isOpen words k)
+  unfolding isOpen
+  stored k =
+      ap (λ b. eqb (getD b k 0) 1) q
+      ∙ onBool (eqb k s)
+      (λ t. ap (λ j. eqb (getD (set (bits words) s v) j 0) 1) (eqb-true k s t) ∙ ap (λ j. eqb j 1) (getD-set-same (bits words) s v 0 (omega (arith, length-bits words)))
+      ∙ sym (ap (λ b. cond b (eqb v 1) (eqb (getD (bits words) k 0) 1)) t))
+      (λ t. ap (λ j. eqb j 1) (getD-set-other (bits words) s k v 0 (eqb-false k s t)) ∙ sym (ap (λ b. cond b (eqb v 1) (eqb (getD (bits words) k 0) 1)) t))
+
+-- ---- no segment
+zero-digits : (k i : ℕ) → getD (digits k 0) i 0 ≡ 0
+unfolding digits
+zero-digits zero i = refl
+zero-digits (suc k) zero = refl
+zero-digits (suc k) (suc i) = zero-digits k i
+
+zero-append : (xs ys : List ℕ) → ((i : ℕ) → getD xs i 0 ≡ 0) → ((i : ℕ) → getD ys i 0 ≡ 0) → (i : ℕ) → getD (xs ++ ys) i 0 ≡ 0
+zero-append [] ys p q i = q i
+zero-append (x ∷ xs) ys p q zero = p zero
+zero-append (x ∷ xs) ys p q (suc i) = zero-append xs ys (λ j. p (suc j)) q i
+
+zero-bits : (k i : ℕ) → getD (bits (replicate k 0)) i 0 ≡ 0
+unfolding bits
+zero-bits zero i = refl
+zero-bits (suc k) i = zero-append (digits 64 0) (bits (replicate k 0)) (zero-digits 64) (zero-bits k) i
+
+none-open : (k s : ℕ) → isOpen (replicate k 0) s ≡ false
+unfolding isOpen
+none-open k s = ap (λ j. eqb j 1) (zero-bits k s)
+
+-- ---- the segments that a starting table opens
+-- of the segments before s those are in the set whose entry is 1, and no other is
+pub record Filled (start : List ℕ) (s : ℕ) (held : List ℕ) : Type 0 where
+  pub words : length held ≡ 128
+  pub entered : (u : ℕ) → isOpen held u ≡ (ltb u s && eqb (getD start u 0) 1)
+
+pub filled-none : (start : List ℕ) → Filled start 0 (replicate 128 0)
+filled-none start = record {
+  words = length-replicate {A = ℕ} 128 0;
+  entered = λ u. none-open 128 u ∙ sym (ap (λ (b : Bool). b && eqb (getD start u 0) 1) (le-ltb u 0 (omega arith)));
+}
+
+-- below s + 1 is s, or below s
+ltb-next : (f : ℕ → Bool) (s u : ℕ) → cond (eqb u s) (f s) (ltb u s && f u) ≡ (ltb u (s + 1) && f u)
+ltb-next f s u =
+    onBool (eqb u s)
+    (λ t.
+    let e = eqb-true u s t in
+    ap (λ (b : Bool). cond b (f s) (ltb u s && f u)) t ∙ sym (ap f e) ∙ sym (ap (λ (b : Bool). b && f u) (lt-ltb u (s + 1) (omega arith))))
+    (λ t.
+    let n : ¬ (u ≡ s) = eqb-false u s t in
+    ap (λ (b : Bool). cond b (f s) (ltb u s && f u)) t ∙ ap (λ (b : Bool). b && f u) (same n))
+  where
+    same : ¬ (u ≡ s) → ltb u s ≡ ltb u (s + 1)
+    same n = onBool (ltb u s)
+        (λ t. t ∙ sym (lt-ltb u (s + 1) (omega (arith, ltb-true u s t))))
+        (λ t. t ∙ sym (le-ltb u (s + 1) (omega (arith, ltb-false u s t))))
+
+module _ {start : List ℕ} {s : ℕ} {held : List ℕ} (p : Filled start s held) where
+  pub filled-open : s < 8192 → getD start s 0 ≡ 1 → (next : List ℕ) → bits next ≡ set (bits held) s 1 → Filled start (s + 1) next
+  filled-open l e next q = record {
+    words = stored-length held next s 1 (p .words) q;
+    entered = λ u.
+        stored held next s 1 (p .words) l q u
+        ∙ ap₂ (λ (b c : Bool). cond (eqb u s) b c) (sym (eq-eqb (getD start s 0) 1 e)) (p .entered u)
+        ∙ ltb-next (λ k. eqb (getD start k 0) 1) s u;
+  }
+
+  pub filled-closed : ¬ (getD start s 0 ≡ 1) → Filled start (s + 1) held
+  filled-closed n = record {
+    words = p .words;
+    entered = λ u. p .entered u ∙ sym (skip u) ∙ ltb-next (λ k. eqb (getD start k 0) 1) s u;
+  }
+    where
+      skip : (u : ℕ) → cond (eqb u s) (eqb (getD start s 0) 1) (ltb u s && eqb (getD start u 0) 1) ≡ (ltb u s && eqb (getD start u 0) 1)
+      skip u = onBool (eqb u s)
+          (λ t.
+          ap₂ (λ (b c : Bool). cond b c (ltb u s && eqb (getD start u 0) 1)) t (ne-eqb (getD start s 0) 1 n)
+          ∙ sym (ap (λ (b : Bool). b && eqb (getD start u 0) 1) (le-ltb u s (omega (arith, eqb-true u s t)))))
+          (λ t. ap (λ (b : Bool). cond b (eqb (getD start s 0) 1) (ltb u s && eqb (getD start u 0) 1)) t)
 
 -- ---- what is known of an array of words that is passed
 each-fits : (xs : List ℕ) (us : List Val) → shadow (each ℕ (UInt w64 .own) xs us) → (i : ℕ) → getD xs i 0 < 2 ^ 64

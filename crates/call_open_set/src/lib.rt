@@ -1,7 +1,9 @@
 // The open segments as a set of 8,192 bits, handed on by value. A number past the last segment is in no set: to open or close it changes nothing.
 ghost use mathlib.Core.Path.{_≡_};
-ghost use Prim.Native.Nat.{_<_};
-ghost use lib.ListN.{set};
+ghost use Prim.Native.Nat.{_<_, _≤_};
+ghost use mathlib.Core.Bool.{_&&_};
+ghost use lib.Dec.{eqb, ltb};
+ghost use lib.ListN.{getD, length, set};
 ghost use Rattle.theory_graph.specs.Lists.{sum};
 ghost use Rattle.call_open_set.specs.OpenSet.{digits, bits, isOpen};
 
@@ -58,6 +60,24 @@ pub fn is_open(held: [u64; 128], s: usize) -> bool
     let i = s / 64;
     let b = s % 64;
     (held[i] >> b) % 2 == 1
+}
+
+// Internal: the set of those of the first m segments whose entry in a starting table is 1. It is filled in place: no event changes it yet.
+pub fn from_table(m: usize, start: &[u16]) -> [u64; 128]
+    requires { ⌜ (m ≤ 8192) × (m ≤ length (now start)) ⌝ }
+    ensures { λ r. ⌜ (length r ≡ 128) × (isOpen r ≡ (λ s. ltb s m && eqb (getD (now (start .entry)) s 0) 1)) ⌝ }
+{
+    let mut held = [0u64; 128];
+    let mut s: usize = 0;
+    // Of the segments before s those are in the set whose entry is 1, and no other is.
+    while s < m {
+        if start[s] == 1 {
+            let word = s / 64;
+            held[word] = with_bit(held[word], s % 64);
+        }
+        s += 1;
+    }
+    held
 }
 
 // How many segments are in the set: the ones of each word, summed.

@@ -1,19 +1,20 @@
--- Laws of the checks: the first that passes, met from the front; the fault of the sizes; the faults of the tables and the share; the first segment and the
--- first event with a fault.
+-- Laws of the checks: the first that passes, met from the front; the fault of the sizes; the faults of the tables and the share; the first segment with a
+-- bad end or starting entry, and the first event with a fault.
 -- Assumes nothing.
-use Prim.Native.Nat.{_+_, _-_, _<_, _≤_, ℕ}
-use mathlib.Core.Bool.{Bool, _||_, cond, false, not, true}
+use Prim.Native.Nat.{_+_, _<_, _≤_, ℕ}
+use mathlib.Core.Bool.{Bool, _&&_, _||_, cond, false, not, true}
 use mathlib.Core.List.{List, [], _++_, _∷_}
-use mathlib.Core.Path.{_∙_, _≡_, ap, ap₂, refl, subst, sym}
+use mathlib.Core.Path.{_∙_, _≡_, ap, ap₂, refl, sym}
 use lib.Dec.{eqb, ltb}
 use lib.ListN.{getD, length, set, take}
 use lib.Seq.{take-all, take-suc}
 use native.Mathlib.Numerals.{add-one}
 use native.Mathlib.Omega.{arith}
 use borrow.Author.Tests.{eq-eqb, eqb-false, eqb-true, le-ltb, lt-ltb, ltb-false, ltb-true, ne-eqb}
+use Rattle.call_open_set.proofs.OpenSetLaws.{stored-length}
 use Rattle.call_open_set.specs.OpenSet.{bits, isOpen}
 use Rattle.call_sizes.proofs.RefusalLaws.{accepted-long, fault-left, fault-right, fault-silent, seek-at, seek-end, short-numbered, sizes-numbered, skip-silent}
-use Rattle.call_sizes.specs.Refusal.{Refusal, Row, badEnds, firstFault, row, seek}
+use Rattle.call_sizes.specs.Refusal.{Refusal, Row, badEnds, badStart, firstFault, row, seek}
 use Rattle.call_sizes.specs.Sizes.{sizeFaults}
 use Rattle.theory_graph.proofs.Booleans.{onBool}
 use Rattle.theory_graph.specs.Lists.{pairs, sum}
@@ -24,7 +25,7 @@ use Rattle.theory_timeline.specs.Replay.{Lent, eventFault, fault, faultAt, faul
 use Rattle.theory_timeline.specs.Windows.{atStart, openBefore, size}
 use Rattle.theory_timeline.specs.declared.Kind.{Kind}
 use Rattle.theory_timeline.specs.declared.Kind.the-variants.{Closes, Nothing, Opens, Query}
-use Rattle.replay_checks.proofs.SetLaws.{event-stays, event-stored, open-count, stored-length}
+use Rattle.replay_checks.proofs.SetLaws.{StartsBelow, event-stays, event-stored, open-count, start-below, start-taken}
 use Rattle.replay_checks.specs.Check.{CanCheckList, CheckedEvents, CheckedList, CheckedTables, EventFits, eventsFault, faultOf, tablesOf}
 use Rattle.replay_checks.specs.declared.Checked.{Checked}
 
@@ -33,9 +34,17 @@ pub below-next : (f : ℕ → Bool) (s : ℕ) → ((u : ℕ) → u < s → f u �
 below-next f s h t u l = onBool (eqb u s) (λ q. ap f (eqb-true u s q) ∙ t) (λ q. let ne : ¬ (u ≡ s) = eqb-false u s q in h u (omega arith))
 
 -- the segments open before the end are those after all events
-ends-with : (l : Lent) (p : ℕ) → Accepted l p → openBefore (given l) (size (given l)) ≡ afterAll (pairs (take (l .t) (l .x)) (take (l .t) (l .y))) atStart
+ends-with : (l : Lent) (p : ℕ) → Accepted l p → openBefore (given l) (size (given l)) ≡ afterAll (pairs (take (l .t) (l .x)) (take (l .t) (l .y)))
+    (atStart (take (l .m) (l .start)))
 unfolding openBefore given
-ends-with l p a = let e = pairs (take (l .t) (l .x)) (take (l .t) (l .y)) in ap (λ (k : List Event). afterAll k atStart) (take-all (length e) e (omega arith))
+ends-with l p a =
+    let e = pairs (take (l .t) (l .x)) (take (l .t) (l .y)) in
+    ap (λ (k : List Event). afterAll k (atStart (take (l .m) (l .start)))) (take-all (length e) e (omega arith))
+
+-- those open at the start are segments: the starting table counts as far as the segments go
+starts-below : (l : Lent) (p : ℕ) → Accepted l p → StartsBelow (given l)
+unfolding given
+starts-below l p a s h = omega (arith, start-below (l .m) (l .start) s h, length-pairs (l .m) (l .a) (l .b) (a .a-long) (a .b-long))
 
 -- ---- the sizes and the lengths
 module _ (l : Lent) (p : ℕ) where
@@ -64,38 +73,38 @@ module _ (l : Lent) (p : ℕ) where
         list-fault : fault l p ≡ firstFault rest
         list-fault = lengths ∙ fault-right (shortTables l) rest (short-numbered (tableLengths l)) (sym (ap (λ (f : Refusal). f .0) k) ∙ y)
 
-        pub can-check : CanCheckList (l .n) (l .m) (l .t) (l .a) (l .b) (l .x) (l .y)
+        pub can-check : CanCheckList (l .n) (l .m) (l .t) (l .a) (l .b) (l .start) (l .x) (l .y)
         can-check =
             let (a, b, c) = within in
-            let (la, (lb, (lx, (ly, _)))) = accepted-long (tableLengths l) (sym (ap (λ (f : Refusal). f .0) k) ∙ y) in
-            record { n-fits = a; m-fits = b; t-fits = c; a-long = la; b-long = lb; x-long = lx; y-long = ly }
+            let (la, (lb, (ls, (lx, (ly, _))))) = accepted-long (tableLengths l) (sym (ap (λ (f : Refusal). f .0) k) ∙ y) in
+            record { n-fits = a; m-fits = b; t-fits = c; a-long = la; b-long = lb; start-long = ls; x-long = lx; y-long = ly }
 
         -- what the check of the list finds is what the whole input has
-        pub list-checked : {r : Checked} → CheckedList (l .n) (l .m) (l .t) p (l .a) (l .b) (l .x) (l .y) r → CheckedTables l p r
+        pub list-checked : {r : Checked} → CheckedList (l .n) (l .m) (l .t) p (l .a) (l .b) (l .start) (l .x) (l .y) r → CheckedTables l p r
         unfolding fault listFaults faults faultAt given
         list-checked c = record {
           refusal = c .refusal ∙ sym list-fault;
           open-last = λ q.
               let (held, o, e) = c .last (ap (λ (f : Refusal). f .0) (c .refusal ∙ sym list-fault) ∙ q) in
               let a = accepted-from l p q in
-              e ∙ open-count (given l) (accepted-sound l p a) held (o ∙ sym (ends-with l p a));
+              e ∙ open-count (given l) (accepted-sound l p a) (starts-below l p a) held (o ∙ sym (ends-with l p a));
         }
 
 pub refused-checked : (l : Lent) (p : ℕ) (c i o : ℕ) → (c, i) ≡ fault l p → 0 < c → CheckedTables l p (record { code = c; place = i; «open» = o })
 refused-checked l p c i o e h = record { refusal = e; open-last = λ q. absurd (omega (arith, ap (λ (f : Refusal). f .0) e)) }
 
--- ---- the share, the ends and the events
-module _ {n m t : ℕ} {a b x y : List ℕ} (q : CanCheckList n m t a b x y) (p : ℕ) where
+-- ---- the share, the ends, the starting table and the events
+module _ {n m t : ℕ} {a b start x y : List ℕ} (q : CanCheckList n m t a b start x y) (p : ℕ) where
   abbrev l : Lent
-  l = tablesOf n m t a b x y
+  l = tablesOf n m t a b start x y
 
-  list-refused : (c i : ℕ) → (c, i) ≡ firstFault (shareFaults p ++ listFaults l) → 0 < c → CheckedList n m t p a b x y (record { code = c; place = i; «open» = 0 })
+  list-refused : (c i : ℕ) → (c, i) ≡ firstFault (shareFaults p ++ listFaults l) → 0 < c → CheckedList n m t p a b start x y (record { code = c; place = i; «open» = 0 })
   list-refused c i e h = record { refusal = e; last = λ z. absurd (omega arith) }
 
-  pub share-low : p < 4 → CheckedList n m t p a b x y (record { code = 3; place = 0; «open» = 0 })
+  pub share-low : p < 4 → CheckedList n m t p a b start x y (record { code = 3; place = 0; «open» = 0 })
   share-low h = list-refused 3 0 (sym (ap (λ (c : Bool). cond c (3, 0) (firstFault (row (ltb 12 p) 3 0 ∷ listFaults l))) (lt-ltb p 4 h))) (omega arith)
 
-  pub share-high : 4 ≤ p → 12 < p → CheckedList n m t p a b x y (record { code = 3; place = 0; «open» = 0 })
+  pub share-high : 4 ≤ p → 12 < p → CheckedList n m t p a b start x y (record { code = 3; place = 0; «open» = 0 })
   share-high k h = list-refused 3 0
       (sym (ap₂ (λ (c d : Bool). cond c (3, 0) (cond d (3, 0) (firstFault (listFaults l)))) (le-ltb p 4 k) (lt-ltb 12 p h))) (omega arith)
 
@@ -103,30 +112,56 @@ module _ {n m t : ℕ} {a b x y : List ℕ} (q : CanCheckList n m t a b x y) (p 
     shared : firstFault (shareFaults p ++ listFaults l) ≡ firstFault (listFaults l)
     shared = skip-silent (shareFaults p) (listFaults l) (le-ltb p 4 u, (le-ltb 12 p v, tt))
 
-    pub ends-refused : (s : ℕ) → s ≡ seek (badEnds n a b) 0 m → s < m → CheckedList n m t p a b x y (record { code = 4; place = s; «open» = 0 })
+    -- the rows of the ends, the starting table and the events
+    abbrev endsRow : ℕ → Row
+    endsRow k = row (ltb k m) 4 k
+
+    abbrev startRow : ℕ → Row
+    startRow k = row (ltb k m) 11 k
+
+    abbrev eventsRow : Row
+    eventsRow =
+        let i : ℕ = seek (λ i. not (eqb (faultAt l i) 0)) 0 t in
+        row (ltb i t) (faultAt l i) i
+
+    rows : firstFault (shareFaults p ++ listFaults l) ≡ firstFault (endsRow (seek (badEnds n a b) 0 m) ∷ startRow (seek (badStart start) 0 m) ∷ eventsRow ∷ [])
     unfolding listFaults
+    rows = shared
+
+    pub ends-refused : (s : ℕ) → s ≡ seek (badEnds n a b) 0 m → s < m → CheckedList n m t p a b start x y (record { code = 4; place = s; «open» = 0 })
     ends-refused s e h = list-refused 4 s
-        (sym (shared ∙ ap (λ (k : ℕ). firstFault (row (ltb k m) 4 k ∷ others)) (sym e) ∙ ap (λ (c : Bool). cond c (4, s) (firstFault others)) (lt-ltb s m h))) (omega arith)
+        (sym (rows ∙ ap (λ (k : ℕ). firstFault (endsRow k ∷ others)) (sym e) ∙ ap (λ (c : Bool). cond c (4, s) (firstFault others)) (lt-ltb s m h))) (omega arith)
       where
         others : List Row
-        others =
-            let i : ℕ = seek (λ i. not (eqb (faultAt l i) 0)) 0 t in
-            row (ltb i t) (faultAt l i) i ∷ []
+        others = startRow (seek (badStart start) 0 m) ∷ eventsRow ∷ []
 
-    module _ (s : ℕ) (e : s ≡ seek (badEnds n a b) 0 m) (h : m ≤ s) where
-      events-fault : eventsFault n m (pairs (take t x) (take t y)) t ≡ firstFault (shareFaults p ++ listFaults l)
-      unfolding listFaults eventsFault faultOf faultAt given openBefore
-      events-fault =
-          sym (shared ∙ ap (λ (c : Bool). cond c (4, seek (badEnds n a b) 0 m) (firstFault others)) (le-ltb _ m (subst (λ (k : ℕ). m ≤ k) e h)))
-        where
-          others : List Row
-          others =
-              let i : ℕ = seek (λ i. not (eqb (faultOf n m (pairs (take t x) (take t y)) i) 0)) 0 t in
-              row (ltb i t) (faultOf n m (pairs (take t x) (take t y)) i) i ∷ []
+    module _ (h : m ≤ seek (badEnds n a b) 0 m) where
+      ends-passed : firstFault (shareFaults p ++ listFaults l) ≡ firstFault (startRow (seek (badStart start) 0 m) ∷ eventsRow ∷ [])
+      ends-passed =
+          rows
+          ∙ ap (λ (c : Bool). cond c (4, seek (badEnds n a b) 0 m) (firstFault (startRow (seek (badStart start) 0 m) ∷ eventsRow ∷ [])))
+          (le-ltb _ m h)
 
-      pub list-passed : {c i : ℕ} {held : List ℕ} → CheckedEvents n m (pairs (take t x) (take t y)) t c i held
-          → CheckedList n m t p a b x y (record { code = c; place = i; «open» = sum (bits held) })
-      list-passed {held = held} k = record { refusal = k .refusal ∙ events-fault; last = λ z. (held, k .last z, refl) }
+      pub start-refused : (r : ℕ) → r ≡ seek (badStart start) 0 m → r < m → CheckedList n m t p a b start x y (record { code = 11; place = r; «open» = 0 })
+      start-refused r f k = list-refused 11 r
+          (sym (ends-passed ∙ ap (λ (k : ℕ). firstFault (startRow k ∷ eventsRow ∷ [])) (sym f) ∙ ap (λ (c : Bool). cond c (11, r) (firstFault (eventsRow ∷ []))) (lt-ltb r m k)))
+          (omega arith)
+
+      module _ (k : m ≤ seek (badStart start) 0 m) where
+        events-fault : eventsFault n m (atStart (take m start)) (pairs (take t x) (take t y)) t ≡ firstFault (shareFaults p ++ listFaults l)
+        unfolding eventsFault faultOf faultAt given openBefore
+        events-fault =
+            sym (ends-passed ∙ ap (λ (c : Bool). cond c (11, seek (badStart start) 0 m) (firstFault (eventsRow ∷ []))) (le-ltb _ m k))
+
+        pub list-passed : (first : List ℕ) → isOpen first ≡ (λ d. ltb d m && eqb (getD start d 0) 1)
+            → {c i : ℕ} {held : List ℕ} → CheckedEvents n m (isOpen first) (pairs (take t x) (take t y)) t c i held
+            → CheckedList n m t p a b start x y (record { code = c; place = i; «open» = sum (bits held) })
+        list-passed first o {held = held} k =
+            let o′ : isOpen first ≡ atStart (take m start) = o ∙ start-taken m start in
+            record {
+              refusal = k .refusal ∙ ap (λ (o : SegmentSet). eventsFault n m o (pairs (take t x) (take t y)) t) o′ ∙ events-fault;
+              last = λ z. (held, k .last z ∙ ap (afterAll (pairs (take t x) (take t y))) o′, refl);
+            }
 
 -- ---- events
 abbrev choose : Bool → ℕ → ℕ → ℕ
@@ -173,15 +208,15 @@ module _ (n m : ℕ) (o : SegmentSet) (x y : ℕ) where
   pub nothing-bad : kindOf n x ≡ Nothing → 5 ≡ eventFault n m o (x, y)
   nothing-bad k = sym (fault-kind Nothing k)
 
--- the loop: i events without a fault, and the segments open after them
-pub record Passing (n m t : ℕ) (x y : List ℕ) (held : List ℕ) (i : ℕ) : Type 0 where
+-- the loop: i events without a fault, and the segments open after them where those of o are open before the first
+pub record Passing (n m : ℕ) (o : SegmentSet) (t : ℕ) (x y held : List ℕ) (i : ℕ) : Type 0 where
   pub low : i ≤ t
   pub words : length held ≡ 128
-  pub held-open : isOpen held ≡ afterAll (take i (pairs (take t x) (take t y))) atStart
-  pub fine : (u : ℕ) → u < i → not (eqb (faultOf n m (pairs (take t x) (take t y)) u) 0) ≡ false
+  pub held-open : isOpen held ≡ afterAll (take i (pairs (take t x) (take t y))) o
+  pub fine : (u : ℕ) → u < i → not (eqb (faultOf n m o (pairs (take t x) (take t y)) u) 0) ≡ false
 
-module _ {n m t : ℕ} {x y held : List ℕ} {i : ℕ} (p : Passing n m t x y held i) (l : i < t) (ready : (t ≤ length x) × (t ≤ length y) × (m ≤ 8192) × (n ≤ 4096)) (r : ℕ)
-    (e : r ≡ eventFault n m (isOpen held) (getD x i 0, getD y i 0)) where
+module _ {n m : ℕ} {o : SegmentSet} {t : ℕ} {x y held : List ℕ} {i : ℕ} (p : Passing n m o t x y held i) (l : i < t)
+    (ready : (t ≤ length x) × (t ≤ length y) × (m ≤ 8192) × (n ≤ 4096)) (r : ℕ) (e : r ≡ eventFault n m (isOpen held) (getD x i 0, getD y i 0)) where
   abbrev evs : List Event
   evs = pairs (take t x) (take t y)
 
@@ -191,48 +226,49 @@ module _ {n m t : ℕ} {x y held : List ℕ} {i : ℕ} (p : Passing n m t x y he
   abbrev ly : t ≤ length y
   ly = ready .1
 
-  fault-is : r ≡ faultOf n m evs i
+  fault-is : r ≡ faultOf n m o evs i
   unfolding faultOf
   fault-is = e ∙ ap₂ (λ (o : ℕ → Bool) (v : Event). eventFault n m o v) (p .held-open) (sym (getD-pairs t x y i lx ly l))
 
-  pub event-refused : 0 < r → CheckedEvents n m evs t r i held
+  pub event-refused : 0 < r → CheckedEvents n m o evs t r i held
   unfolding eventsFault
   event-refused h =
-      let s : i ≡ seek (λ i. not (eqb (faultOf n m evs i) 0)) 0
-      t = sym (seek-at (λ i. not (eqb (faultOf n m evs i) 0)) 0 t i (omega arith) (omega arith)
-      (ap not (ne-eqb (faultOf n m evs i) 0 (λ z. omega (arith, fault-is)))) (λ u _ k. p .fine u k)) in
+      let s : i ≡ seek (λ i. not (eqb (faultOf n m o evs i) 0)) 0
+      t = sym (seek-at (λ i. not (eqb (faultOf n m o evs i) 0)) 0 t i (omega arith) (omega arith)
+      (ap not (ne-eqb (faultOf n m o evs i) 0 (λ z. omega (arith, fault-is)))) (λ u _ k. p .fine u k)) in
       record {
         refusal = ap (λ (k : ℕ). (k, i)) fault-is
-            ∙ sym (ap (λ (k : ℕ). cond (ltb k t) (faultOf n m evs k, k) (0, 0)) (sym s) ∙ ap (λ (c : Bool). cond c (faultOf n m evs i, i) (0, 0)) (lt-ltb i t l));
+            ∙ sym (ap (λ (k : ℕ). cond (ltb k t) (faultOf n m o evs k, k) (0, 0)) (sym s) ∙ ap (λ (c : Bool). cond c (faultOf n m o evs i, i) (0, 0)) (lt-ltb i t l));
         last = λ z. absurd (omega arith);
       }
 
   pub event-fits : r ≡ 0 → EventFits n held (getD x i 0) (getD y i 0)
   event-fits z = record { words = p .words; m = m; few = ready .3; much = ready .2; fine = sym e ∙ z }
 
-  pub event-passes : r ≡ 0 → (next : List ℕ) → length next ≡ 128 → isOpen next ≡ after (getD x i 0, getD y i 0) (isOpen held) → Passing n m t x y next (i + 1)
+  pub event-passes : r ≡ 0 → (next : List ℕ) → length next ≡ 128 → isOpen next ≡ after (getD x i 0, getD y i 0) (isOpen held) → Passing n m o t x y next (i + 1)
   event-passes z next k q =
       record {
         low = omega arith;
         words = k;
         held-open =
-            q ∙ ap₂ (λ (v : Event) (o : ℕ → Bool). after v o) (sym (getD-pairs t x y i lx ly l)) (p .held-open) ∙ after-append (take i evs) (getD evs i (0, 0) ∷ []) atStart
-            ∙ ap (λ (l : List Event). afterAll l atStart) (sym (ap (λ k. take k evs) (add-one i) ∙ take-suc evs i (0, 0) (omega (arith, length-pairs t x y lx ly))));
-        fine = below-next (λ u. not (eqb (faultOf n m evs u) 0)) i (p .fine) (ap not (eq-eqb (faultOf n m evs i) 0 (sym fault-is ∙ z)));
+            q ∙ ap₂ (λ (v : Event) (w : SegmentSet). after v w) (sym (getD-pairs t x y i lx ly l)) (p .held-open) ∙ after-append (take i evs) (getD evs i (0, 0) ∷ []) o
+            ∙ ap (λ (l : List Event). afterAll l o) (sym (ap (λ k. take k evs) (add-one i) ∙ take-suc evs i (0, 0) (omega (arith, length-pairs t x y lx ly))));
+        fine = below-next (λ u. not (eqb (faultOf n m o evs u) 0)) i (p .fine) (ap not (eq-eqb (faultOf n m o evs i) 0 (sym fault-is ∙ z)));
       }
 
-pub events-pass : {n m t : ℕ} {x y held : List ℕ} {i : ℕ} → Passing n m t x y held i → i ≡ t → t ≤ length x → t ≤ length y → CheckedEvents n m (pairs (take t x) (take t y)) t 0 0 held
+pub events-pass : {n m : ℕ} {o : SegmentSet} {t : ℕ} {x y held : List ℕ} {i : ℕ} → Passing n m o t x y held i → i ≡ t → t ≤ length x → t ≤ length y
+    → CheckedEvents n m o (pairs (take t x) (take t y)) t 0 0 held
 unfolding eventsFault
-events-pass {n} {m} {t} {x} {y} {held} {i} p q lx ly =
+events-pass {n} {m} {o} {t} {x} {y} {held} {i} p q lx ly =
     let evs = pairs (take t x) (take t y) in
-    let s : i ≡ seek (λ i. not (eqb (faultOf n m evs i) 0)) 0 t = q ∙ sym (seek-end (λ i. not (eqb (faultOf n m evs i) 0)) 0 t (λ u _ k. p .fine u (omega arith)) ∙ omega arith) in
+    let s : i ≡ seek (λ i. not (eqb (faultOf n m o evs i) 0)) 0 t = q ∙ sym (seek-end (λ i. not (eqb (faultOf n m o evs i) 0)) 0 t (λ u _ k. p .fine u (omega arith)) ∙ omega arith) in
     record {
-      refusal = sym (ap (λ (k : ℕ). cond (ltb k t) (faultOf n m evs k, k) (0, 0)) (sym s) ∙ ap (λ (c : Bool). cond c (faultOf n m evs i, i) (0, 0)) (le-ltb i t (omega arith)));
-      last = λ _. p .held-open ∙ ap (λ (k : List Event). afterAll k atStart) (take-all i evs (omega (arith, length-pairs t x y lx ly)));
+      refusal = sym (ap (λ (k : ℕ). cond (ltb k t) (faultOf n m o evs k, k) (0, 0)) (sym s) ∙ ap (λ (c : Bool). cond c (faultOf n m o evs i, i) (0, 0)) (le-ltb i t (omega arith)));
+      last = λ _. p .held-open ∙ ap (λ (k : List Event). afterAll k o) (take-all i evs (omega (arith, length-pairs t x y lx ly)));
     }
 
-pub passing-none : (n m t : ℕ) (x y held : List ℕ) → length held ≡ 128 → isOpen held ≡ atStart → Passing n m t x y held 0
-passing-none n m t x y held l o = record { low = omega arith; words = l; held-open = o; fine = λ u h. absurd (omega arith) }
+pub passing-none : (n m t : ℕ) (x y held : List ℕ) → length held ≡ 128 → Passing n m (isOpen held) t x y held 0
+passing-none n m t x y held l = record { low = omega arith; words = l; held-open = refl; fine = λ u h. absurd (omega arith) }
 
 -- ---- the set after an event without a fault, by its kind
 rank : Kind → ℕ

@@ -1,18 +1,19 @@
--- Laws of the set of open segments in words: one segment entered or taken out as an event says, no segment at the start, and how many there are.
+-- Laws of the set of open segments in words: one segment entered or taken out as an event says, the segments that a starting table opens, and how many
+-- there are.
 -- Assumes nothing.
-use Prim.Native.Nat.{_*_, _+_, _-_, _/_, _<_, _≤_, suc, zero, ℕ}
+use Prim.Native.Nat.{_+_, _-_, _/_, _<_, _≤_, suc, zero, ℕ}
 use mathlib.Core.Bool.{Bool, _&&_, _||_, cond, false, true}
 use mathlib.Core.List.{List, [], _++_, _∷_}
 use mathlib.Core.Path.{_∙_, _≡_, ap, ap₂, fun-ext, refl, sym}
 use lib.Dec.{eqb, ltb}
-use lib.ListN.{List·getD-eq-default, getD, length, length-append, length-set, replicate, set}
-use lib.Seq.{getD-set-other, getD-set-same}
+use lib.ListN.{List·getD-eq-default, getD, length, length-take, set, take}
+use lib.Seq.{getD-take}
 use native.Mathlib.Numerals.{add-one}
 use native.Mathlib.Omega.{arith}
-use borrow.Author.Tests.{eqb-false, eqb-true, ltb-false, ltb-true}
-use Rattle.call_open_set.proofs.OpenSetLaws.{length-digits}
+use borrow.Author.Tests.{eqb-true, ltb-false, ltb-true}
+use Rattle.call_open_set.proofs.OpenSetLaws.{stored}
 use Rattle.call_open_set.specs.OpenSet.{bits, digits, isOpen}
-use Rattle.theory_graph.proofs.Booleans.{and-elim, contradict, onBool}
+use Rattle.theory_graph.proofs.Booleans.{and-elim, onBool}
 use Rattle.theory_graph.specs.Lists.{filter, range, sum}
 use Rattle.theory_timeline.proofs.Acceptance.{sound-fine}
 use Rattle.theory_timeline.proofs.TagLaws.{open-next}
@@ -20,26 +21,6 @@ use Rattle.theory_timeline.specs.Events.{after, closes, names, opens}
 use Rattle.theory_timeline.specs.Replay.{openAtEnd}
 use Rattle.theory_timeline.specs.Steps.{Sound}
 use Rattle.theory_timeline.specs.Windows.{Timeline, atStart, event, openBefore, size}
-
-bits-length : (ws : List ℕ) → length (bits ws) ≡ 64 * length ws
-unfolding bits
-bits-length [] = refl
-bits-length (w ∷ ws) = rw length-append (omega (arith, length-digits 64 w, bits-length ws))
-
--- a store of a bit leaves the words as many as they are
-pub stored-length : (words words′ : List ℕ) (s v : ℕ) → length words ≡ 128 → bits words′ ≡ set (bits words) s v → length words′ ≡ 128
-stored-length words words′ s v l q = omega (arith, bits-length words, bits-length words′, ap length q, length-set (bits words) s v)
-
--- ---- one segment
-module _ (words words′ : List ℕ) (s v : ℕ) (l : length words ≡ 128) (u : s < 8192) (q : bits words′ ≡ set (bits words) s v) where
-  pub stored : (k : ℕ) → isOpen words′ k ≡ cond (eqb k s) (eqb v 1) (isOpen words k)
-  unfolding isOpen
-  stored k =
-      ap (λ b. eqb (getD b k 0) 1) q
-      ∙ onBool (eqb k s)
-      (λ t. ap (λ j. eqb (getD (set (bits words) s v) j 0) 1) (eqb-true k s t) ∙ ap (λ j. eqb j 1) (getD-set-same (bits words) s v 0 (omega (arith, bits-length words)))
-      ∙ sym (ap (λ b. cond b (eqb v 1) (eqb (getD (bits words) k 0) 1)) t))
-      (λ t. ap (λ j. eqb j 1) (getD-set-other (bits words) s k v 0 (eqb-false k s t)) ∙ sym (ap (λ b. cond b (eqb v 1) (eqb (getD (bits words) k 0) 1)) t))
 
 -- ---- an event
 module _ (held next : List ℕ) (x y v : ℕ) (l : length held ≡ 128) (n : (eqb x 65535 || eqb x 65534) ≡ true) (u : y < 8192) (b : eqb v 1 ≡ eqb x 65535)
@@ -52,26 +33,18 @@ module _ (held next : List ℕ) (x y v : ℕ) (l : length held ≡ 128) (n : (eq
 pub event-stays : (held : List ℕ) (x y : ℕ) → (eqb x 65535 || eqb x 65534) ≡ false → isOpen held ≡ after (x, y) (isOpen held)
 event-stays held x y n = fun-ext (λ k. sym (ap (λ c. cond (c && eqb k y) (eqb x 65535) (isOpen held k)) n))
 
--- ---- no segment
-zero-digits : (k i : ℕ) → getD (digits k 0) i 0 ≡ 0
-unfolding digits
-zero-digits zero i = refl
-zero-digits (suc k) zero = refl
-zero-digits (suc k) (suc i) = zero-digits k i
+-- ---- at the start
+-- a starting table counts as far as its first m entries
+pub start-taken : (m : ℕ) (start : List ℕ) → (λ s. ltb s m && eqb (getD start s 0) 1) ≡ atStart (take m start)
+start-taken m start = fun-ext (λ s. onBool (ltb s m)
+    (λ t. ap (λ b. b && eqb (getD start s 0) 1) t ∙ sym (ap (λ j. eqb j 1) (getD-take m start s 0 (ltb-true s m t))))
+    (λ t.
+    let past : length (take m start) ≤ s = omega (arith, ltb-false s m t, length-take m start) in
+    ap (λ b. b && eqb (getD start s 0) 1) t ∙ sym (ap (λ j. eqb j 1) (List·getD-eq-default (take m start) 0 past))))
 
-zero-append : (xs ys : List ℕ) → ((i : ℕ) → getD xs i 0 ≡ 0) → ((i : ℕ) → getD ys i 0 ≡ 0) → (i : ℕ) → getD (xs ++ ys) i 0 ≡ 0
-zero-append [] ys p q i = q i
-zero-append (x ∷ xs) ys p q zero = p zero
-zero-append (x ∷ xs) ys p q (suc i) = zero-append xs ys (λ j. p (suc j)) q i
-
-zero-bits : (k i : ℕ) → getD (bits (replicate k 0)) i 0 ≡ 0
-unfolding bits
-zero-bits zero i = refl
-zero-bits (suc k) i = zero-append (digits 64 0) (bits (replicate k 0)) (zero-digits 64) (zero-bits k) i
-
-pub none-open : (k : ℕ) → isOpen (replicate k 0) ≡ atStart
-unfolding isOpen
-none-open k = fun-ext (λ s. ap (λ j. eqb j 1) (zero-bits k s))
+pub start-below : (m : ℕ) (start : List ℕ) (s : ℕ) → atStart (take m start) s ≡ true → s < m
+start-below m start s h =
+    and-elim (ltb s m) (eqb (getD start s 0) 1) (ap (λ (o : ℕ → Bool). o s) (start-taken m start) ∙ h) λ t _. ltb-true s m t
 
 -- ---- how many
 abbrev pub count : (ℕ → Bool) → ℕ → ℕ → ℕ
@@ -110,11 +83,15 @@ count-longer f a b l e =
 pub count-both : (f : ℕ → Bool) (a b : ℕ) → ((j : ℕ) → a ≤ j → f j ≡ false) → ((j : ℕ) → b ≤ j → f j ≡ false) → count f 0 a ≡ count f 0 b
 count-both f a b p q = onBool (ltb a b) (λ t. sym (count-longer f a b (omega (arith, ltb-true a b t)) p)) (λ t. count-longer f b a (ltb-false a b t) q)
 
--- the segments that are open are segments
-pub open-below : (g : Timeline) → Sound g → (i : ℕ) → i ≤ size g → (s : ℕ) → openBefore g i s ≡ true → s < length (g .segments)
+-- what is open at the start is a segment
+abbrev pub StartsBelow : Timeline → Type 0
+StartsBelow g = (s : ℕ) → g .start s ≡ true → s < length (g .segments)
+
+-- and then what is open before an event is one
+pub open-below : (g : Timeline) → Sound g → StartsBelow g → (i : ℕ) → i ≤ size g → (s : ℕ) → openBefore g i s ≡ true → s < length (g .segments)
 unfolding openBefore
-open-below g o zero l s h = contradict h refl
-open-below g o (suc i) l s h = go (names (event g i) s) refl (ap (λ (f : ℕ → Bool). f s) (sym (open-suc ∙ open-next g i (omega arith))) ∙ h) (open-below g o i (omega arith) s)
+open-below g o b zero l s h = b s h
+open-below g o b (suc i) l s h = go (names (event g i) s) refl (ap (λ (f : ℕ → Bool). f s) (sym (open-suc ∙ open-next g i (omega arith))) ∙ h) (open-below g o b i (omega arith) s)
   where
     open-suc : openBefore g (suc i) ≡ openBefore g (i + 1)
     open-suc = ap (openBefore g) (sym (add-one i))
@@ -159,11 +136,11 @@ ones-count (x ∷ xs) b =
     one (suc zero) l = refl
     one (suc (suc x)) l = absurd (omega arith)
 
-pub open-count : (g : Timeline) → Sound g → (held : List ℕ) → isOpen held ≡ openBefore g (size g) → sum (bits held) ≡ openAtEnd g
+pub open-count : (g : Timeline) → Sound g → StartsBelow g → (held : List ℕ) → isOpen held ≡ openBefore g (size g) → sum (bits held) ≡ openAtEnd g
 unfolding isOpen openAtEnd
-open-count g o held q =
+open-count g o b held q =
     ones-count (bits held) (all-bits held)
     ∙ count-both (isOpen held) (length (bits held)) (length (g .segments))
     (λ j l. ap (λ (k : ℕ). eqb k 1) (List·getD-eq-default (bits held) 0 l))
-    (λ j l. onBool (isOpen held j) (λ t. absurd (omega (arith, open-below g o (size g) (omega arith) j (ap (λ (f : ℕ → Bool). f j) (sym q) ∙ t)))) (λ t. t))
+    (λ j l. onBool (isOpen held j) (λ t. absurd (omega (arith, open-below g o b (size g) (omega arith) j (ap (λ (f : ℕ → Bool). f j) (sym q) ∙ t)))) (λ t. t))
     ∙ ap (λ (f : ℕ → Bool). count f 0 (length (g .segments))) q

@@ -9,21 +9,21 @@ use Rattle.call_open_set.specs.OpenSet.{bits, isOpen}
 use Rattle.call_sizes.specs.Refusal.{Refusal, firstFault, seek}
 use Rattle.theory_graph.specs.Lists.{pairs, sum}
 use Rattle.theory_timeline.specs.Call.{lent}
-use Rattle.theory_timeline.specs.Events.{Event, afterAll}
+use Rattle.theory_timeline.specs.Events.{Event, SegmentSet, afterAll}
 use Rattle.theory_timeline.specs.Replay.{Faultless, Lent, eventFault, fault, given, listFaults, openAtEnd, shareFaults}
 use Rattle.theory_timeline.specs.Windows.{atStart}
 use Rattle.replay_checks.specs.declared.Checked.{Checked}
 
 -- ---- events
--- the fault of event i of a list, over n junctions and m segments
-unfoldable pub faultOf : ℕ → ℕ → List Event → ℕ → ℕ
-faultOf n m evs i = eventFault n m (afterAll (take i evs) atStart) (getD evs i (0, 0))
+-- the fault of event i of a list, over n junctions and m segments, where those of o are open before it
+unfoldable pub faultOf : ℕ → ℕ → SegmentSet → List Event → ℕ → ℕ
+faultOf n m o evs i = eventFault n m (afterAll (take i evs) o) (getD evs i (0, 0))
 
 -- the first event of t that shows a fault
-unfoldable pub eventsFault : ℕ → ℕ → List Event → ℕ → Refusal
-eventsFault n m evs t =
-    let i : ℕ = seek (λ i. not (eqb (faultOf n m evs i) 0)) 0 t in
-    cond (ltb i t) (faultOf n m evs i, i) (0, 0)
+unfoldable pub eventsFault : ℕ → ℕ → SegmentSet → List Event → ℕ → Refusal
+eventsFault n m o evs t =
+    let i : ℕ = seek (λ i. not (eqb (faultOf n m o evs i) 0)) 0 t in
+    cond (ltb i t) (faultOf n m o evs i, i) (0, 0)
 
 -- an event without a fault, over at most 8,192 segments, where those of a set are open
 pub record EventFits (n : ℕ) (held : List ℕ) (x y : ℕ) : Type 0 where
@@ -34,29 +34,31 @@ pub record EventFits (n : ℕ) (held : List ℕ) (x y : ℕ) : Type 0 where
   pub fine : eventFault n m (isOpen held) (x, y) ≡ 0
 
 -- the first fault, and where there is none the set that is open at the end
-pub record CheckedEvents (n m : ℕ) (evs : List Event) (t code place : ℕ) (held : List ℕ) : Type 0 where
-  pub refusal : (code, place) ≡ eventsFault n m evs t
-  pub last : code ≡ 0 → isOpen held ≡ afterAll evs atStart
+pub record CheckedEvents (n m : ℕ) (o : SegmentSet) (evs : List Event) (t code place : ℕ) (held : List ℕ) : Type 0 where
+  pub refusal : (code, place) ≡ eventsFault n m o evs t
+  pub last : code ≡ 0 → isOpen held ≡ afterAll evs o
 
 -- ---- a whole input
 -- what is known where neither a size nor a length is refused
-pub record CanCheckList (n m t : ℕ) (a b x y : List ℕ) : Type 0 where
+pub record CanCheckList (n m t : ℕ) (a b start x y : List ℕ) : Type 0 where
   pub n-fits : n ≤ 4096
   pub m-fits : m ≤ 8192
   pub t-fits : t ≤ 4096
   pub a-long : m ≤ length a
   pub b-long : m ≤ length b
+  pub start-long : m ≤ length start
   pub x-long : t ≤ length x
   pub y-long : t ≤ length y
 
 -- the tables that are read, which answers and work play no part in
-abbrev pub tablesOf : ℕ → ℕ → ℕ → List ℕ → List ℕ → List ℕ → List ℕ → Lent
-tablesOf n m t a b x y = lent n m t a b x y [] []
+abbrev pub tablesOf : ℕ → ℕ → ℕ → List ℕ → List ℕ → List ℕ → List ℕ → List ℕ → Lent
+tablesOf n m t a b start x y = lent n m t a b start x y [] []
 
--- the first fault of the share, the ends and the events; where there is none, the ones of the set that is open at the end
-pub record CheckedList (n m t p : ℕ) (a b x y : List ℕ) (r : Checked) : Type 0 where
-  pub refusal : (r .code, r .place) ≡ firstFault (shareFaults p ++ listFaults (tablesOf n m t a b x y))
-  pub last : r .code ≡ 0 → (held : List ℕ) × (isOpen held ≡ afterAll (pairs (take t x) (take t y)) atStart) × (r .«open» ≡ sum (bits held))
+-- the first fault of the share, the ends, the starting table and the events; where there is none, the ones of the set that is open at the end
+pub record CheckedList (n m t p : ℕ) (a b start x y : List ℕ) (r : Checked) : Type 0 where
+  pub refusal : (r .code, r .place) ≡ firstFault (shareFaults p ++ listFaults (tablesOf n m t a b start x y))
+  pub last : r .code ≡ 0
+      → (held : List ℕ) × (isOpen held ≡ afterAll (pairs (take t x) (take t y)) (atStart (take m start))) × (r .«open» ≡ sum (bits held))
 
 -- the first fault; where there is none, how many segments are open at the end
 pub record CheckedTables (l : Lent) (p : ℕ) (r : Checked) : Type 0 where

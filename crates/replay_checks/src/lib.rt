@@ -100,12 +100,12 @@ fn after_event(held: [u64; 128], n: usize, x: u16, y: usize) -> [u64; 128]
     }
 }
 
-// The first fault of the t events: the open set is handed on from event to event.
-fn check_events(n: usize, m: usize, t: usize, x: &[u16], y: &[u16]) -> Held
+// The first fault of the t events, where the segments of `first` are open before them: the open set is handed on from event to event.
+fn check_events(n: usize, m: usize, t: usize, x: &[u16], y: &[u16], first: [u64; 128]) -> Held
     requires { ⌜ (t ≤ length (now x)) × (t ≤ length (now y)) × (m ≤ 8192) × (n ≤ 4096) ⌝ }
-    ensures { λ r. ⌜ CheckedEvents n m (pairs (take t (now (x .entry))) (take t (now (y .entry)))) t (r .code) (r .place) (r .held) ⌝ }
+    ensures { λ r. ⌜ CheckedEvents n m (isOpen first) (pairs (take t (now (x .entry))) (take t (now (y .entry)))) t (r .code) (r .place) (r .held) ⌝ }
 {
-    let mut held = [0u64; 128];
+    let mut held = first;
     let mut i: usize = 0;
     // No event before i has a fault, and the set is what is open before i.
     while i < t {
@@ -130,11 +130,11 @@ fn check_events(n: usize, m: usize, t: usize, x: &[u16], y: &[u16]) -> Held
 }
 
 // Internal: the required length of the work table.
-pub fn required(t: usize, n: usize) -> usize
-    requires { ⌜ (t ≤ 4096) × (n ≤ 4096) ⌝ }
-    ensures { λ r. ⌜ r ≡ required t n ⌝ }
+pub fn required(t: usize, n: usize, m: usize) -> usize
+    requires { ⌜ (t ≤ 4096) × (n ≤ 4096) × (m ≤ 8192) ⌝ }
+    ensures { λ r. ⌜ r ≡ required t n m ⌝ }
 {
-    256 * t + 32 * n + 2048
+    256 * t + 32 * n + 8 * m + 2048
 }
 
 // Refusal 2: a table shorter than its least length.
@@ -144,19 +144,22 @@ fn length_fault(
     t: usize,
     a: &[u16],
     b: &[u16],
+    start: &[u16],
     x: &[u16],
     y: &[u16],
     answers: &[u8],
     work: &[u32],
 ) -> Fault
     requires { ⌜ (n ≤ 4096) × (m ≤ 8192) × (t ≤ 4096) ⌝ }
-    ensures { λ r. ⌜ (r .code, r .place) ≡ firstFault (shortTables (lent n m t (now (a .entry)) (now (b .entry)) (now (x .entry)) (now (y .entry))
-        (now (answers .entry)) (now (work .entry)))) ⌝ }
+    ensures { λ r. ⌜ (r .code, r .place) ≡ firstFault (shortTables (lent n m t (now (a .entry)) (now (b .entry)) (now (start .entry)) (now (x .entry))
+        (now (y .entry)) (now (answers .entry)) (now (work .entry)))) ⌝ }
 {
     let tables = [
         a.len(),
         m,
         b.len(),
+        m,
+        start.len(),
         m,
         x.len(),
         t,
@@ -165,7 +168,7 @@ fn length_fault(
         answers.len(),
         t,
         work.len(),
-        required(t, n),
+        required(t, n, m),
     ];
     call_sizes::length_fault(&tables)
 }
@@ -178,11 +181,12 @@ fn check_list(
     p: usize,
     a: &[u16],
     b: &[u16],
+    start: &[u16],
     x: &[u16],
     y: &[u16],
 ) -> Checked
-    requires { ⌜ CanCheckList n m t (now a) (now b) (now x) (now y) ⌝ }
-    ensures { λ r. ⌜ CheckedList n m t p (now (a .entry)) (now (b .entry)) (now (x .entry)) (now (y .entry)) r ⌝ }
+    requires { ⌜ CanCheckList n m t (now a) (now b) (now start) (now x) (now y) ⌝ }
+    ensures { λ r. ⌜ CheckedList n m t p (now (a .entry)) (now (b .entry)) (now (start .entry)) (now (x .entry)) (now (y .entry)) r ⌝ }
 {
     if p < 4 {
         return Checked {
@@ -206,7 +210,16 @@ fn check_list(
             open: 0,
         };
     }
-    let e = check_events(n, m, t, x, y);
+    let u = call_sizes::first_bad_start(m, start);
+    if u < m {
+        return Checked {
+            code: 11,
+            place: u,
+            open: 0,
+        };
+    }
+    let first = call_open_set::from_table(m, start);
+    let e = check_events(n, m, t, x, y, first);
     let held = e.held;
     let open = call_open_set::count(held);
     Checked {
@@ -224,12 +237,13 @@ pub fn check(
     p: usize,
     a: &[u16],
     b: &[u16],
+    start: &[u16],
     x: &[u16],
     y: &[u16],
     answers: &[u8],
     work: &[u32],
 ) -> Checked
-    ensures { λ r. ⌜ CheckedTables (lent n m t (now (a .entry)) (now (b .entry)) (now (x .entry)) (now (y .entry))
+    ensures { λ r. ⌜ CheckedTables (lent n m t (now (a .entry)) (now (b .entry)) (now (start .entry)) (now (x .entry)) (now (y .entry))
         (now (answers .entry)) (now (work .entry))) p r ⌝ }
 {
     let f = call_sizes::size_fault(n, m, t, 0);
@@ -240,7 +254,7 @@ pub fn check(
             open: 0,
         };
     }
-    let s = length_fault(n, m, t, a, b, x, y, answers, work);
+    let s = length_fault(n, m, t, a, b, start, x, y, answers, work);
     if s.code > 0 {
         return Checked {
             code: s.code,
@@ -248,5 +262,5 @@ pub fn check(
             open: 0,
         };
     }
-    check_list(n, m, t, p, a, b, x, y)
+    check_list(n, m, t, p, a, b, start, x, y)
 }

@@ -1,21 +1,22 @@
-use borrow.Author.Needs.{needs}
 -- Events without a fault so far, with the set open before the next one.
 use Prim.Native.Nat.{_-_}
-use mathlib.Core.Path.{refl}
 use native.Mathlib.Omega.{arith}
+use borrow.Author.Needs.{needs}
+use Rattle.call_open_set.specs.OpenSet.{isOpen}
 use Rattle.replay_checks.proofs.CheckLaws.{Passing, event-fits, event-passes, event-refused, events-pass, passing-none}
-use Rattle.replay_checks.proofs.SetLaws.{none-open}
 use Rattle.replay_checks.proofs.check_events.Statement.{statement}
 use Rattle.replay_checks.proofs.check_events.Tie as tie
 
 abbrev Inv-loop : tie.InvT-loop
-Inv-loop n m t x y held₀ i₀ held i = Passing n m t x y held i
+Inv-loop n m t x y held₀ i₀ held i = Passing n m (isOpen held₀) t x y held i
 
 abbrev μ-loop : tie.MeasureT-loop
 μ-loop n m t x y held₀ i₀ held i = t - i
 
 loop-holds : tie.Need-loop-holds Inv-loop μ-loop
-loop-holds c = passing-none _ _ _ _ _ _ refl (none-open 128)
+loop-holds c =
+    let start = c .before .before in
+    passing-none _ _ _ _ _ _ (start .good .1 .1 .1 .1 .1 .0 .1 .0 .1)
 
 cast-s : tie.Need-cast-s Inv-loop μ-loop
 cast-s c = omega (arith, c .shared-slice-known4 .given (c .before .before .before .loop .i))
