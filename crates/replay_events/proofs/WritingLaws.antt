@@ -26,8 +26,8 @@ use Rattle.theory_timeline.specs.Tags.{bit, eventWords, key, last, namesKey, ne
 use Rattle.theory_timeline.specs.Windows.{Timeline, active, during, event, openBefore, size}
 use Rattle.theory_timeline.specs.declared.Kind.{Kind}
 use Rattle.theory_timeline.specs.declared.Kind.the-variants.{Closes, Nothing, Opens, Query}
-use Rattle.replay_step.proofs.StepLaws.{map-self}
-use Rattle.replay_step.proofs.WordLaws.{mid-sets}
+use Rattle.replay_step.proofs.WordLaws.{map-self, mid-sets}
+use Rattle.replay_step.specs.Area.{EventsIn}
 use Rattle.replay_events.specs.Writing.{CanWriteEvents, EventsWritten, LinkRoom, LinkedEvent, TagsFit, Written, endsBy, isQuery, junctionsBy}
 use Rattle.replay_events.specs.Writing.{keyOf, lastBy, listOf, namesTag, nextBy, queriesBy, tagBy, tagsBy, tagsIn}
 
@@ -126,7 +126,7 @@ seek-same f h i zero e = refl
 seek-same f h i (suc k) e = ap₂ (λ (b : Bool) (r : ℕ). cond b i r) (e i (omega arith) (omega arith)) (seek-same f h (i + 1) k (λ j a b. e j (omega arith) (omega arith)))
 
 module _ (g : Timeline) (T : ℕ → ℕ) (h : (j : ℕ) → j < size g → T j ≡ word g 0 j) where
-  names-tag : (k j : ℕ) → j < size g → namesTag T k j ≡ namesKey g k j
+  pub names-tag : (k j : ℕ) → j < size g → namesTag T k j ≡ namesKey g k j
   names-tag k j l = ap (λ (x : ℕ). ltb 0 x && eqb k (keyOf x)) (h j l) ∙ onBool (asks (event g j))
       (λ q. ap (λ (x : ℕ). ltb 0 x && eqb k (keyOf x)) (word-query g j 0 q) ∙ sym (names-none g j k q))
       (λ q. let s = tag-says g j in
@@ -220,6 +220,9 @@ pairs-most [] y i l = omega arith
 pairs-most (u ∷ x) [] i l = omega arith
 pairs-most (u ∷ x) (v ∷ y) zero l = absurd (omega arith)
 pairs-most (u ∷ x) (v ∷ y) (suc i) l = omega (arith, pairs-most x y i (omega arith))
+
+pub pairs-equal : (x y : List ℕ) → length y ≡ length x → length (pairs x y) ≡ length x
+pairs-equal x y e = omega (arith, pairs-length x y (length x) (omega arith) (omega arith), pairs-most x y (length x) (omega arith))
 
 junctions-all : (n : ℕ) (segs : List Edge) (x y : List ℕ) (i : ℕ) (w z : List ℕ) → i ≡ length x → z ≡ sets w 0 (junctionsBy n segs (take i (pairs x y)))
     → z ≡ sets w 0 (junctionsBy n segs (pairs x y))
@@ -421,6 +424,12 @@ tag-most : (g : Timeline) (j : ℕ) → tag g j ≤ 4 * key g j + 4
 unfolding tag
 tag-most g j = omega (arith, bit-most (openBefore g j (key g j)), bit-most (openBefore g (j + 1) (key g j)))
 
+-- a tag has a key below 8,192
+pub word-most : (g : Timeline) → Sound g → (j : ℕ) → j < size g → word g 0 j ≤ 32768
+word-most g sound j l = onBool (asks (event g j))
+    (λ h. omega (arith, word-query g j 0 h))
+    (λ h. omega (arith, word-change g j h .0, tag-most g j, sound-segment g sound j l h, sound .segments-few))
+
 same-front : (k : ℕ) (w z : List ℕ) → length z ≡ length w → ((d : ℕ) → d < k → getD z d 0 ≡ getD w d 0) → take k z ≡ take k w
 same-front k w z l h = ext-getD 0 (take k z) (take k w) (length-take k z ∙ ap (λ (n : ℕ). min k n) l ∙ sym (length-take k w)) λ i u.
     let b : i < k = omega (arith, length-take k z) in
@@ -428,13 +437,13 @@ same-front k w z l h = ext-getD 0 (take k z) (take k w) (length-take k z ∙ ap 
 
 module _ {n : ℕ} {a b x y w : List ℕ} (q : CanWriteEvents n a b x y w) where
   abbrev g : Timeline
-  g = listOf n a b x y
+  g = listOf n a b (q .start) x y
 
   abbrev t : ℕ
   t = length x
 
   pub size-is : size g ≡ t
-  size-is = let p = pairs-length x y t (omega arith) (omega (arith, q .events)) in omega (arith, pairs-most x y t (omega arith))
+  size-is = pairs-equal x y (q .events)
 
   event-is : (i : ℕ) → i < t → event g i ≡ (getD x i 0, getD y i 0)
   event-is i l = pairs-at x y i l (omega (arith, q .events))
@@ -466,9 +475,7 @@ module _ {n : ℕ} {a b x y w : List ℕ} (q : CanWriteEvents n a b x y w) where
     tags-fit = record {
       much = q .much;
       room = omega (arith, q .room, P₀ .long, length-1);
-      keys = λ j l. let s : j < size g = omega (arith, size-is) in onBool (asks (event g j))
-          (λ h. omega (arith, tags-2 j s, word-query g j 0 h))
-          (λ h. omega (arith, tags-2 j s, word-change g j h .0, tag-most g j, sound-segment g (q .sound) j s h, q .sound .segments-few));
+      keys = λ j l. let s : j < size g = omega (arith, size-is) in omega (arith, tags-2 j s, word-most g (q .sound) j s);
     }
 
     module _ {w₃ : List ℕ} (P₂ : Written t 2 (lastBy (tagsIn t w₂)) 0 t w₂ w₃) where
@@ -501,8 +508,8 @@ module _ {n : ℕ} {a b x y w : List ℕ} (q : CanWriteEvents n a b x y w) where
             P₁ .else (2 * t + 3 * j + 2) (λ i c v r. omega arith) ∙ P₂ .here j (omega arith) l ∙ last-word g (tagsIn t w₂) tags-2 j (omega (arith, size-is))
         word-4 j (suc (suc (suc k))) l u = absurd (omega arith)
 
-        pub events-written : EventsWritten n a b x y w₄
-        events-written = record {
+        events-stand : EventsIn (listOf n a b (q .start) x y) (0, length x) (λ u. u) (take (5 * length x) w₄)
+        events-stand = record {
           places =
               let lj : length J ≡ 2 * t = junctions-length n (pairs a b) (pairs x y) ∙ ap (λ (k : ℕ). 2 * k) size-is in
               take-take (2 * t) (5 * t) w₄ (omega arith)
@@ -520,3 +527,11 @@ module _ {n : ℕ} {a b x y w : List ℕ} (q : CanWriteEvents n a b x y w) where
               ∙ ap (λ (k : ℕ). getD w₄ k 0) s ∙ word-4 (i / 3) (i % 3) (omega arith) (omega arith)
               ∙ sym (ap (λ (k : ℕ). getD (eventWords g 0 t) k 0) z ∙ words-at g 0 t (i / 3) (i % 3) (omega arith) (omega arith) ∙ ap (word g (i % 3)) d);
         }
+
+-- the words are the same whatever is open at the start
+pub events-written : {n : ℕ} {a b x y w : List ℕ} (q : CanWriteEvents n a b x y w) {w₁ w₂ w₃ w₄ : List ℕ} → w₁ ≡ sets w 0 (junctionsBy n (pairs a b) (pairs x y))
+    → Written (length x) 0 (tagsBy n x y) 0 (length x) w₁ w₂ → Written (length x) 2 (lastBy (tagsIn (length x) w₂)) 0 (length x) w₂ w₃
+    → Written (length x) 1 (nextBy (tagsIn (length x) w₃) (length x)) 0 (length x) w₃ w₄ → EventsWritten n a b x y w₄
+events-written {n} {a} {b} {x} {y} {w} q e₁ P₀ P₂ P₁ o sound =
+    let r : CanWriteEvents n a b x y w = record { start = o; sound = sound; segments = q .segments; events = q .events; much = q .much; room = q .room } in
+    events-stand r e₁ P₀ P₂ P₁

@@ -10,7 +10,7 @@ use Rattle.call_sizes.specs.Refusal.{seek}
 use Rattle.theory_graph.specs.Graph.{Edge}
 use Rattle.theory_graph.specs.Lists.{pairs}
 use Rattle.replay_step.specs.Area.{EventsIn}
-use Rattle.theory_timeline.specs.Events.{Event, kindOf}
+use Rattle.theory_timeline.specs.Events.{Event, SegmentSet, kindOf}
 use Rattle.theory_timeline.specs.Steps.{Sound}
 use Rattle.theory_timeline.specs.Tags.{seekLast}
 use Rattle.theory_timeline.specs.Windows.{Timeline}
@@ -87,16 +87,19 @@ pub record LinkedEvent (t i k v : ℕ) (heads w heads′ w′ : List ℕ) : Type
   pub query : ltb 0 (tagsIn t w i) ≡ false → (w′ ≡ set w (2 * t + 3 * i + k) 0) × (heads′ ≡ heads)
 
 -- ---- the whole
-abbrev pub listOf : ℕ → List ℕ → List ℕ → List ℕ → List ℕ → Timeline
-listOf n a b x y = record { junctions = n; segments = pairs a b; events = pairs x y }
+-- the list of these tables, where the segments of o are open at the start
+abbrev pub listOf : ℕ → List ℕ → List ℕ → SegmentSet → List ℕ → List ℕ → Timeline
+listOf n a b o x y = record { junctions = n; segments = pairs a b; start = o; events = pairs x y }
 
 -- a list without a fault, and room for what is written
 pub record CanWriteEvents (n : ℕ) (a b x y w : List ℕ) : Type 0 where
-  pub sound : Sound (listOf n a b x y)
+  pub start : SegmentSet
+  pub sound : Sound (listOf n a b start x y)
   pub segments : length b ≡ length a
   pub events : length y ≡ length x
   pub much : length x ≤ 4096
   pub room : 5 * length x ≤ length w
 
+-- the events stand in the words, whatever is open at the start of a list without a fault
 abbrev pub EventsWritten : ℕ → List ℕ → List ℕ → List ℕ → List ℕ → List ℕ → Type 0
-EventsWritten n a b x y z = EventsIn (listOf n a b x y) (0, length x) (λ u. u) (take (5 * length x) z)
+EventsWritten n a b x y z = (o : SegmentSet) → Sound (listOf n a b o x y) → EventsIn (listOf n a b o x y) (0, length x) (λ u. u) (take (5 * length x) z)

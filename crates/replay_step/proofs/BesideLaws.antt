@@ -1,24 +1,22 @@
 -- The events beside a part: whether one adds its key, its edge loaded, and events one after another.
 -- Assumes nothing.
-use Prim.Native.Nat.{_*_, _+_, _-_, _<_, _≤_, suc, ℕ}
+use Prim.Native.Nat.{_*_, _+_, _-_, _<_, _≤_, ℕ}
 use mathlib.Core.Bool.{Bool, _&&_, cond, false, true}
-use mathlib.Core.List.{List, [], _∷_}
-use mathlib.Core.Path.{_∙_, _≡_, ap, ap₂, refl, sym}
+use mathlib.Core.List.{List}
+use mathlib.Core.Path.{_∙_, _≡_, ap, ap₂, sym}
 use lib.Dec.{leb, ltb}
 use lib.ListN.{drop, getD, length, length-drop, length-take, take}
 use native.Mathlib.Omega.{arith}
 use borrow.Author.Tests.{le-leb, le-ltb, lt-leb, lt-ltb}
-use borrow.Rule.Slice.PartMut.{putMid, same-len-mid}
+use borrow.Rule.Slice.PartMut.{putMid}
 use Rattle.core_loading.specs.Loading.{PutEdge}
-use Rattle.theory_graph.specs.Cut.{crosses, cut}
-use Rattle.theory_graph.specs.Graph.{Edge}
-use Rattle.theory_timeline.proofs.TagLaws.{pick-ext-events, pick-snoc}
+use Rattle.theory_timeline.proofs.TagLaws.{pick-ext-events}
 use Rattle.theory_timeline.specs.Tags.{adds, isOpenAfter, pickEvents, wasOpen}
 use Rattle.theory_timeline.specs.Windows as Windows
-use Rattle.replay_step.proofs.EdgeLaws.{edged-more, edges-more}
+use Rattle.replay_step.proofs.EdgeLaws.{added-more, added-none, added-put, added-skip}
 use Rattle.replay_step.proofs.WordLaws.{front-get}
 use Rattle.replay_step.specs.Area.{span}
-use Rattle.replay_step.specs.Load.{AddReady, Added, Edged, addsIn, placesIn, scratch}
+use Rattle.replay_step.specs.Load.{AddReady, Added, addsIn, placesIn, scratch}
 use Rattle.replay_step.specs.declared.Part.{Part}
 use Rattle.replay_step.specs.declared.Window.{Window}
 
@@ -53,17 +51,9 @@ pub adds-same : (w c : Windows.Window) (e : ℕ) {t t′ x x′ y y′ : ℕ} �
 adds-same w c e {t′ = t′} {x′ = x′} {y = y} a b d = ap₂ (λ (t x : ℕ). adds w c e t x y) a b ∙ ap (adds w c e t′ x′) d
 
 -- ---- one event
-one-event : (f : ℕ → Bool) (E : ℕ → Edge) (i : ℕ) (b : Bool) → f i ≡ b → pickEvents f E i (i + 1 - i) ≡ cond b (E i ∷ []) []
-one-event f E i b e = let z : i + 1 - i ≡ 1 = omega arith in ap (λ (n : ℕ). pickEvents f E i n) z ∙ ap (λ (t : Bool). cond t (E i ∷ []) []) e
-
 module _ {w : Window} {p : Part} {i m : ℕ} {v : List ℕ} (q : AddReady w p i (i + 1) m v) where
   pub add-none : addsIn w p v i ≡ false → Added w p i (i + 1) m v v m
-  add-none e = record {
-    long = refl;
-    edged = record { front = refl; nodes = λ j l u b. refl; ends = q .ends };
-    more = λ U. omega (arith, ap (cut U) (one-event (addsIn w p v) (placesIn v) i false e));
-    most = omega arith;
-  }
+  add-none e = added-skip (q .ends) e
 
   pub add-need : (a b : ℕ) → a ≡ getD v (2 * i) 0 → b ≡ getD v (2 * i + 1) 0
       → (16 * w .nodes + 4 * m + 4 ≤ length (take (length v - scratch p) (drop (scratch p) v))) × (a < 65536) × (b < 65536) × (w .nodes ≤ 65536) × (m < 32768)
@@ -76,15 +66,8 @@ module _ {w : Window} {p : Part} {i m : ℕ} {v : List ℕ} (q : AddReady w p i 
       → PutEdge (w .nodes) m a b (take (length v - scratch p) (drop (scratch p) v)) zs
       → Added w p i (i + 1) m v (putMid (scratch p) (length v - scratch p) v zs) (m + 1)
   add-put e a b ea eb zs k =
-      let s = scratch p in
-      let h : s ≤ length v = omega (arith, q .room) in
-      let none : Edged s (w .nodes) m v v = record { front = refl; nodes = λ j l u b. refl; ends = q .ends } in
-      record {
-        long = same-len-mid s (length v - s) v zs (k .same);
-        edged = edged-more none k h (omega (arith, q .nodes (2 * i) (omega (arith, q .inside)))) (omega (arith, q .nodes (2 * i + 1) (omega (arith, q .inside))));
-        more = λ U. omega (arith, edges-more none k h U, ap (cut U) (one-event (addsIn w p v) (placesIn v) i true e), ap₂ (λ (x y : ℕ). crosses (U x) (U y)) ea eb);
-        most = omega arith;
-      }
+      added-put (q .ends) e (ap₂ (λ (x y : ℕ). (x, y)) ea eb) (omega (arith, q .nodes (2 * i) (omega (arith, q .inside))))
+      (omega (arith, q .nodes (2 * i + 1) (omega (arith, q .inside)))) (omega (arith, q .room)) k
 
 -- the front of the words decides which events add their keys, and their edges
 pub beside-same : (w : Window) (p : Part) (v z : List ℕ) → ((d : ℕ) → d < 5 * w .events → getD z d 0 ≡ getD v d 0) → (i k : ℕ) → i + k ≤ w .events
@@ -97,12 +80,7 @@ beside-same w p v z h i k l = pick-ext-events (addsIn w p z) (addsIn w p v) (pla
 -- ---- events one after another
 module _ {w : Window} {p : Part} {i j m : ℕ} {v : List ℕ} (q : AddReady w p i j m v) where
   pub adding-none : Added w p i i m v v m
-  adding-none = let z : i - i ≡ 0 = omega arith in record {
-    long = refl;
-    edged = record { front = refl; nodes = λ k l u b. refl; ends = q .ends };
-    more = λ U. omega (arith, ap (λ (n : ℕ). cut U (pickEvents (addsIn w p v) (placesIn v) i n)) z);
-    most = omega arith;
-  }
+  adding-none = added-none (q .ends)
 
   module _ {e k : ℕ} {z : List ℕ} (a : Added w p i e m v z k) (lo : i ≤ e) (l : e < j) where
     front-is : (d : ℕ) → d < 5 * w .events → getD z d 0 ≡ getD v d 0
@@ -122,26 +100,7 @@ module _ {w : Window} {p : Part} {i j m : ℕ} {v : List ℕ} (q : AddReady w p 
     }
 
     pub adding-more : {y : List ℕ} {r : ℕ} → Added w p e (e + 1) k z y r → Added w p i (e + 1) m v y r
-    adding-more {y} {r} b =
-        let s = scratch p in
-        record {
-          long = b .long ∙ a .long;
-          edged = record {
-            front = b .edged .front ∙ a .edged .front;
-            nodes = λ d x u c. b .edged .nodes d x u c ∙ a .edged .nodes d x u c;
-            ends = b .edged .ends;
-          };
-          more = λ U.
-              let n1 : e + 1 - e ≡ 1 = omega arith in
-              let n2 : e + 1 - i ≡ suc (e - i) = omega arith in
-              let n3 : i + (e - i) ≡ e = omega arith in
-              let c1 = ap (λ (n : ℕ). cut U (pickEvents (addsIn w p z) (placesIn z) e n)) n1 in
-              let c2 = ap (cut U) (beside-same w p v z front-is e 1 (omega (arith, q .inside))) in
-              let c3 = ap (λ (n : ℕ). cut U (pickEvents (addsIn w p v) (placesIn v) i n)) n2 ∙ pick-snoc U (addsIn w p v) (placesIn v) i (e - i)
-              ∙ ap (λ (n : ℕ). cut U (pickEvents (addsIn w p v) (placesIn v) i (e - i)) + cut U (pickEvents (addsIn w p v) (placesIn v) n 1)) n3 in
-              omega (arith, b .more U, a .more U, c1, c2, c3);
-          most = omega (arith, a .most, b .most);
-        }
+    adding-more b = added-more a lo b (beside-same w p v z front-is e 1 (omega (arith, q .inside)))
 
   pub adding-all : {e k : ℕ} {z : List ℕ} → Added w p i e m v z k → e ≡ j → Added w p i j m v z k
   adding-all a x = rw x at a

@@ -1,6 +1,8 @@
--- Edges written one after another into the half-edges behind a front: one edge, the edges of an area copied, and the loop that copies them.
+-- Edges written one after another into the half-edges behind a front: one edge, the edges of the numbers that pass, the edges of an area copied, and the
+-- loop that copies them.
 -- Assumes nothing.
 use Prim.Native.Nat.{_*_, _+_, _-_, _<_, _≤_, suc, zero, ℕ}
+use mathlib.Core.Bool.{Bool, cond, false, true}
 use mathlib.Core.List.{List, [], _++_, _∷_}
 use mathlib.Core.Path.{_∙_, _≡_, ap, ap₂, refl, sym}
 use lib.Dec.{eqb}
@@ -18,10 +20,12 @@ use Rattle.theory_graph.proofs.SmallGraphs.{low}
 use Rattle.theory_graph.specs.Cut.{crosses, cut}
 use Rattle.theory_graph.specs.Graph.{Edge, NodeSet}
 use Rattle.theory_graph.specs.Lists.{pairs, table}
+use Rattle.theory_timeline.proofs.TagLaws.{pick-snoc}
+use Rattle.theory_timeline.specs.Tags.{pickEvents}
 use Rattle.replay_step.proofs.WordLaws.{drop-back, front-get, take-whole}
 use Rattle.replay_step.specs.Area.{areaEdges}
 use Rattle.core_loading.specs.Loading.{PutEdge}
-use Rattle.replay_step.specs.Load.{Copied, EdgesReady, Edged}
+use Rattle.replay_step.specs.Load.{AddedBy, Copied, EdgesReady, Edged}
 use Rattle.core_words.specs.Fields.{TO, half, node}
 
 -- the first j edges, and the edge behind them
@@ -69,6 +73,52 @@ module _ {s n j a b : ℕ} {w z zs : List ℕ} (k : Edged s n j w z) (p : PutEdg
       ∙ ap (λ (k : ℕ). crosses (U (half n TO zs (2 * k))) (U (half n TO zs (2 * k + 1))) + cut U (edgesIn n j zs)) y
       ∙ ap₂ _+_ (ap₂ (λ x y. crosses (U x) (U y)) (p .first) (p .second))
       (ap (cut U) (edges-ext n j 0 (drop s z) zs (λ h u. p .else h (omega arith) ∙ ap (λ y. half n TO y h) (take-whole s z))))
+
+-- ---- edges of the numbers that pass, one number after another
+one-number : (f : ℕ → Bool) (E : ℕ → Edge) (i : ℕ) (b : Bool) → f i ≡ b → pickEvents f E i (i + 1 - i) ≡ cond b (E i ∷ []) []
+one-number f E i b e = let z : i + 1 - i ≡ 1 = omega arith in ap (λ (n : ℕ). pickEvents f E i n) z ∙ ap (λ (t : Bool). cond t (E i ∷ []) []) e
+
+edged-none : (s n m : ℕ) (v : List ℕ) → ((h : ℕ) → h < 2 * m → half n TO (drop s v) h < n) → Edged s n m v v
+edged-none s n m v e = record { front = refl; nodes = λ j l u b. refl; ends = e }
+
+module _ {s n : ℕ} {f : ℕ → Bool} {E : ℕ → Edge} {i m : ℕ} {v : List ℕ} (ends : (h : ℕ) → h < 2 * m → half n TO (drop s v) h < n) where
+  pub added-none : AddedBy s n f E i i m v v m
+  added-none =
+      let z : i - i ≡ 0 = omega arith in
+      record { long = refl; edged = edged-none s n m v ends; more = λ U. omega (arith, ap (λ (k : ℕ). cut U (pickEvents f E i k)) z); most = omega arith }
+
+  pub added-skip : f i ≡ false → AddedBy s n f E i (i + 1) m v v m
+  added-skip e = record { long = refl; edged = edged-none s n m v ends; more = λ U. omega (arith, ap (cut U) (one-number f E i false e)); most = omega arith }
+
+  pub added-put : f i ≡ true → {a b : ℕ} → (a, b) ≡ E i → a < n → b < n → s ≤ length v → {zs : List ℕ} → PutEdge n m a b (take (length v - s) (drop s v)) zs
+      → AddedBy s n f E i (i + 1) m v (putMid s (length v - s) v zs) (m + 1)
+  added-put e {a} {b} ee la lb h {zs} k = record {
+    long = same-len-mid s (length v - s) v zs (k .same);
+    edged = edged-more (edged-none s n m v ends) k h la lb;
+    more = λ U. omega (arith, edges-more (edged-none s n m v ends) k h U, ap (cut U) (one-number f E i true e), ap (λ (x : Edge). crosses (U (x .0)) (U (x .1))) ee);
+    most = omega arith;
+  }
+
+pub added-more : {s n : ℕ} {f f′ : ℕ → Bool} {E E′ : ℕ → Edge} {i e m k r : ℕ} {v z y : List ℕ} → AddedBy s n f E i e m v z k → i ≤ e
+    → AddedBy s n f′ E′ e (e + 1) k z y r → pickEvents f′ E′ e 1 ≡ pickEvents f E e 1 → AddedBy s n f E i (e + 1) m v y r
+added-more {f = f} {f′} {E} {E′} {i} {e} a lo b alike = record {
+  long = b .long ∙ a .long;
+  edged = record {
+    front = b .edged .front ∙ a .edged .front;
+    nodes = λ d x u c. b .edged .nodes d x u c ∙ a .edged .nodes d x u c;
+    ends = b .edged .ends;
+  };
+  more = λ U.
+      let n1 : e + 1 - e ≡ 1 = omega arith in
+      let n2 : e + 1 - i ≡ suc (e - i) = omega arith in
+      let n3 : i + (e - i) ≡ e = omega arith in
+      let c1 = ap (λ (n : ℕ). cut U (pickEvents f′ E′ e n)) n1 in
+      let c2 = ap (cut U) alike in
+      let c3 = ap (λ (n : ℕ). cut U (pickEvents f E i n)) n2 ∙ pick-snoc U f E i (e - i)
+      ∙ ap (λ (n : ℕ). cut U (pickEvents f E i (e - i)) + cut U (pickEvents f E n 1)) n3 in
+      omega (arith, b .more U, a .more U, c1, c2, c3);
+  most = omega (arith, a .most, b .most);
+}
 
 -- ---- the copied edges
 pairs-snoc : (a b : List ℕ) (x y : ℕ) → length a ≡ length b → pairs (a ++ (x ∷ [])) (b ++ (y ∷ [])) ≡ pairs a b ++ ((x, y) ∷ [])

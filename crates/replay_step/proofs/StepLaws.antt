@@ -1,5 +1,5 @@
--- The step: what its pieces need, what is loaded for a part, and the small graph of the part; then the same for the whole list.
--- In order: the words of a part; what each piece needs; what is loaded; the step; the whole list.
+-- The step: what its pieces need, what is loaded for a part, and the small graph of the part.
+-- In order: the words of a part; what each piece needs; what is loaded; the step.
 -- Assumes nothing.
 use Prim.Native.Nat.{_*_, _+_, _-_, _<_, _≤_, suc, zero, ℕ}
 use mathlib.Core.List.{List, [], _++_, _∷_, map}
@@ -29,7 +29,7 @@ use Rattle.theory_graph.specs.Lists.{pairs}
 use Rattle.theory_graph.specs.SmallGraph.{image}
 use Rattle.theory_timeline.proofs.Acceptance.{sound-good, sound-segment}
 use Rattle.theory_timeline.proofs.DemandThree.{small-is}
-use Rattle.theory_timeline.proofs.Networks.{middle, network-start, part-small}
+use Rattle.theory_timeline.proofs.Networks.{middle, part-small}
 use Rattle.theory_timeline.proofs.TagLaws.{events-added, pick-image, pick-shift, words-at, words-part}
 use Rattle.theory_timeline.specs.Events.{Event, activeOf, ends}
 use Rattle.theory_timeline.specs.Steps as Steps
@@ -39,8 +39,8 @@ use Rattle.theory_timeline.specs.Windows as Windows
 use Rattle.theory_timeline.specs.Windows.{Timeline, active, during, event, network, size}
 use Rattle.replay_step.proofs.BesideLaws.{adds-same, beside-same}
 use Rattle.replay_step.proofs.WordLaws.{front-get, low-map, mid-less, mid-take, take-less}
-use Rattle.replay_step.specs.Area.{Area, EventsIn, SmallArea, StepReady, Stepped, WholeMade, WholeReady, areaEdges, span}
-use Rattle.replay_step.specs.Load.{ActiveReady, Actives, AddReady, Added, AreaMade, Copied, EdgesReady, IsPart, MakeReady, PartLoaded, WholeLoaded, addsIn, placesIn, scratch}
+use Rattle.replay_step.specs.Area.{Area, EventsIn, SmallArea, StepReady, Stepped, areaEdges, span}
+use Rattle.replay_step.specs.Load.{ActiveReady, Actives, AddReady, Added, AreaMade, Copied, EdgesReady, IsPart, PartLoaded, addsIn, placesIn, scratch}
 use Rattle.replay_step.specs.declared.Graph.{Graph}
 use Rattle.replay_step.specs.declared.Part.{Part}
 use Rattle.replay_step.specs.declared.Window.{Window}
@@ -95,7 +95,7 @@ part-places g w c h σ =
     ∙ ap (λ l. map σ (activeOf (g .segments) l)) (middle g w c h)
 
 -- active nodes that are entered, seen through other words
-entered-same : {n k : ℕ} {S : List ℕ} {mark act mark′ act′ : ℕ → ℕ} → Entered n S k mark act → ((v : ℕ) → v < n → mark′ v ≡ mark v)
+pub entered-same : {n k : ℕ} {S : List ℕ} {mark act mark′ act′ : ℕ → ℕ} → Entered n S k mark act → ((v : ℕ) → v < n → mark′ v ≡ mark v)
     → ((v : ℕ) → v < n → act′ v ≡ act v) → Entered n S k mark′ act′
 entered-same {n} {k} {S} {mark} {act} {mark′} {act′} e f h =
     let m = entered-most e in
@@ -255,7 +255,7 @@ abbrev pub windowOf : Part → Counts → Window
 windowOf p r = record { at = p .at; events = p .events; nodes = r .nodes; edges = r .edges }
 
 -- a small graph of a window's network, in the words that the reader knows
-small-area : (g : Timeline) → Sound g → (r : Window) {z : List ℕ} {ρ σ : ℕ → ℕ} → SmallGraph (network g (span r)) (active g (span r)) (r .nodes) (areaEdges (r .events) (r .edges) z) ρ σ
+pub small-area : (g : Timeline) → Sound g → (r : Window) {z : List ℕ} {ρ σ : ℕ → ℕ} → SmallGraph (network g (span r)) (active g (span r)) (r .nodes) (areaEdges (r .events) (r .edges) z) ρ σ
     → EventsIn g (span r) σ z → SmallArea g r z
 small-area g sound r {σ = σ} s e = record {
   σ = σ;
@@ -392,66 +392,3 @@ module _ {w : Window} {p : Part} {v : List ℕ} (st : StepReady w (p .at) (p .ev
     front = ap (λ (k : ℕ). take k y) (sym (ip .area)) ∙ am .front ∙ take-less (p .area) S v z (omega arith) (pl .front) ∙ ap (λ (k : ℕ). take k v) (ip .area);
     made = part-made;
   })
-
--- ---- the whole list
-pub map-self : (S : List ℕ) → map (λ a. a) S ≡ S
-map-self [] = refl
-map-self (a ∷ S) = ap (λ l. a ∷ l) (map-self S)
-
-abbrev above : ℕ → Part
-above t = record { at = 0; events = t; places = 0; words = 2 * t; area = 5 * t }
-
-module _ {n t : ℕ} {v : List ℕ} (q : WholeReady n t v) where
-  listed : (i : ℕ) → i < 2 * t → getD v i 0 < n
-  listed i l =
-      let g = q .g in
-      let A = active g (0, t) in
-      let z : length A ≡ 2 * t = window-length g 0 t (omega (arith, q .all)) in
-      let b : getD (map (λ a. a) A) i 0 < n = low-map n (λ a. a) A i (λ a m. omega (arith, sound-good g (q .sound) .active (0, t) a m, q .junctions)) (omega arith) in
-      let e : getD v i 0 ≡ getD (map (λ a. a) A) i 0 =
-      sym (getD-take (5 * t) v i 0 (omega arith)) ∙ sym (getD-take (2 * t) (take (5 * t) v) i 0 l) ∙ ap (λ k. getD k i 0) (q .events .places) in
-      omega arith
-
-  pub whole-active : ActiveReady 0 (2 * t) (5 * t + 13 * t) n v
-  whole-active = record {
-    front = omega arith;
-    room = omega (arith, q .room);
-    many = omega (arith, q .sound .few, q .junctions);
-    nodes = λ i l. let z : 0 + i ≡ i = omega arith in omega (arith, ap (λ k. getD v k 0) z, listed i l);
-  }
-
-  module _ {z : List ℕ} {l : Graph} (wl : WholeLoaded n (above t) v z l) (lz : length z ≡ length v) where
-    pub whole-ready : MakeReady (above t) l z
-    whole-ready = record {
-      places = omega arith;
-      words = omega arith;
-      room = omega (arith, q .room, wl .nodes, wl .edges);
-      much = q .much;
-      many = omega (arith, q .sound .few, q .junctions, wl .nodes);
-      few = omega (arith, wl .edges);
-      nodes = λ i u. omega (arith, whole-active .nodes i u, front-get (5 * t + 13 * t) (0 + i) v z (wl .actives .front) (omega arith), wl .nodes);
-      entered = rw (wl .nodes, mid-less 0 (2 * t) (5 * t + 13 * t) v z (omega arith) (omega arith) (omega arith) (wl .actives .front)) (wl .actives .entered);
-      ends = λ h u. absurd (omega (arith, wl .edges));
-    }
-
-    module _ {y : List ℕ} {r : Counts} (am : AreaMade (above t) l z y r) where
-      front-z : (i k : ℕ) → i + k ≤ 5 * t → take k (drop i z) ≡ take k (drop i (take (5 * t) v))
-      front-z i k h =
-          mid-less i k (5 * t + 13 * t) v z (omega arith) (omega (arith, q .room)) (omega (arith, q .room)) (wl .actives .front)
-          ∙ sym (mid-take i k (5 * t) v h (omega (arith, q .room)))
-
-      pub whole-made : WholeMade n t v y (windowOf (above t) r)
-      whole-made = record {
-        at = refl;
-        events = refl;
-        made = λ g sound j all ev.
-            let T : take (2 * t) (drop 0 z) ≡ active g (0, t) = front-z 0 (2 * t) (omega arith) ∙ ev .places ∙ map-self (active g (0, t)) in
-            let E : edgesIn (l .nodes) (l .edges) (drop (5 * t + 13 * t) z) ≡ network g (0, t) = ap (λ (k : ℕ). edgesIn (l .nodes) k (drop (5 * t + 13 * t) z))
-            (wl .edges) ∙ sym (network-start g t) in
-            let s : SmallGraph (network g (0, t)) (active g (0, t)) (r .nodes) (areaEdges t (r .edges) (take (13 * t) (drop (5 * t) y))) (am .ρ) (am .σ) =
-            rw (E, T) at (definition-small _ _ _ _ _ _ (am .small)) in
-            small-area g sound (windowOf (above t) r) s (record {
-              places = am .places ∙ ap (map (am .σ)) T;
-              words = am .words ∙ front-z (2 * t) (3 * t) (omega arith) ∙ ev .words;
-            });
-      }

@@ -1,5 +1,6 @@
 -- Laws of words that are written in order, of a front that stays, and of parts of lists.
--- In order: tables of values; runs of stores; fronts and backs of a list of words; fields written from behind the front.
+-- In order: tables of values; runs of stores; fronts and backs of a list of words; fields written from behind the front; a map that
+-- moves nothing.
 -- Assumes nothing.
 use Prim.Native.Nat.{_*_, _+_, _-_, _<_, _≤_, suc, zero, ℕ}
 use mathlib.Core.List.{List, List·Memᴰ, List·Memᴰ·head, List·Memᴰ·tail, [], _++_, _∷_, append-assoc, map}
@@ -165,3 +166,8 @@ copy-step l w from q i e h =
 
 pub copy-length : (l : List ℕ) (from q i : ℕ) {w : List ℕ} → w ≡ sets l q (table (λ j. getD l (from + j) 0) 0 i) → length w ≡ length l
 copy-length l from q i e = fill-length l q (table (λ j. getD l (from + j) 0) 0 i) e
+
+-- ---- nodes at which junctions stand themselves
+pub map-self : (S : List ℕ) → map (λ a. a) S ≡ S
+map-self [] = refl
+map-self (a ∷ S) = ap (λ l. a ∷ l) (map-self S)

@@ -67,20 +67,3 @@ pub record Stepped (w : Window) (lo c : ℕ) (v z : List ℕ) (r : Window) : Typ
   pub front : take (13 * w .events) z ≡ take (13 * w .events) v
   pub made : (g : Timeline) → Sound g → w .at + w .events ≤ size g → Area g w (take (13 * w .events) v)
       → SmallArea g r (take (13 * c) (drop (13 * w .events) z))
-
--- ---- the whole list of t events over n junctions: the junctions themselves and the words of the events stand at the front
-pub record WholeReady (n t : ℕ) (v : List ℕ) : Type 0 where
-  pub g : Timeline
-  pub sound : Sound g
-  pub junctions : g .junctions ≡ n
-  pub all : size g ≡ t
-  pub events : EventsIn g (0, t) (λ a. a) (take (5 * t) v)
-  pub some : 0 < t
-  pub room : 18 * t + 16 * n ≤ length v
-  pub much : t ≤ 4096
-
-pub record WholeMade (n t : ℕ) (v z : List ℕ) (r : Window) : Type 0 where
-  pub at : r .at ≡ 0
-  pub events : r .events ≡ t
-  pub made : (g : Timeline) → Sound g → g .junctions ≡ n → size g ≡ t → EventsIn g (0, t) (λ a. a) (take (5 * t) v)
-      → SmallArea g r (take (13 * t) (drop (5 * t) z))

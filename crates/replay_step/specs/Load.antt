@@ -53,6 +53,13 @@ pub record Edged (s n m : ℕ) (w z : List ℕ) : Type 0 where
   pub nodes : (j : ℕ) → j < 16 → (v : ℕ) → v < n → node j (drop s z) v ≡ node j (drop s w) v
   pub ends : (h : ℕ) → h < 2 * m → half n TO (drop s z) h < n
 
+-- from v to z, of the numbers from i up to j those that pass have their edges loaded behind the m that are there: r edges then
+pub record AddedBy (s n : ℕ) (f : ℕ → Bool) (E : ℕ → Edge) (i j m : ℕ) (v z : List ℕ) (r : ℕ) : Type 0 where
+  pub long : length z ≡ length v
+  pub edged : Edged s n r v z
+  pub more : (U : NodeSet) → cut U (edgesIn n r (drop s z)) ≡ cut U (edgesIn n m (drop s v)) + cut U (pickEvents f E i (j - i))
+  pub most : r ≤ m + (j - i)
+
 -- those of an area of e events
 pub record Copied (e m s n : ℕ) (w z : List ℕ) : Type 0 where
   pub edged : Edged s n m w z
@@ -80,12 +87,8 @@ pub record AddReady (w : Window) (p : Part) (i j m : ℕ) (v : List ℕ) : Type 
   pub nodes : (k : ℕ) → k < 2 * w .events → getD v k 0 < w .nodes
   pub ends : (h : ℕ) → h < 2 * m → half (w .nodes) TO (drop (scratch p) v) h < w .nodes
 
-pub record Added (w : Window) (p : Part) (i j m : ℕ) (v z : List ℕ) (r : ℕ) : Type 0 where
-  pub long : length z ≡ length v
-  pub edged : Edged (scratch p) (w .nodes) r v z
-  pub more : (U : NodeSet) → cut U (edgesIn (w .nodes) r (drop (scratch p) z))
-      ≡ cut U (edgesIn (w .nodes) m (drop (scratch p) v)) + cut U (pickEvents (addsIn w p v) (placesIn v) i (j - i))
-  pub most : r ≤ m + (j - i)
+abbrev pub Added : Window → Part → ℕ → ℕ → ℕ → List ℕ → List ℕ → ℕ → Type 0
+Added w p i j m v z r = AddedBy (scratch p) (w .nodes) (addsIn w p v) (placesIn v) i j m v z r
 
 -- ---- the part's area
 -- A graph is loaded: its active nodes are those at the part's places, each once.
@@ -125,9 +128,3 @@ pub record PartLoaded (w : Window) (p : Part) (v z : List ℕ) (l : Graph) : Typ
       ≡ cut U (areaEdges (w .events) (w .edges) (take (13 * w .events) v))
       + (cut U (pickEvents (addsIn w p v) (placesIn v) 0 (p .at - w .at)) + cut U
       (pickEvents (addsIn w p v) (placesIn v) (p .at - w .at + p .events) (w .events - (p .at - w .at + p .events))))
-
--- for the whole list: n junctions and no edge
-pub record WholeLoaded (n : ℕ) (p : Part) (v z : List ℕ) (l : Graph) : Type 0 where
-  pub nodes : l .nodes ≡ n
-  pub edges : l .edges ≡ 0
-  pub actives : Actives (p .places) (2 * p .events) (scratch p) n v z (l .active)

@@ -53,8 +53,8 @@ pub(crate) fn copy_words(work: &mut [u32], from: usize, count: usize, q: usize)
     }
 }
 
-// Contracts the graph that is loaded behind the part's area, and writes the area: the nodes and the edges that it has then.
-pub(crate) fn make_area(part: crate::Part, l: crate::Graph, work: &mut [u32]) -> core_reduce::Counts
+// Internal: contracts the graph that is loaded behind the part's area, and writes the area: the nodes and the edges that it has then.
+pub fn make_area(part: crate::Part, l: crate::Graph, work: &mut [u32]) -> core_reduce::Counts
     requires { ⌜ MakeReady part l (now work) ⌝ }
     ensures { λ r. ⌜ AreaMade part l (now (work .entry)) (now (work .exit)) r ⌝ }
 {

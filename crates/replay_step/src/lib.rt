@@ -1,11 +1,11 @@
-// The step: the small graph of a part of a window, out of the window's own; and the small graph of the whole list, out of the junctions.
-mod area;
+// The step: the small graph of a part of a window, out of the window's own. Its two acts, what is loaded and the area made of it, serve for the whole list
+// too (replay_start).
+pub mod area;
 mod beside;
-mod load;
+pub mod load;
 
-ghost use Prim.Native.Nat.{_*_};
-ghost use Rattle.replay_step.specs.Area.{StepReady, Stepped, WholeMade, WholeReady};
-ghost use Rattle.replay_step.specs.Load.{ActiveReady, IsPart, PartLoaded, WholeLoaded, scratch};
+ghost use Rattle.replay_step.specs.Area.{StepReady, Stepped};
+ghost use Rattle.replay_step.specs.Load.{IsPart, PartLoaded};
 
 // Internal: a window of a list by its first event and its number of events, with the nodes and the edges of the graph in its area.
 pub struct Window {
@@ -15,7 +15,8 @@ pub struct Window {
     pub edges: usize,
 }
 
-// A part whose area is to be made: its first event and its number of events; where its places and the words of its events stand, and where its area begins.
+// Internal: a part whose area is to be made: its first event and its number of events; where its places and the words of its events stand, and where its
+// area begins.
 pub struct Part {
     pub at: usize,
     pub events: usize,
@@ -24,7 +25,7 @@ pub struct Part {
     pub area: usize,
 }
 
-// A graph that is loaded behind a part's area: its nodes, its edges, and how many different active nodes it has.
+// Internal: a graph that is loaded behind a part's area: its nodes, its edges, and how many different active nodes it has.
 pub struct Graph {
     pub nodes: usize,
     pub edges: usize,
@@ -71,41 +72,5 @@ pub fn step(w: Window, lo: usize, c: usize, work: &mut [u32]) -> Window
         events: c,
         nodes: small.nodes,
         edges: small.edges,
-    }
-}
-
-// Loads the n junctions, which no segment joins, with the junctions of all events as the active ones.
-fn load_whole(n: usize, part: Part, work: &mut [u32]) -> Graph
-    requires { ⌜ ActiveReady (part .places) (2 * part .events) (scratch part) n (now work) ⌝ }
-    ensures { λ r. ⌜ WholeLoaded n part (now (work .entry)) (now (work .exit)) r ⌝ }
-{
-    let s = part.area + 13 * part.events;
-    let k = load::enter_places(work, part.places, 2 * part.events, s, n);
-    Graph {
-        nodes: n,
-        edges: 0,
-        active: k,
-    }
-}
-
-// Internal: the junctions and the words of t events stand at the front of work; the whole list gets its area behind them.
-pub fn whole(n: usize, t: usize, work: &mut [u32]) -> Window
-    requires { ⌜ WholeReady n t (now work) ⌝ }
-    ensures { λ r. ⌜ WholeMade n t (now (work .entry)) (now (work .exit)) r ⌝ }
-{
-    let part = Part {
-        at: 0,
-        events: t,
-        places: 0,
-        words: 2 * t,
-        area: 5 * t,
-    };
-    let l = load_whole(n, part, work);
-    let r = area::make_area(part, l, work);
-    Window {
-        at: 0,
-        events: t,
-        nodes: r.nodes,
-        edges: r.edges,
     }
 }

@@ -20,8 +20,8 @@ pub(crate) fn enter_all(work: &mut [u32], from: usize, count: usize, s: usize, n
     k
 }
 
-// Enters the nodes that stand at the `count` words from `from` on as the active ones.
-pub(crate) fn enter_places(work: &mut [u32], from: usize, count: usize, s: usize, n: usize) -> usize
+// Internal: enters the nodes that stand at the `count` words from `from` on as the active ones.
+pub fn enter_places(work: &mut [u32], from: usize, count: usize, s: usize, n: usize) -> usize
     requires { ⌜ ActiveReady from count s n (now work) ⌝ }
     ensures { λ r. ⌜ Actives from count s n (now (work .entry)) (now (work .exit)) r ⌝ }
 {
