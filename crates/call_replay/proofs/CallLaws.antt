@@ -14,7 +14,8 @@ use Rattle.replay_checks.specs.Check.{CheckedTables}
 use Rattle.replay_checks.specs.declared.Checked.{Checked}
 use Rattle.replay_events.proofs.WritingLaws.{query-asks, size-is}
 use Rattle.replay_events.specs.Writing.{EventsWritten, isQuery, listOf, queriesBy}
-use Rattle.replay_step.specs.Area.{SmallArea, WholeMade, WholeReady}
+use Rattle.replay_start.specs.Whole.{WholeMade, WholeReady}
+use Rattle.replay_step.specs.Area.{SmallArea}
 use Rattle.replay_step.specs.declared.Window.{Window}
 use Rattle.replay_windows.proofs.DescentLaws.{lent-take}
 use Rattle.replay_windows.specs.Descent.{Replied, WindowDone, WindowReady}
@@ -27,47 +28,51 @@ use Rattle.theory_timeline.specs.DemandThree.{KeepsDemand3}
 use Rattle.theory_timeline.specs.Events.{Event, asks, kindOf}
 use Rattle.theory_timeline.specs.Steps.{Sound}
 use Rattle.theory_timeline.specs.Replay.{Faultless, Lent, Outcome, byte, bytes, done, fault, given, openAtEnd, queries, refused, replay, required}
-use Rattle.theory_timeline.specs.Windows.{Timeline, event, kept, size, small, windows, windowsFrom}
+use Rattle.theory_timeline.specs.Windows.{Timeline, atStart, event, kept, size, small, windows, windowsFrom}
 use Rattle.theory_timeline.specs.declared.ReplayReply.the-variants.{Done, Refused}
 use Rattle.call_replay.specs.List.{ListReady, ListReplied}
 
 -- ---- the list
-module _ {n p : ℕ} {a b x y answers work : List ℕ} (q : ListReady n p a b x y answers work) where
+module _ {n p : ℕ} {a b start x y answers work : List ℕ} (q : ListReady n p a b start x y answers work) where
   abbrev g : Timeline
-  g = listOf n a b x y
+  g = listOf n a b (atStart start) x y
 
   abbrev t : ℕ
   t = length x
 
   -- a list without events
-  pub empty-replied : t ≡ 0 → ListReplied n p a b x y answers answers 0
+  pub empty-replied : t ≡ 0 → ListReplied n p a b start x y answers answers 0
   unfolding windowsFrom
   empty-replied z = subst (λ (k : ℕ). Replied g 0 k p answers answers 0) (sym z) (record { answers = refl; kept = refl })
 
   module _ (some : 0 < t) {w : List ℕ} (e : EventsWritten n a b x y w) (l : length w ≡ length work) where
-    pub whole-need : WholeReady n t w
+    pub whole-need : WholeReady n t a b start w
     whole-need = record {
       g = g;
-      sound = q .events .sound;
+      sound = q .sound;
       junctions = refl;
+      segments = refl;
+      opened = refl;
       all = size-is (q .events);
-      events = e;
+      events = e (atStart start) (q .sound);
+      b-long = q .events .segments;
+      start-long = q .start-long;
       some = some;
       room = omega (arith, q .room);
       much = q .events .much;
     }
 
-    module _ {z : List ℕ} {r : Window} (m : WholeMade n t w z r) (k : length z ≡ length work) where
+    module _ {z : List ℕ} {r : Window} (m : WholeMade n t a b start w z r) (k : length z ≡ length work) where
       area : SmallArea g r (take (13 * r .events) (take (length z - 5 * t) (drop (5 * t) z)))
       area =
           let h : take (13 * t) (drop (5 * t) z) ≡ take (13 * r .events) (take (length z - 5 * t) (drop (5 * t) z)) =
           ap (λ (n : ℕ). take (13 * n) (drop (5 * t) z)) (sym (m .events)) ∙ sym (lent-take (5 * t) (13 * r .events) z (omega (arith, q .room, m .events))) in
-          subst (λ (v : List ℕ). SmallArea g r v) h (m .made g (q .events .sound) refl (size-is (q .events)) e)
+          subst (λ (v : List ℕ). SmallArea g r v) h (m .made g (q .sound) refl refl refl (size-is (q .events)) (e (atStart start) (q .sound)))
 
       pub window-need : WindowReady r p answers (take (length z - 5 * t) (drop (5 * t) z))
       window-need = record {
         g = g;
-        sound = q .events .sound;
+        sound = q .sound;
         inside = omega (arith, m .at, m .events, size-is (q .events));
         area = area;
         some = omega (arith, m .events);
@@ -78,8 +83,8 @@ module _ {n p : ℕ} {a b x y answers work : List ℕ} (q : ListReady n p a b x 
       }
 
       pub list-replied : {after : List ℕ} {kept : ℕ} → WindowDone r p (take (13 * r .events) (take (length z - 5 * t) (drop (5 * t) z))) answers after kept
-          → ListReplied n p a b x y answers after kept
-      list-replied d = let u = d .replied g (q .events .sound) (omega (arith, m .at, m .events, size-is (q .events))) area in rw (m .at, m .events) at u
+          → ListReplied n p a b start x y answers after kept
+      list-replied d = let u = d .replied g (q .sound) (omega (arith, m .at, m .events, size-is (q .events))) area in rw (m .at, m .events) at u
 
 -- ---- the queries
 -- in a list without a fault they are those that ask
@@ -114,17 +119,19 @@ over-prefix vs zs w e = ap (λ (l : List ℕ). vs ++ l) (drop-at zs (drop (lengt
 
 -- a list, its tables cut to their sizes, with k words of work; and what its windows leave
 abbrev ReadyOf : Lent → ℕ → ℕ → Type 0
-ReadyOf l p k = ListReady (l .n) p (take (l .m) (l .a)) (take (l .m) (l .b)) (take (l .t) (l .x)) (take (l .t) (l .y)) (l .answers) (take k (l .work))
+ReadyOf l p k =
+    ListReady (l .n) p (take (l .m) (l .a)) (take (l .m) (l .b)) (take (l .m) (l .start)) (take (l .t) (l .x)) (take (l .t) (l .y)) (l .answers) (take k (l .work))
 
 abbrev RepliedOf : Lent → ℕ → List ℕ → ℕ → Type 0
-RepliedOf l p after kept = ListReplied (l .n) p (take (l .m) (l .a)) (take (l .m) (l .b)) (take (l .t) (l .x)) (take (l .t) (l .y)) (l .answers) after kept
+RepliedOf l p after kept =
+    ListReplied (l .n) p (take (l .m) (l .a)) (take (l .m) (l .b)) (take (l .m) (l .start)) (take (l .t) (l .x)) (take (l .t) (l .y)) (l .answers) after kept
 
 module _ (l : Lent) (p : ℕ) (f : Faultless l p) where
   pub granted : Accepted l p
   granted = accepted-from l p f
 
   abbrev need : ℕ
-  need = required (l .t) (l .n)
+  need = required (l .t) (l .n) (l .m)
 
   -- the tables, cut to their sizes
   long-x : length (take (l .t) (l .x)) ≡ l .t
@@ -134,14 +141,18 @@ module _ (l : Lent) (p : ℕ) (f : Faultless l p) where
   unfolding given
   list-need =
       let w = length-take-le need (l .work) (granted .work-long) in
+      let la = length-take-le (l .m) (l .a) (granted .a-long) in
       record {
+        sound = accepted-sound l p granted;
         events = record {
+          start = atStart (take (l .m) (l .start));
           sound = accepted-sound l p granted;
-          segments = length-take-le (l .m) (l .b) (granted .b-long) ∙ sym (length-take-le (l .m) (l .a) (granted .a-long));
+          segments = length-take-le (l .m) (l .b) (granted .b-long) ∙ sym la;
           events = length-take-le (l .t) (l .y) (granted .y-long) ∙ sym long-x;
           much = omega (arith, long-x, granted .t-fits);
           room = omega (arith, long-x);
         };
+        start-long = length-take-le (l .m) (l .start) (granted .start-long) ∙ sym la;
         share = granted .share;
         long = omega (arith, long-x, granted .answers-long);
         room = omega (arith, long-x);
@@ -201,7 +212,7 @@ module _ {l : Lent} {p : ℕ} {r : Checked} (c : CheckedTables l p r) (z : r .co
   pub grants : Accepted l p
   grants = granted l p (faultless c z)
 
-  module _ (k : ℕ) (e : k ≡ required (l .t) (l .n)) where
+  module _ (k : ℕ) (e : k ≡ required (l .t) (l .n) (l .m)) where
     pub work-need : k ≤ length (l .work)
     work-need = omega (arith, grants .work-long)
 

@@ -7,8 +7,8 @@ ghost use Rattle.theory_timeline.specs.Call.{lent, outcome};
 ghost use Rattle.theory_timeline.specs.DemandThree.{KeepsDemand3};
 ghost use Rattle.theory_timeline.specs.Replay.{replay};
 
-// The replay of t events over n junctions and m segments, with the share p. Its outcome is the one that the definition gives for what it is lent;
-// and with any other lending k and any two allowed shares it meets demand 3.
+// The replay of t events over n junctions and m segments, with the share p; the segments with 1 in `start` are open before the first event. Its outcome is
+// the one that the definition gives for what it is lent; and with any other lending k and any two allowed shares it meets demand 3.
 pub fn replay(
     n: usize,
     m: usize,
@@ -16,26 +16,28 @@ pub fn replay(
     p: usize,
     a: &[u16],
     b: &[u16],
+    start: &[u16],
     x: &[u16],
     y: &[u16],
     answers: &mut [u8],
     work: &mut [u32],
 ) -> ReplayReply
     ensures { λ r. ⌜ outcome r (now (answers .exit)) (now (work .exit)) ≡ replay
-        (lent n m t (now (a .entry)) (now (b .entry)) (now (x .entry)) (now (y .entry)) (now (answers .entry)) (now (work .entry))) p ⌝ }
-    ensures { λ r. ⌜ KeepsDemand3 (lent n m t (now (a .entry)) (now (b .entry)) (now (x .entry)) (now (y .entry))
+        (lent n m t (now (a .entry)) (now (b .entry)) (now (start .entry)) (now (x .entry)) (now (y .entry)) (now (answers .entry)) (now (work .entry))) p ⌝ }
+    ensures { λ r. ⌜ KeepsDemand3 (lent n m t (now (a .entry)) (now (b .entry)) (now (start .entry)) (now (x .entry)) (now (y .entry))
         (now (answers .entry)) (now (work .entry))) p (outcome r (now (answers .exit)) (now (work .exit))) ⌝ }
 {
-    let f = replay_checks::check(n, m, t, p, a, b, x, y, answers, work);
+    let f = replay_checks::check(n, m, t, p, a, b, start, x, y, answers, work);
     if f.code > 0 {
         return ReplayReply::Refused(f.code, f.place);
     }
-    let need = replay_checks::required(t, n);
+    let need = replay_checks::required(t, n, m);
     let kept = list::replay_list(
         n,
         p,
         &a[..m],
         &b[..m],
+        &start[..m],
         &x[..t],
         &y[..t],
         answers,

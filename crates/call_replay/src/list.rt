@@ -7,20 +7,22 @@ pub(crate) fn replay_list(
     p: usize,
     a: &[u16],
     b: &[u16],
+    start: &[u16],
     x: &[u16],
     y: &[u16],
     answers: &mut [u8],
     work: &mut [u32],
 ) -> usize
-    requires { ⌜ ListReady n p (now a) (now b) (now x) (now y) (now answers) (now work) ⌝ }
-    ensures { λ r. ⌜ ListReplied n p (now (a .entry)) (now (b .entry)) (now (x .entry)) (now (y .entry)) (now (answers .entry)) (now (answers .exit)) r ⌝ }
+    requires { ⌜ ListReady n p (now a) (now b) (now start) (now x) (now y) (now answers) (now work) ⌝ }
+    ensures { λ r. ⌜ ListReplied n p (now (a .entry)) (now (b .entry)) (now (start .entry)) (now (x .entry)) (now (y .entry))
+        (now (answers .entry)) (now (answers .exit)) r ⌝ }
 {
     let t = x.len();
     if t == 0 {
         return 0;
     }
     replay_events::write_events(n, a, b, x, y, work);
-    let w = replay_step::whole(n, t, work);
+    let w = replay_start::whole(n, t, a, b, start, work);
     let s = 5 * t;
     replay_windows::window(w, p, answers, &mut work[s..])
 }

@@ -38,7 +38,7 @@ zero c = omega arith
 required-requires : tie.Need-required-requires
 required-requires c κs =
     let g = grants (c .before .before .check .ensures) (zero c) in
-    (g .t-fits, g .n-fits)
+    (g .t-fits, g .n-fits, g .m-fits)
 
 slice-aggregate-replay-list : tie.Need-slice-aggregate-replay-list
 slice-aggregate-replay-list c =
@@ -53,41 +53,46 @@ slice-aggregate-replay-list-2 c =
 slice-aggregate-replay-list-3 : tie.Need-slice-aggregate-replay-list-3
 slice-aggregate-replay-list-3 c =
     let checked = c .before .before .before .before in
-    sym (length-take-le _ _ (grants (checked .before .before .check .ensures) (zero checked) .x-long))
+    sym (length-take-le _ _ (grants (checked .before .before .check .ensures) (zero checked) .start-long))
 
 slice-aggregate-replay-list-4 : tie.Need-slice-aggregate-replay-list-4
 slice-aggregate-replay-list-4 c =
     let checked = c .before .before .before .before .before in
+    sym (length-take-le _ _ (grants (checked .before .before .check .ensures) (zero checked) .x-long))
+
+slice-aggregate-replay-list-5 : tie.Need-slice-aggregate-replay-list-5
+slice-aggregate-replay-list-5 c =
+    let checked = c .before .before .before .before .before .before in
     sym (length-take-le _ _ (grants (checked .before .before .check .ensures) (zero checked) .y-long))
 
 slice-relend-prefix-replay-list : tie.Need-slice-relend-prefix-replay-list
 slice-relend-prefix-replay-list c =
-    let at-required = c .before .before .before .before .before in
+    let at-required = c .before .before .before .before .before .before in
     let checked = at-required .before in
     work-need (checked .before .before .check .ensures) (zero checked) _ (at-required .required .ensures)
 
-slice-aggregate-replay-list-5 : tie.Need-slice-aggregate-replay-list-5
-slice-aggregate-replay-list-5 c =
-    let at-required = c .before .before .before .before .before .before in
+slice-aggregate-replay-list-6 : tie.Need-slice-aggregate-replay-list-6
+slice-aggregate-replay-list-6 c =
+    let at-required = c .before .before .before .before .before .before .before in
     let checked = at-required .before in
     sym (length-take-le _ _ (work-need (checked .before .before .check .ensures) (zero checked) _ (at-required .required .ensures)))
 
 replay-list-requires : tie.Need-replay-list-requires
 replay-list-requires c κs =
-    let at-required = c .before .before .before .before .before .before in
+    let at-required = c .before .before .before .before .before .before .before in
     let checked = at-required .before in
     list-ready (checked .before .before .check .ensures) (zero checked) _ (at-required .required .ensures)
 
 count-queries-requires : tie.Need-count-queries-requires
 count-queries-requires c κs =
     let at-replay-list = c .before .before .before .before in
-    let checked = at-replay-list .before .before .before .before .before .before .before .before in
+    let checked = at-replay-list .before .before .before .before .before .before .before .before .before in
     grants (checked .before .before .check .ensures) (zero checked) .x-long
 
 clear-requires : tie.Need-clear-requires
 clear-requires c κs =
     let at-replay-list = c .before .before .before .before .before .before in
-    let at-required = at-replay-list .before .before .before .before .before .before .before in
+    let at-required = at-replay-list .before .before .before .before .before .before .before .before in
     let checked = at-required .before in
     omega (arith, work-need (checked .before .before .check .ensures) (zero checked) _ (at-required .required .ensures))
 
@@ -96,11 +101,11 @@ returns-2 c =
     let at-clear = c .before .before in
     let at-count-queries = at-clear .before .before in
     let at-replay-list = at-count-queries .before .before .before .before .before in
-    let at-required = at-replay-list .before .before .before .before .before .before .before in
+    let at-required = at-replay-list .before .before .before .before .before .before .before .before in
     let checked = at-required .before in
     let d = at-replay-list .replay-list in
     replay-is (checked .before .before .check .ensures) (zero checked) _ (at-required .required .ensures) (d .ensures)
-    (d .last .1 .1 .1 .1 .1 .1 .1 .0) _ (at-count-queries .count-queries .ensures) (omega arith) (at-clear .clear .ensures)
+    (d .last .1 .1 .1 .1 .1 .1 .1 .1 .0) _ (at-count-queries .count-queries .ensures) (omega arith) (at-clear .clear .ensures)
 
 pub replay-spec : {M : Type 1} → statement M
 replay-spec =
@@ -115,8 +120,9 @@ replay-spec =
     slice-aggregate-replay-list-2
     slice-aggregate-replay-list-3
     slice-aggregate-replay-list-4
-    slice-relend-prefix-replay-list
     slice-aggregate-replay-list-5
+    slice-relend-prefix-replay-list
+    slice-aggregate-replay-list-6
     replay-list-requires
     count-queries-requires
     clear-requires
