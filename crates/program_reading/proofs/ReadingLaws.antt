@@ -49,14 +49,6 @@ filled-take ws i k a b f l m =
     n2 : length (take k (drop i ws)) ≡ k
     n2 = length-take-le k (drop i ws) (omega (arith, length-drop i ws))
 
--- the numbers of an input
-pub words16-length : (bs : List ℕ) (k : ℕ) → length bs ≡ 2 * k → length (words16 bs) ≡ k
-words16-length [] zero h = refl
-words16-length [] (suc k) h = absurd (omega arith)
-words16-length (a ∷ []) k h = absurd (omega arith)
-words16-length (a ∷ b ∷ bs) zero h = absurd (omega arith)
-words16-length (a ∷ b ∷ bs) (suc k) h = ap suc (words16-length bs k (omega arith))
-
 -- ---- the header's checks, in their order
 abbrev refusedBy : ℕ → HeaderOutcome
 refusedBy c = record { accepted = false; code = c; place = 0; n = 0; m = 0; t = 0; p = 0 }
@@ -75,29 +67,29 @@ module _ (I : List ℕ) where
   unfolding inputFault inputFaults
   input-short a = simp (lt-ltb (length I) 8 a)
 
-  pub many-junctions : 8 ≤ length I → 192 < N → refusedBy 10 ≡ checkInput I
+  pub many-junctions : 8 ≤ length I → 176 < N → refusedBy 10 ≡ checkInput I
   unfolding inputFault inputFaults
-  many-junctions a b = simp (le-ltb (length I) 8 a, lt-ltb 192 N b)
+  many-junctions a b = simp (le-ltb (length I) 8 a, lt-ltb 176 N b)
 
-  pub many-segments : 8 ≤ length I → N ≤ 192 → 64 < M → refusedBy 10 ≡ checkInput I
+  pub many-segments : 8 ≤ length I → N ≤ 176 → 64 < M → refusedBy 10 ≡ checkInput I
   unfolding inputFault inputFaults
-  many-segments a b c = simp (le-ltb (length I) 8 a, le-ltb 192 N b, lt-ltb 64 M c)
+  many-segments a b c = simp (le-ltb (length I) 8 a, le-ltb 176 N b, lt-ltb 64 M c)
 
-  pub many-events : 8 ≤ length I → N ≤ 192 → M ≤ 64 → 32 < T → refusedBy 10 ≡ checkInput I
+  pub many-events : 8 ≤ length I → N ≤ 176 → M ≤ 64 → 32 < T → refusedBy 10 ≡ checkInput I
   unfolding inputFault inputFaults
-  many-events a b c e = simp (le-ltb (length I) 8 a, le-ltb 192 N b, le-ltb 64 M c, lt-ltb 32 T e)
+  many-events a b c e = simp (le-ltb (length I) 8 a, le-ltb 176 N b, le-ltb 64 M c, lt-ltb 32 T e)
 
-  pub other-length : 8 ≤ length I → N ≤ 192 → M ≤ 64 → T ≤ 32 → ¬ (length I ≡ 2 * inputLength M T) → refusedBy 9 ≡ checkInput I
+  pub other-length : 8 ≤ length I → N ≤ 176 → M ≤ 64 → T ≤ 32 → ¬ (length I ≡ 2 * inputLength M T) → refusedBy 9 ≡ checkInput I
   unfolding inputFault inputFaults
-  other-length a b c e f = simp (le-ltb (length I) 8 a, le-ltb 192 N b, le-ltb 64 M c, le-ltb 32 T e, ne-eqb (length I) (2 * inputLength M T) f)
+  other-length a b c e f = simp (le-ltb (length I) 8 a, le-ltb 176 N b, le-ltb 64 M c, le-ltb 32 T e, ne-eqb (length I) (2 * inputLength M T) f)
 
-  pub input-right : 8 ≤ length I → N ≤ 192 → M ≤ 64 → T ≤ 32 → length I ≡ 2 * inputLength M T
+  pub input-right : 8 ≤ length I → N ≤ 176 → M ≤ 64 → T ≤ 32 → length I ≡ 2 * inputLength M T
       → record { accepted = true; code = 0; place = 0; n = N; m = M; t = T; p = shareOf (words16 I) } ≡ checkInput I
   unfolding inputFault inputFaults
-  input-right a b c e f = simp (le-ltb (length I) 8 a, le-ltb 192 N b, le-ltb 64 M c, le-ltb 32 T e, eq-eqb (length I) (2 * inputLength M T) f)
+  input-right a b c e f = simp (le-ltb (length I) 8 a, le-ltb 176 N b, le-ltb 64 M c, le-ltb 32 T e, eq-eqb (length I) (2 * inputLength M T) f)
 
   -- the same for numbers that were read
-  pub input-read : {n m t p : ℕ} → n ≡ N → m ≡ M → t ≡ T → p ≡ shareOf (words16 I) → 8 ≤ length I → n ≤ 192 → m ≤ 64 → t ≤ 32 → length I ≡ 2 * inputLength m t
+  pub input-read : {n m t p : ℕ} → n ≡ N → m ≡ M → t ≡ T → p ≡ shareOf (words16 I) → 8 ≤ length I → n ≤ 176 → m ≤ 64 → t ≤ 32 → length I ≡ 2 * inputLength m t
       → record { accepted = true; code = 0; place = 0; n = n; m = m; t = t; p = p } ≡ checkInput I
   input-read {n} {m} {t} {p} e f g h a b c d k =
       (λ i. record { accepted = true; code = 0; place = 0; n = e i; m = f i; t = g i; p = h i })

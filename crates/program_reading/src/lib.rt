@@ -29,7 +29,7 @@ pub fn read_header(input: &[u8]) -> Header
         return Header::Refused(9);
     }
     let n = number(input, 0) as usize;
-    if n > 192 {
+    if n > 176 {
         return Header::Refused(10);
     }
     let m = number(input, 1) as usize;
@@ -40,7 +40,7 @@ pub fn read_header(input: &[u8]) -> Header
     if t > 32 {
         return Header::Refused(10);
     }
-    if input.len() != 2 * (4 + 2 * m + 2 * t) {
+    if input.len() != 2 * (4 + 3 * m + 2 * t) {
         return Header::Refused(9);
     }
     let p = number(input, 3) as usize;

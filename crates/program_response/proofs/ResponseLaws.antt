@@ -8,16 +8,16 @@ use lib.Dec.{eqb, ltb}
 use lib.ListN.{drop, getD, length, length-append, replicate, take}
 use lib.Seq.{getD-take, length-take-le, take-all}
 use native.Mathlib.Omega.{arith}
-use borrow.Author.Tests.{eqb-true, ltb-false, ltb-true, not-false}
+use borrow.Author.Tests.{eqb-true, ltb-false, ltb-true}
 use Rattle.theory_graph.proofs.Booleans.{onBool}
-use Rattle.program_reading.proofs.ReadingLaws.{filled-take, many-events, many-junctions, many-segments, other-length, words16-length, word-at}
+use Rattle.program_reading.proofs.ReadingLaws.{filled-take, many-events, many-junctions, many-segments, other-length, word-at}
 use Rattle.program_printing.proofs.TextLaws.{decimal-most}
 use Rattle.program_printing.specs.Printing.{printedOf}
 use Rattle.program_reading.specs.Reading.{Filled, HeaderOutcome, Read, checkInput, headerOutcome}
 use Rattle.program_reading.specs.declared.Header.the-variants.{Refused, Sizes}
-use Rattle.call_sizes.proofs.RefusalLaws.{fault-silent}
+use Rattle.theory_timeline.proofs.ProgramLaws.{input-within, words16-length}
 use Rattle.theory_timeline.specs.Call.{lent, outcome}
-use Rattle.theory_timeline.specs.Program.{decimal, eventsOf, inputFault, inputFaults, inputLength, inputLent, junctionsOf}
+use Rattle.theory_timeline.specs.Program.{decimal, eventsOf, inputFault, inputLength, inputLent, junctionsOf}
 use Rattle.theory_timeline.specs.Program.{outputWith, printed, refusedLine, segmentsOf, shareOf, totalsLine, words16}
 use Rattle.theory_timeline.specs.Replay.{Lent, Outcome, replay}
 use Rattle.theory_timeline.specs.declared.ReplayReply.{ReplayReply}
@@ -26,15 +26,6 @@ use Rattle.program_response.specs.Response.{workAfter}
 
 -- ---- the header
 module _ (I : List ℕ) where
-  accepted-right : inputFault I .0 ≡ 0 → (segmentsOf (words16 I) ≤ 64) × (eventsOf (words16 I) ≤ 32) × (length I ≡ 2 * inputLength (segmentsOf (words16 I)) (eventsOf (words16 I)))
-  unfolding inputFault inputFaults
-  accepted-right h =
-      let s = fault-silent (inputFaults I) (λ e. omega arith, (λ e. omega arith, (λ e. omega arith, (λ e. omega arith, (λ e. omega arith, tt))))) h in (
-        ltb-false 64 (segmentsOf (words16 I)) (s .1 .1 .0),
-        ltb-false 32 (eventsOf (words16 I)) (s .1 .1 .1 .0),
-        eqb-true (length I) (2 * inputLength (segmentsOf (words16 I)) (eventsOf (words16 I))) (not-false _ (s .1 .1 .1 .1 .0)),
-      )
-
   module _ {n m t p : ℕ} (e : headerOutcome (Sizes n m t p) ≡ checkInput I) where
     accepts : eqb (inputFault I .0) 0 ≡ true
     accepts = sym (ap (λ (o : HeaderOutcome). o .accepted) e)
@@ -43,14 +34,14 @@ module _ (I : List ℕ) where
     header-read =
         let f : m ≡ segmentsOf (words16 I) = rw accepts at (ap (λ (o : HeaderOutcome). o .m) e) in
         let g : t ≡ eventsOf (words16 I) = rw accepts at (ap (λ (o : HeaderOutcome). o .t) e) in
-        let (a, b, c) = accepted-right (eqb-true (inputFault I .0) 0 accepts) in
+        let w = input-within I (eqb-true (inputFault I .0) 0 accepts) in
         record {
           junctions = rw accepts at (ap (λ (o : HeaderOutcome). o .n) e);
           segments = f;
           events = g;
-          few-segments = omega arith;
-          few-events = omega arith;
-          long = c ∙ ap₂ (λ (x y : ℕ). 2 * inputLength x y) (sym f) (sym g);
+          few-segments = omega (arith, w .segments);
+          few-events = omega (arith, w .events);
+          long = w .long ∙ ap₂ (λ (x y : ℕ). 2 * inputLength x y) (sym f) (sym g);
         }
 
     header-share : p ≡ shareOf (words16 I)
@@ -76,33 +67,35 @@ module _ (I : List ℕ) where
 
   -- ---- the tables
   module _ {n m t : ℕ} (r : Read n m t I) where
-    pub numbers : length (words16 I) ≡ 4 + 2 * m + 2 * t
+    pub numbers : length (words16 I) ≡ inputLength m t
     numbers = words16-length I (inputLength m t) (r .long)
 
     -- a table filled from number i on
-    pub table-is : (i k : ℕ) (a b : List ℕ) → Filled (words16 I) i k a b → k ≤ length a → i + k ≤ 4 + 2 * m + 2 * t → take k b ≡ take k (drop i (words16 I))
+    pub table-is : (i k : ℕ) (a b : List ℕ) → Filled (words16 I) i k a b → k ≤ length a → i + k ≤ inputLength m t → take k b ≡ take k (drop i (words16 I))
     table-is i k a b f l h = filled-take (words16 I) i k a b f l (omega (arith, numbers))
 
-    pub lent-input : (work : List ℕ) {a b x y : List ℕ} → a ≡ take m (drop 4 (words16 I)) → b ≡ take m (drop (4 + m) (words16 I)) → x ≡ take t (drop (4 + 2 * m) (words16 I))
-        → y ≡ take t (drop (4 + 2 * m + t) (words16 I)) → lent n m t a b x y (replicate 32 0) work ≡ inputLent work I
+    pub lent-input : (work : List ℕ) {a b start x y : List ℕ} → a ≡ take m (drop 4 (words16 I)) → b ≡ take m (drop (4 + m) (words16 I))
+        → start ≡ take m (drop (4 + 2 * m) (words16 I)) → x ≡ take t (drop (4 + 3 * m) (words16 I)) → y ≡ take t (drop (4 + 3 * m + t) (words16 I))
+        → lent n m t a b start x y (replicate 32 0) work ≡ inputLent work I
     unfolding inputLent
-    lent-input work e f g h =
-        (λ i. lent n m t (e i) (f i) (g i) (h i) (replicate 32 0) work)
+    lent-input work e f s g h =
+        (λ i. lent n m t (e i) (f i) (s i) (g i) (h i) (replicate 32 0) work)
         ∙ (λ i. lent (r .junctions i) (r .segments i) (r .events i)
         (take (r .segments i) (drop 4 (words16 I))) (take (r .segments i) (drop (4 + r .segments i) (words16 I)))
-        (take (r .events i) (drop (4 + 2 * r .segments i) (words16 I))) (take (r .events i) (drop (4 + 2 * r .segments i + r .events i) (words16 I)))
+        (take (r .segments i) (drop (4 + 2 * r .segments i) (words16 I)))
+        (take (r .events i) (drop (4 + 3 * r .segments i) (words16 I))) (take (r .events i) (drop (4 + 3 * r .segments i + r .events i) (words16 I)))
         (replicate 32 0) work)
 
 -- ---- the reply
 -- to what an input lends: its print, and the work table
-pub replied : (I : List ℕ) {n m t : ℕ} (r : Read n m t I) (p : ℕ) (work : List ℕ) {a b x y : List ℕ}
-    → a ≡ take m (drop 4 (words16 I)) → b ≡ take m (drop (4 + m) (words16 I))
-    → x ≡ take t (drop (4 + 2 * m) (words16 I)) → y ≡ take t (drop (4 + 2 * m + t) (words16 I))
-    → (reply : ReplayReply) (answers left : List ℕ) → outcome reply answers left ≡ replay (lent n m t a b x y (replicate 32 0) work) p
+pub replied : (I : List ℕ) {n m t : ℕ} (r : Read n m t I) (p : ℕ) (work : List ℕ) {a b start x y : List ℕ}
+    → a ≡ take m (drop 4 (words16 I)) → b ≡ take m (drop (4 + m) (words16 I)) → start ≡ take m (drop (4 + 2 * m) (words16 I))
+    → x ≡ take t (drop (4 + 3 * m) (words16 I)) → y ≡ take t (drop (4 + 3 * m + t) (words16 I))
+    → (reply : ReplayReply) (answers left : List ℕ) → outcome reply answers left ≡ replay (lent n m t a b start x y (replicate 32 0) work) p
     → (printedOf t (outcome reply answers left) ≡ printed (inputLent work I) (replay (inputLent work I) p)) × (left ≡ (replay (inputLent work I) p) .work)
 unfolding inputLent
-replied I {n} {m} {t} r p work ea eb ex ey reply answers left e =
-    let f = e ∙ ap (λ (l : Lent). replay l p) (lent-input I r work ea eb ex ey) in (
+replied I {n} {m} {t} r p work ea eb es ex ey reply answers left e =
+    let f = e ∙ ap (λ (l : Lent). replay l p) (lent-input I r work ea eb es ex ey) in (
       ap₂ printedOf (r .events) f ∙ replay-printed (inputLent work I) p,
       sym (outcome-work reply answers left) ∙ ap (λ (o : Outcome). o .work) f,
     )
@@ -125,15 +118,15 @@ pub refused-most : (c i : ℕ) → length (refusedLine c i) ≤ 53
 unfolding refusedLine
 refused-most c i = omega (arith, decimal-most c, decimal-most i, length-append (decimal c) (32 ∷ 97 ∷ 116 ∷ 32 ∷ (decimal i ++ (10 ∷ []))), length-append (decimal i) (10 ∷ []))
 
--- ---- reading 512 bytes is enough: an input longer than any list is refused in the same words whatever follows
-longer : (work I J : List ℕ) → 392 < length I → 392 < length J → junctionsOf (words16 I) ≡ junctionsOf (words16 J) → segmentsOf (words16 I) ≡ segmentsOf (words16 J)
+-- ---- reading 1,024 bytes is enough: an input longer than any list is refused in the same words whatever follows
+longer : (work I J : List ℕ) → 520 < length I → 520 < length J → junctionsOf (words16 I) ≡ junctionsOf (words16 J) → segmentsOf (words16 I) ≡ segmentsOf (words16 J)
     → eventsOf (words16 I) ≡ eventsOf (words16 J)
     → outputWith work I ≡ outputWith work J
 longer work I J a b e f g =
-    onBool (ltb 192 (junctionsOf (words16 I)))
-    (λ h. let l = ltb-true 192 (junctionsOf (words16 I)) h in both (many-junctions I (omega arith) l) (many-junctions J (omega arith) (omega arith)))
+    onBool (ltb 176 (junctionsOf (words16 I)))
+    (λ h. let l = ltb-true 176 (junctionsOf (words16 I)) h in both (many-junctions I (omega arith) l) (many-junctions J (omega arith) (omega arith)))
     (λ h.
-    let l = ltb-false 192 (junctionsOf (words16 I)) h in
+    let l = ltb-false 176 (junctionsOf (words16 I)) h in
     onBool (ltb 64 (segmentsOf (words16 I)))
     (λ h. let k = ltb-true 64 (segmentsOf (words16 I)) h in both (many-segments I (omega arith) l k) (many-segments J (omega arith) (omega arith) (omega arith)))
     (λ h.
@@ -147,13 +140,13 @@ longer work I J a b e f g =
     both : {c : ℕ} → headerOutcome (Refused c) ≡ checkInput I → headerOutcome (Refused c) ≡ checkInput J → outputWith work I ≡ outputWith work J
     both p q = sym (output-refused I p work) ∙ output-refused J q work
 
-pub enough : (work bytes : List ℕ) → outputWith work (take 512 bytes) ≡ outputWith work bytes
-enough work bytes = onBool (ltb 512 (length bytes))
+pub enough : (work bytes : List ℕ) → outputWith work (take 1024 bytes) ≡ outputWith work bytes
+enough work bytes = onBool (ltb 1024 (length bytes))
     (λ h.
-    let l = ltb-true 512 (length bytes) h in
-    let e : length (take 512 bytes) ≡ 512 = length-take-le 512 bytes (omega arith) in
-    let at : (i : ℕ) → i < 3 → getD (words16 (take 512 bytes)) i 0 ≡ getD (words16 bytes) i 0 = λ i b.
-    word-at (take 512 bytes) i (omega arith)
-    ∙ ap₂ (λ (x y : ℕ). x + 256 * y) (getD-take 512 bytes (2 * i) 0 (omega arith)) (getD-take 512 bytes (2 * i + 1) 0 (omega arith)) ∙ sym (word-at bytes i (omega arith)) in
-    longer work (take 512 bytes) bytes (omega arith) (omega arith) (at 0 (omega arith)) (at 1 (omega arith)) (at 2 (omega arith)))
-    (λ h. ap (outputWith work) (take-all 512 bytes (ltb-false 512 (length bytes) h)))
+    let l = ltb-true 1024 (length bytes) h in
+    let e : length (take 1024 bytes) ≡ 1024 = length-take-le 1024 bytes (omega arith) in
+    let at : (i : ℕ) → i < 3 → getD (words16 (take 1024 bytes)) i 0 ≡ getD (words16 bytes) i 0 = λ i b.
+    word-at (take 1024 bytes) i (omega arith)
+    ∙ ap₂ (λ (x y : ℕ). x + 256 * y) (getD-take 1024 bytes (2 * i) 0 (omega arith)) (getD-take 1024 bytes (2 * i + 1) 0 (omega arith)) ∙ sym (word-at bytes i (omega arith)) in
+    longer work (take 1024 bytes) bytes (omega arith) (omega arith) (at 0 (omega arith)) (at 1 (omega arith)) (at 2 (omega arith)))
+    (λ h. ap (outputWith work) (take-all 1024 bytes (ltb-false 1024 (length bytes) h)))

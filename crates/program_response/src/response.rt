@@ -48,13 +48,15 @@ pub(crate) fn replay_input(
 {
     let mut a = [0u16; 64];
     let mut b = [0u16; 64];
+    let mut start = [0u16; 64];
     let mut x = [0u16; 32];
     let mut y = [0u16; 32];
     let mut answers = [0u8; 32];
     program_reading::fill(input, 4, m, &mut a);
     program_reading::fill(input, 4 + m, m, &mut b);
-    program_reading::fill(input, 4 + 2 * m, t, &mut x);
-    program_reading::fill(input, 4 + 2 * m + t, t, &mut y);
+    program_reading::fill(input, 4 + 2 * m, m, &mut start);
+    program_reading::fill(input, 4 + 3 * m, t, &mut x);
+    program_reading::fill(input, 4 + 3 * m + t, t, &mut y);
     let reply = call_replay::replay(
         n,
         m,
@@ -62,6 +64,7 @@ pub(crate) fn replay_input(
         p,
         &a[..m],
         &b[..m],
+        &start[..m],
         &x[..t],
         &y[..t],
         &mut answers,
