@@ -53,7 +53,7 @@ contractLent l =
     (now (l .map)) (now (l .«out_from»)) (now (l .«out_to»)) (now (l .work))
 
 abbrev pub replayLent : LumReplayLent → timeline.Lent
-replayLent l = replaying.lent (l .n) (l .m) (l .t) (now (l .a)) (now (l .b)) (now (l .x)) (now (l .y)) (now (l .answers)) (now (l .work))
+replayLent l = replaying.lent (l .n) (l .m) (l .t) (now (l .a)) (now (l .b)) (now (l .start)) (now (l .x)) (now (l .y)) (now (l .answers)) (now (l .work))
 
 -- ---- the fields of a struct after the call, in their order, of which those count that may be written
 abbrev Table : Type 0
@@ -66,7 +66,7 @@ abbrev pub contractLeft : LumContractReply → ContractFields → contraction.Ou
 contractLeft r (n, (m, (k, (from, (to, (active, (map, (outFrom, (outTo, (work, end)))))))))) = contractedOf r (now map) (now outFrom) (now outTo) (now work)
 
 abbrev pub ReplayFields : Type 0
-ReplayFields = ℕ × (ℕ × (ℕ × (ℕ × (Table × (Table × (Table × (Table × (Table × (Table × Unit {0})))))))))
+ReplayFields = ℕ × (ℕ × (ℕ × (ℕ × (Table × (Table × (Table × (Table × (Table × (Table × (Table × Unit {0}))))))))))
 
 abbrev pub replayLeft : LumReplayReply → ReplayFields → timeline.Outcome
-replayLeft r (n, (m, (t, (p, (a, (b, (x, (y, (answers, (work, end)))))))))) = replayedOf r (now answers) (now work)
+replayLeft r (n, (m, (t, (p, (a, (b, (start, (x, (y, (answers, (work, end))))))))))) = replayedOf r (now answers) (now work)

@@ -39,6 +39,7 @@ pub struct LumReplayLent<'a> {
     pub p: usize,
     pub a: &'a [u16],
     pub b: &'a [u16],
+    pub start: &'a [u16],
     pub x: &'a [u16],
     pub y: &'a [u16],
     pub answers: &'a mut [u8],
@@ -79,7 +80,7 @@ pub struct LumReplayReply {
 pub extern "C" fn lum_version() -> u32
     ensures { λ r. ⌜ r ≡ version ⌝ }
 {
-    2
+    3
 }
 
 // The sizes' check.
@@ -187,16 +188,17 @@ fn replay_tables<'a>(
     p: usize,
     a: &'a [u16],
     b: &'a [u16],
+    start: &'a [u16],
     x: &'a [u16],
     y: &'a [u16],
     answers: &'a mut [u8],
     work: &'a mut [u32],
 ) -> LumReplayReply
     ensures { λ r. ⌜ replayedOf r (now (answers .exit)) (now (work .exit))
-        ≡ replay (replaying.lent n m t (now (a .entry)) (now (b .entry)) (now (x .entry)) (now (y .entry))
+        ≡ replay (replaying.lent n m t (now (a .entry)) (now (b .entry)) (now (start .entry)) (now (x .entry)) (now (y .entry))
         (now (answers .entry)) (now (work .entry))) p ⌝ }
 {
-    let reply = call_replay::replay(n, m, t, p, a, b, x, y, answers, work);
+    let reply = call_replay::replay(n, m, t, p, a, b, start, x, y, answers, work);
     match reply {
         ReplayReply::Done(s) => {
             return LumReplayReply {
@@ -231,6 +233,7 @@ pub extern "C" fn lum_replay<'a>(lent: LumReplayLent<'a>) -> LumReplayReply
         lent.p,
         lent.a,
         lent.b,
+        lent.start,
         lent.x,
         lent.y,
         lent.answers,
