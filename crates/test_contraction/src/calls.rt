@@ -40,7 +40,7 @@ fn call(
     work: &mut [u32],
 ) -> ContractReply
     requires { ⌜ (m < 8194) × (k < 8194) × (words < 131610) ⌝ }
-    requires { ⌜ (32776 ≤ length (now s)) × (16392 ≤ length (now map)) ⌝ }
+    requires { ⌜ (40968 ≤ length (now s)) × (16392 ≤ length (now map)) ⌝ }
     requires { ⌜ (16392 ≤ length (now from)) × (16392 ≤ length (now to)) × (131616 ≤ length (now work)) ⌝ }
 {
     let a = calls::length(m, 1, short);

@@ -7,7 +7,7 @@ use test_random::graphs;
 
 // The path of these sizes, of which edge 0 begins at this end, and the first active entry is this one.
 fn path(n: usize, m: usize, k: usize, short: usize, end: usize, entry: usize) -> Reply {
-    let mut l = [65000u16; 32776];
+    let mut l = [65000u16; 40968];
     graphs::path(&mut l, n, m, k);
     lists::set(&mut l, lists::A, 0, end);
     lists::set(&mut l, lists::X, 0, entry);

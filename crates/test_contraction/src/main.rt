@@ -12,12 +12,12 @@ use test_slow_contraction::contraction;
 
 // Counts vector i: whether the call gives it, and whether the slow contraction gives what the call does.
 fn add_vector(t: &mut Table, text: &Text, i: usize) {
-    let mut l = [65000u16; 32776];
+    let mut l = [65000u16; 40968];
     vectors::graph(&mut l, text, i);
-    let mut want = [0u16; 32776];
+    let mut want = [0u16; 40968];
     let r = vectors::wanted(&mut want, text, i);
     let right = calls::agrees(&l, r, &want);
-    let mut slow = [0u16; 32776];
+    let mut slow = [0u16; 40968];
     let s = contraction::reply(&mut slow, &l);
     let slow_right = calls::agrees(&l, s, &slow);
     print::add(
@@ -54,9 +54,9 @@ fn add_vectors(t: &mut Table) {
 // Counts a random graph: all, those on which the call and the slow contraction disagree, those with a kept class without an active node, and those that are
 // refused.
 fn add_random(t: &mut Table, s: usize) {
-    let mut l = [65000u16; 32776];
+    let mut l = [65000u16; 40968];
     graphs::make(&mut l, s);
-    let mut want = [0u16; 32776];
+    let mut want = [0u16; 40968];
     let r = contraction::reply(&mut want, &l);
     let right = calls::agrees(&l, r, &want);
     let idle = (r[4] > 0) as usize;

@@ -2,10 +2,17 @@
 use crate::counts;
 use crate::lists;
 use crate::lists::List;
+use crate::random;
 ghost use Prim.Native.Nat.{_+_, _≤_};
 
 // A refusal's number and its place, both 0 where there is none; three numbers that are returned; how many entries of the tables are wrong, in three more.
 pub type Reply = [usize; 8];
+
+// The lengths of the tables that a replay is lent: A, B, the starting table, X, Y, the answers and the work table; then a number without a meaning.
+pub type Lengths = [usize; 8];
+
+// The answers that a replay is lent, and some behind them.
+pub type Bytes = [u8; 4104];
 
 // Tables are longer than they have to be.
 pub const LONGER: usize = 9;
@@ -63,7 +70,21 @@ pub fn bytes_wrong(t: &[u8], want: &List, table: usize, count: usize, all: usize
     wrong
 }
 
-// Internal: the same of entries.
+// Internal: how many faults the comparison of 4096 bytes notices of so many, each put into the wanted bytes alone.
+pub fn noticed(t: &Bytes, want: &mut List, s: usize, planted: usize) -> usize {
+    let mut count: usize = 0;
+    for j in 0..planted {
+        let i = random::at(s, 7, j, 4096);
+        let v = lists::at(want, lists::A, i);
+        lists::set(want, lists::A, i, counts::plus(v, 1));
+        let wrong = bytes_wrong(t, want, lists::A, 4096, 4096);
+        count = counts::counted(count, wrong > 0);
+        lists::set(want, lists::A, i, v);
+    }
+    count
+}
+
+// Internal: the same as bytes_wrong of entries.
 pub fn entries_wrong(t: &[u16], want: &List, table: usize, count: usize, all: usize) -> usize {
     let n = counts::least(all, t.len());
     let mut wrong: usize = 0;

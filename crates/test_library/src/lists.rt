@@ -1,8 +1,9 @@
-// A network with its events, or with its active entries: four tables of 8192 entries, then four sizes. A has the segments' first ends, B their second ends,
-// X and Y the events. The sizes stand under the same names: N, M, T and the share. Of a contraction X has the active entries and K, and Y nothing.
+// A network with its events, or with its active entries: five tables of 8192 entries, then four sizes. A has the segments' first ends, B their second ends,
+// X and Y the events, START what is open at the start. The sizes stand under the names N, M, T and the share at A, B, X and Y. Of a contraction X has the
+// active entries and K, and Y and START nothing.
 use crate::counts;
 
-pub type List = [u16; 32776];
+pub type List = [u16; 40968];
 
 pub const A: usize = 0;
 
@@ -12,23 +13,35 @@ pub const X: usize = 2;
 
 pub const Y: usize = 3;
 
+pub const START: usize = 4;
+
 // Internal: entry i of a table.
 pub fn at(l: &List, table: usize, i: usize) -> usize {
-    counts::entry(l[table % 4 * 8192 + i % 8192])
+    counts::entry(l[table % 5 * 8192 + i % 8192])
 }
 
 // Internal: sets entry i of a table.
 pub fn set(l: &mut List, table: usize, i: usize, v: usize) {
-    l[table % 4 * 8192 + i % 8192] = (v % 65536) as u16;
+    l[table % 5 * 8192 + i % 8192] = (v % 65536) as u16;
+}
+
+// Internal: how many of the first count entries of a table have this value.
+pub fn tally(l: &List, table: usize, count: usize, value: usize) -> usize {
+    let mut found: usize = 0;
+    for i in 0..count {
+        found = counts::counted(found, at(l, table, i) == value);
+    }
+    found
 }
 
 // Internal: the size that stands under this name.
 pub fn size(l: &List, table: usize) -> usize {
-    counts::entry(l[32768 + table % 4])
+    counts::entry(l[40960 + table % 4])
 }
 
-fn set_size(l: &mut List, table: usize, v: usize) {
-    l[32768 + table % 4] = (v % 65536) as u16;
+// Internal: sets one size.
+pub fn set_size(l: &mut List, table: usize, v: usize) {
+    l[40960 + table % 4] = (v % 65536) as u16;
 }
 
 // Internal: sets the four sizes.

@@ -18,7 +18,7 @@ pub fn round(x: usize, n: usize) -> usize {
 
 // Internal: a number below n for place i of the table t, or 0.
 pub fn at(s: usize, t: usize, i: usize, n: usize) -> usize {
-    let a = next(s % 2147483648 + t % 16 * 7919);
+    let a = next(s % 2147483648 + t % 32 * 7919);
     let b = next((a ^ (a / 65536)) % 2147483648 + i % 8192 * 104729);
     round(next(b ^ (b / 65536)) / 65536, n)
 }

@@ -35,9 +35,9 @@ fn main() {
         b"\
 vectors of the program: #\n\
 wrong: #\n\
-of the lengths 0 to 1023 of an input of 28 bytes, refused by 9: #\n\
-of 193 junctions, 65 segments, 33 events, refused by 10: #\n\
-of 192 junctions, 64 segments, 32 events, refused by 10: #\n\
+of the lengths 0 to 5119 of an input of 34 bytes, refused by 9: #\n\
+of 177 junctions, 65 segments, 33 events, refused by 10: #\n\
+of 176 junctions, 64 segments, 32 events, refused by 10: #\n\
 ",
         &t,
     );

@@ -36,10 +36,10 @@ fn refused(n: u8, m: u8, t: u8, count: usize, line: &[u8]) -> bool {
     is_line(&out, r, line)
 }
 
-// How many lengths up to 1023 are refused by 9, where the sizes ask for 28 bytes.
+// How many lengths up to 5119 are refused by 9, where the sizes ask for 34 bytes. The program reads no more than 1024.
 pub(crate) fn lengths_refused() -> usize {
     let mut count: usize = 0;
-    for length in 0..1024 {
+    for length in 0..5120 {
         count = counts::counted(count, refused(3, 3, 2, length, b"refused 9 at 0\n"));
     }
     count
@@ -52,7 +52,7 @@ fn is_past(n: u8, m: u8, t: u8) -> bool {
 // How many of the three sizes are refused by 10 where one of them is at its limit, or past it by one, and the input ends after the sizes.
 pub(crate) fn sizes_refused(past: u8) -> usize {
     let more = past % 2;
-    let n = counts::counted(0, is_past(192 + more, 0, 0));
+    let n = counts::counted(0, is_past(176 + more, 0, 0));
     let m = counts::counted(n, is_past(1, 64 + more, 0));
     counts::counted(m, is_past(1, 0, 32 + more))
 }

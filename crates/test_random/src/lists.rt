@@ -1,5 +1,6 @@
 // Random networks with lists of events, of several kinds; and such with a fault.
 use crate::networks;
+use test_library::calls;
 use test_library::counts;
 use test_library::lists;
 use test_library::lists::List;
@@ -7,7 +8,18 @@ use test_library::random;
 use test_library::tables;
 use test_library::tables::Marks;
 
-// Whether event i opens a segment in order or asks. Half of the lists do so at first, in three events of four, so that many are open when it is asked later.
+// Makes the starting table, where about so many of eight segments are open: none, some or all. Marks these.
+fn make_start(l: &mut List, open: &mut Marks, s: usize, eighths: usize) {
+    let m = lists::size(l, lists::B);
+    for e in 0..m {
+        let opens = random::at(s, 16, e, 8) < eighths;
+        lists::set(l, lists::START, e, opens as usize % 2);
+        tables::mark(open, e, opens);
+    }
+}
+
+// Whether event i changes a segment in order or asks. Half of the lists do so at first, in three events of four, so that of those that are closed at the
+// start many are open when it is asked later.
 fn is_ordered(s: usize, t: usize, i: usize) -> bool {
     (s / 27 % 2 == 0) & (i % 8192 * 4 < t % 8192 * 3)
 }
@@ -54,11 +66,12 @@ fn make_event(l: &mut List, open: &mut Marks, s: usize, places: usize, i: usize)
     }
 }
 
-// Makes the segments, over the first places junctions, and the events of a list with these sizes.
-fn fill(l: &mut List, kind: usize, s: usize, places: usize) {
+// Makes the segments, over the first places junctions, the starting table and the events of a list with these sizes.
+fn fill(l: &mut List, kind: usize, s: usize, places: usize, eighths: usize) {
     networks::make(l, kind, s, places);
     let t = lists::size(l, lists::X);
     let mut open = [false; 8192];
+    make_start(l, &mut open, s, eighths);
     for i in 0..t {
         make_event(l, &mut open, s, places, i);
     }
@@ -73,11 +86,11 @@ fn some(n: usize, count: usize) -> usize {
 }
 
 // The list of a kind and a seed with sizes up to these. Half of the lists have as many events as they may.
-fn sized(l: &mut List, kind: usize, s: usize, n: usize, m: usize, t: usize) {
+fn sized(l: &mut List, kind: usize, s: usize, n: usize, m: usize, t: usize, eighths: usize) {
     let p = 4 + random::at(s, 10, 0, 9) % 9;
     let events = counts::least(random::at(s, 9, 0, t % 8192 * 2), t);
     lists::set_sizes(l, n, some(n, random::at(s, 8, 0, m)), some(n, events), p);
-    fill(l, kind, s, n);
+    fill(l, kind, s, n, eighths);
 }
 
 // X of an event with a fault: X that is nothing, a query, a change, X past the junctions, an open or a close that comes by chance, or an event a second time.
@@ -107,48 +120,101 @@ fn bad_y(l: &List, what: usize, j: usize) -> usize {
     }
 }
 
-// Puts a fault into the list: at an end, at an event, or at both.
-fn spoil(l: &mut List, s: usize) {
-    let what = random::at(s, 14, 0, 8);
+// Puts a starting entry that is neither 0 nor 1.
+fn spoil_start(l: &mut List, s: usize) {
+    let v = match random::at(s, 17, 0, 3) {
+        0 => 2,
+        1 => 3,
+        _ => 65535,
+    };
+    lists::set(l, lists::START, random::at(s, 18, 0, 12), v);
+}
+
+// Puts an event that is refused, or that may be.
+fn spoil_event(l: &mut List, s: usize, what: usize) {
     let i = random::at(s, 15, 0, 12);
     let j = random::at(s, 2, 0, 12);
+    let x = bad_x(l, what, j);
+    let y = bad_y(l, what, j);
+    lists::set(l, lists::X, i, x);
+    lists::set(l, lists::Y, i, y);
+}
+
+// Puts faults into the list: at an end, at a starting entry, at an event, or at several of these.
+fn spoil(l: &mut List, s: usize) {
+    let what = random::at(s, 14, 0, 9);
     if what < 2 {
         networks::spoil(l, s);
     }
-    if what > 0 {
-        let x = bad_x(l, what, j);
-        let y = bad_y(l, what, j);
-        lists::set(l, lists::X, i, x);
-        lists::set(l, lists::Y, i, y);
+    if (what == 8) | (random::at(s, 19, 0, 4) == 0) {
+        spoil_start(l, s);
+    }
+    if (what > 0) & (what < 8) {
+        spoil_event(l, s, what);
     }
 }
 
-// Internal: the list s of at most 8 junctions, 12 segments and 12 events, of each kind in turn, and every third with a fault.
+// Internal: the list s of at most 8 junctions, 12 segments and 12 events, of each kind in turn, and every third with a fault. In a ninth of the lists all
+// segments are closed at the start, in a ninth all are open, and in the others each by chance.
 pub fn small(l: &mut List, s: usize) {
-    sized(l, s / 3 % 9, s, random::at(s, 7, 0, 9), 13, 12);
+    sized(l, s / 3 % 9, s, random::at(s, 7, 0, 9), 13, 12, s / 54 % 9);
     if s % 3 == 2 {
         spoil(l, s);
     }
 }
 
-// Internal: the list s of 16, 64 or 256 junctions, and at most 512 segments and 512 events, of each kind in turn.
+// Internal: which table of the small list s is one entry short: of some of the lists with a fault one, else all are longer.
+pub fn short(s: usize) -> usize {
+    if (s % 3 == 2) & (random::at(s, 20, 0, 8) == 0) {
+        return 1 + random::at(s, 21, 0, 7) % 7;
+    }
+    calls::LONGER
+}
+
+// Internal: the list s of 16, 64 or 256 junctions, and at most 512 segments and 512 events, of each kind in turn. The starting tables are of each kind in
+// turn too, in another order for each number of junctions.
 pub fn large(l: &mut List, s: usize) {
     let n = match s / 9 {
         0 => 16,
         1 => 64,
         _ => 256,
     };
-    sized(l, s % 32 * 5 % 9, s, n, 513, 512);
+    sized(
+        l,
+        s % 32 * 5 % 9,
+        s,
+        n,
+        513,
+        512,
+        (s % 64 + s % 64 / 9 * 2) % 9,
+    );
 }
 
-// Internal: a list of the full sizes on a ring of so many places.
-pub fn ring(l: &mut List, places: usize, p: usize) {
-    lists::set_sizes(l, 4096, 8192, 4096, p);
-    fill(l, 1, 0, places);
+// The places of ring i: a path; a ring; a smaller ring; small ones with many segments side by side; then those where segments are open at the start.
+fn places(i: usize) -> usize {
+    match i {
+        1 => 1500,
+        2 => 600,
+        3 => 64,
+        4 => 7,
+        6 => 2500,
+        _ => 4096,
+    }
 }
 
-// Internal: the path 0-1-2 with loops for the segments that are left, where all entries of X and Y are 1.
-pub fn path(l: &mut List, n: usize, m: usize, t: usize, p: usize) {
-    lists::set_sizes(l, n, m, t, p);
-    networks::make(l, networks::PATH, 0, 3);
+// How many of eight segments are open at the start in ring i.
+fn ring_eighths(i: usize) -> usize {
+    match i {
+        5 | 6 => 8,
+        7 => 4,
+        _ => 0,
+    }
+}
+
+// Internal: the list i of the full sizes on a ring, and how many places the ring has. At the start all segments are closed in the first five, all are open in
+// two more, and each by chance in the last.
+pub fn ring(l: &mut List, i: usize) -> usize {
+    lists::set_sizes(l, 4096, 8192, 4096, 4 + i % 5 * 2);
+    fill(l, 1, 0, places(i), ring_eighths(i));
+    places(i)
 }

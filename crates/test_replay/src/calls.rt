@@ -1,16 +1,17 @@
 // Calls of replay. A result is a list with the answers in A.
 use test_library::calls;
+use test_library::calls::Bytes;
+use test_library::calls::Lengths;
 use test_library::calls::Reply;
 use test_library::counts;
 use test_library::lists;
 use test_library::lists::List;
+use test_slow_replay::replay;
 use theory_timeline::ReplayReply;
-ghost use Prim.Native.Nat.{_<_, _≤_};
+ghost use Prim.Native.Nat.{_≤_};
 ghost use lib.ListN.{length};
 
-pub(crate) type Bytes = [u8; 4104];
-
-pub(crate) type Work = [u32; 1181992];
+pub(crate) type Work = [u32; 1247536];
 
 fn plain(r: ReplayReply) -> Reply {
     match r {
@@ -19,71 +20,91 @@ fn plain(r: ReplayReply) -> Reply {
     }
 }
 
-// The least length of the work table.
-fn required(n: usize, t: usize) -> usize
-    ensures { λ r. ⌜ r < 1181985 ⌝ }
-{
-    t % 4098 * 256 + n % 4098 * 32 + 2048
+// The least lengths of the tables, or one of them one entry short: 1 to 7, or all of them longer.
+pub(crate) fn lengths(l: &List, short: usize) -> Lengths {
+    let m = lists::size(l, lists::B);
+    let t = lists::size(l, lists::X);
+    let words = replay::required(lists::size(l, lists::A), m, t);
+    [
+        calls::length(m, 1, short),
+        calls::length(m, 2, short),
+        calls::length(m, 3, short),
+        calls::length(t, 4, short),
+        calls::length(t, 5, short),
+        calls::length(t, 6, short),
+        calls::length(words, 7, short),
+        0,
+    ]
 }
 
-// The call with tables of the least lengths, or one of them one entry short: 1 to 6, or all of them longer. The tables of the list stand in s.
+// The first count entries of a table of the list. Those behind it are lent where the table is to be longer than it is.
+fn part(s: &[u16], table: usize, count: usize) -> &[u16]
+    requires { ⌜ 40968 ≤ length (now s) ⌝ }
+{
+    let from = table % 5 * 8192;
+    let to = from + counts::least(count, 8196);
+    &s[from..to]
+}
+
+// The call with tables of these lengths. The tables of the list stand in s.
 fn call(
     n: usize,
     m: usize,
     t: usize,
     p: usize,
-    words: usize,
-    short: usize,
+    lengths: Lengths,
     s: &[u16],
     answers: &mut [u8],
     work: &mut [u32],
 ) -> ReplayReply
-    requires { ⌜ (m < 8194) × (t < 4098) × (words < 1181985) ⌝ }
-    requires { ⌜ (32776 ≤ length (now s)) × (4104 ≤ length (now answers)) × (1181992 ≤ length (now work)) ⌝ }
+    requires { ⌜ (40968 ≤ length (now s)) × (4104 ≤ length (now answers)) × (1247536 ≤ length (now work)) ⌝ }
 {
-    let a = calls::length(m, 1, short);
-    let b = 8192 + calls::length(m, 2, short);
-    let c = 16384 + calls::length(t, 3, short);
-    let d = 24576 + calls::length(t, 4, short);
-    let e = calls::length(t, 5, short);
-    let f = calls::length(words, 6, short);
+    let bytes = counts::least(lengths[5], 4104);
+    let words = counts::least(lengths[6], 1247536);
     call_replay::replay(
         n,
         m,
         t,
         p,
-        &s[..a],
-        &s[8192..b],
-        &s[16384..c],
-        &s[24576..d],
-        &mut answers[..e],
-        &mut work[..f],
+        part(s, lists::A, lengths[0]),
+        part(s, lists::B, lengths[1]),
+        part(s, lists::START, lengths[2]),
+        part(s, lists::X, lengths[3]),
+        part(s, lists::Y, lengths[4]),
+        &mut answers[..bytes],
+        &mut work[..words],
     )
 }
 
 fn refill(work: &mut Work, count: usize) {
     for i in 0..count {
-        work[i % 1181992] = 7;
+        work[i % 1247536] = 7;
     }
 }
 
 // The call's reply, with how many answers and words are wrong, given the answers that are wanted.
 pub(crate) fn run(
     l: &List,
-    short: usize,
+    lengths: Lengths,
     want: &List,
     answers: &mut Bytes,
     work: &mut Work,
 ) -> Reply {
     let n = lists::size(l, lists::A);
-    let m = lists::size(l, lists::B) % 8194;
-    let t = lists::size(l, lists::X) % 4098;
-    let words = required(n, t);
-    refill(work, words + 3);
+    let m = lists::size(l, lists::B);
+    let t = lists::size(l, lists::X);
+    let words = replay::required(n, m, t);
+    refill(work, words + 8);
     let p = lists::size(l, lists::Y);
-    let mut r = plain(call(n, m, t, p, words, short, l, answers, work));
-    let a = calls::bytes_wrong(answers, want, lists::A, calls::written(r, t), t + 3);
-    let w = calls::words_wrong(work, calls::written(r, words), counts::plus(words, 3));
+    let mut r = plain(call(n, m, t, p, lengths, l, answers, work));
+    let a = calls::bytes_wrong(
+        answers,
+        want,
+        lists::A,
+        calls::written(r, t),
+        counts::plus(t, 8),
+    );
+    let w = calls::words_wrong(work, calls::written(r, words), counts::plus(words, 8));
     r[5] = a;
     r[7] = w;
     r

@@ -109,10 +109,13 @@ fn part(c: &mut Table, p: &Table, n: usize) {
     }
 }
 
-fn part_without(c: &mut Table, l: &List, open: &Marks, removed: usize) {
+// Parts the classes along what the removal of edge e leaves, where it parts its ends.
+fn part_without(c: &mut Table, l: &List, open: &Marks, e: usize) {
     let mut p = [0u32; 512];
-    pieces_without(&mut p, l, open, removed);
-    part(c, &p, lists::size(l, lists::A));
+    pieces_without(&mut p, l, open, e);
+    if !together(&p, lists::at(l, lists::A, e), lists::at(l, lists::B, e)) {
+        part(c, &p, lists::size(l, lists::A));
+    }
 }
 
 // Adds edge e to the pieces. Where its ends were not joined before, its removal may part classes.
@@ -129,7 +132,9 @@ fn part_along(c: &mut Table, p: &mut Table, l: &List, open: &Marks, e: usize) {
 // each alone in p.
 pub(crate) fn classes(c: &mut Table, p: &mut Table, l: &List, open: &Marks) {
     let m = lists::size(l, lists::B);
-    part_without(c, l, open, m);
+    let mut all = [0u32; 512];
+    pieces_without(&mut all, l, open, m);
+    part(c, &all, lists::size(l, lists::A));
     for e in 0..m {
         if tables::marked(open, e) {
             part_along(c, p, l, open, e);
@@ -202,12 +207,16 @@ fn count_kept(l: &List, open: &Marks, c: &Table, p: &Table, active: &Marks, held
     count
 }
 
-// Internal: how many classes are kept.
+// Internal: how many classes are kept. One without an active node is kept only where three others hold one, each in a part of its own.
 pub fn kept(l: &List, open: &Marks, active: &Marks) -> usize {
     let mut c = [0u32; 512];
     let mut p = [0u32; 512];
     classes(&mut c, &mut p, l, open);
     let mut held = [0u32; 512];
     mark_held(&mut held, l, &c, active);
+    let some = sum(&held, lists::size(l, lists::A));
+    if some < 3 {
+        return some;
+    }
     count_kept(l, open, &c, &p, active, &held)
 }

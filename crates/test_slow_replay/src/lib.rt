@@ -1,4 +1,6 @@
-// Internal, for the tests alone: a slow and simple version of the replay, written from document 01's words. It calls nothing of the product. Networks have
-// at most 512 junctions and 512 segments, but for rings, which may have the full size.
+// Internal, for the tests alone: a slow and simple version of the replay, written from the words of document 01 and of document 02's request 1; and counts of
+// the lists on which another replay is compared with it. Nothing here calls the product. Networks have at most 512 junctions and 512 segments, but for rings,
+// which may have the full size.
 pub mod replay;
 mod rings;
+pub mod totals;

@@ -1,21 +1,29 @@
 // Rings: the first junctions are the places of a ring, and segment e goes from place e to the next, counted round. An answer is told by walking both ways
 // round: each way gives as many routes without a common segment as its weakest place has open copies. The classes of a ring lie in a row, so that no class
-// without an active junction
-// is kept. Where each place has an open copy to the next, the ring is one class; else a class ends at each place with at most one.
+// without an active junction is kept. Where each place has an open copy to the next, the ring is one class; else a class ends at each place with at most one.
 use test_library::counts;
 use test_library::lists;
 use test_library::lists::List;
-use test_library::random;
 use test_library::tables;
 use test_library::tables::Marks;
 
+// The place behind k, counted round.
+fn next(places: usize, k: usize) -> usize {
+    let behind = counts::plus(k, 1);
+    if behind < places {
+        return behind;
+    }
+    0
+}
+
 // Counts in A how many open copies go from each place to the next.
 fn count_copies(r: &mut List, open: &Marks, places: usize) {
+    let mut k: usize = 0;
     for e in 0..8192 {
         if tables::marked(open, e) {
-            let k = random::round(e, places);
             lists::set(r, lists::A, k, counts::plus(lists::at(r, lists::A, k), 1));
         }
+        k = next(places, k);
     }
 }
 
@@ -28,7 +36,7 @@ fn way(copies: &List, places: usize, u: usize, v: usize) -> usize {
             return fewest;
         }
         fewest = counts::least(fewest, lists::at(copies, lists::A, k));
-        k = random::round(counts::plus(k, 1), places);
+        k = next(places, k);
     }
     0
 }
@@ -41,7 +49,7 @@ pub(crate) fn answer(open: &Marks, places: usize, u: usize, v: usize) -> usize {
     if (u >= places) | (v >= places) {
         return 0;
     }
-    let mut copies = [0u16; 32776];
+    let mut copies = [0u16; 40968];
     count_copies(&mut copies, open, places);
     let both = counts::plus(way(&copies, places, u, v), way(&copies, places, v, u));
     counts::least(both, 2)
@@ -62,7 +70,7 @@ fn number_row(r: &mut List, places: usize, gap: usize) {
     let mut k = gap;
     let mut number: usize = 0;
     for _ in 0..places {
-        k = random::round(counts::plus(k, 1), places);
+        k = next(places, k);
         lists::set(r, lists::B, k, number);
         number = counts::counted(number, lists::at(r, lists::A, k) < 2);
     }

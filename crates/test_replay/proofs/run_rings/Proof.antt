@@ -4,10 +4,10 @@ use Rattle.test_replay.proofs.run_rings.Statement.{statement}
 use Rattle.test_replay.proofs.run_rings.Tie as tie
 
 abbrev Inv-loop : tie.InvT-loop
-Inv-loop t₀ work₀ i₀ t work i = i ≤ 5
+Inv-loop t₀ work₀ i₀ t work i = i ≤ 8
 
 abbrev μ-loop : tie.MeasureT-loop
-μ-loop t₀ work₀ i₀ t work i = 5 - i
+μ-loop t₀ work₀ i₀ t work i = 8 - i
 
 pub run-rings-spec : {M : Type 1} → statement M
 run-rings-spec =
@@ -16,10 +16,6 @@ run-rings-spec =
     Inv-loop
     μ-loop
     (λ c. search needs)
-    (λ c κs. search needs)
-    (λ c. search needs)
-    (λ c. search needs)
-    (λ c κs. search needs)
     (λ c κs. search needs)
     (λ c κs. search needs)
     (λ c. search needs)

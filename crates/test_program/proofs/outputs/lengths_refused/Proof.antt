@@ -4,10 +4,10 @@ use Rattle.test_program.proofs.outputs.lengths_refused.Statement.{state
 use Rattle.test_program.proofs.outputs.lengths_refused.Tie as tie
 
 abbrev Inv-loop : tie.InvT-loop
-Inv-loop count₀ length₀ t3 count length = length ≤ 1024
+Inv-loop count₀ length₀ t3 count length = length ≤ 5120
 
 abbrev μ-loop : tie.MeasureT-loop
-μ-loop count₀ length₀ t3 count length = 1024 - length
+μ-loop count₀ length₀ t3 count length = 5120 - length
 
 pub lengths-refused-spec : {M : Type 1} → statement M
 lengths-refused-spec =

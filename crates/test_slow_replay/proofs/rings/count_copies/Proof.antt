@@ -4,10 +4,10 @@ use Rattle.test_slow_replay.proofs.rings.count_copies.Statement.{statem
 use Rattle.test_slow_replay.proofs.rings.count_copies.Tie as tie
 
 abbrev Inv-loop : tie.InvT-loop
-Inv-loop r₀ «open» places e₀ r e = e ≤ 8192
+Inv-loop r₀ «open» places k₀ e₀ r k e = e ≤ 8192
 
 abbrev μ-loop : tie.MeasureT-loop
-μ-loop r₀ «open» places e₀ r e = 8192 - e
+μ-loop r₀ «open» places k₀ e₀ r k e = 8192 - e
 
 pub count-copies-spec : {M : Type 1} → statement M
 count-copies-spec =

@@ -1,23 +1,24 @@
 use Prim.Native.Nat.{_≤_, _-_}
 use borrow.Author.Needs.{needs}
-use Rattle.test_slow_replay.proofs.replay.tally.Statement.{statement}
-use Rattle.test_slow_replay.proofs.replay.tally.Tie as tie
+use Rattle.test_slow_replay.proofs.replay.bad_start.Statement.{statement}
+use Rattle.test_slow_replay.proofs.replay.bad_start.Tie as tie
 
 abbrev Inv-loop : tie.InvT-loop
-Inv-loop r t value count₀ i₀ count i = i ≤ t
+Inv-loop l m e₀ e = e ≤ m
 
 abbrev μ-loop : tie.MeasureT-loop
-μ-loop r t value count₀ i₀ count i = t - i
+μ-loop l m e₀ e = m - e
 
-pub tally-spec : {M : Type 1} → statement M
-tally-spec =
+pub bad-start-spec : {M : Type 1} → statement M
+bad-start-spec =
     tie.close
     (tie.spec
     Inv-loop
     μ-loop
+    (λ c κs. search needs)
     (λ c. search needs)
     (λ c κs. search needs)
-    (λ c κs. search needs)
+    (λ c. search needs)
     (λ c. search needs)
     (λ c. search needs)
     (λ c. search needs)

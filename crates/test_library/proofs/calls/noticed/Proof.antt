@@ -1,13 +1,13 @@
 use Prim.Native.Nat.{_≤_, _-_}
 use borrow.Author.Needs.{needs}
-use Rattle.test_replay.proofs.noticed.Statement.{statement}
-use Rattle.test_replay.proofs.noticed.Tie as tie
+use Rattle.test_library.proofs.calls.noticed.Statement.{statement}
+use Rattle.test_library.proofs.calls.noticed.Tie as tie
 
 abbrev Inv-loop : tie.InvT-loop
-Inv-loop answers want₀ s planted count₀ j₀ want count j = j ≤ planted
+Inv-loop t want₀ s planted count₀ j₀ want count j = j ≤ planted
 
 abbrev μ-loop : tie.MeasureT-loop
-μ-loop answers want₀ s planted count₀ j₀ want count j = planted - j
+μ-loop t want₀ s planted count₀ j₀ want count j = planted - j
 
 pub noticed-spec : {M : Type 1} → statement M
 noticed-spec =

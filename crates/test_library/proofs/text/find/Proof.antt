@@ -1,13 +1,13 @@
 use Prim.Native.Nat.{_≤_, _-_}
 use borrow.Author.Needs.{needs}
-use Rattle.test_program.proofs.vectors.find.Statement.{statement}
-use Rattle.test_program.proofs.vectors.find.Tie as tie
+use Rattle.test_library.proofs.text.find.Statement.{statement}
+use Rattle.test_library.proofs.text.find.Tie as tie
 
 abbrev Inv-loop : tie.InvT-loop
 Inv-loop text start byte i₀ i = start ≤ i
 
 abbrev μ-loop : tie.MeasureT-loop
-μ-loop text start byte i₀ i = 24576 - i
+μ-loop text start byte i₀ i = 32768 - i
 
 pub find-spec : {M : Type 1} → statement M
 find-spec =

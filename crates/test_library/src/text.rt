@@ -1,0 +1,66 @@
+// Vectors as text, which a test program reads from standard input: each is a line with ; at its end, and numbers stand in base 16.
+use crate::counts;
+use crate::lists;
+use crate::lists::List;
+
+pub type Text = [u8; 32768];
+
+// Internal: byte i.
+pub fn at(text: &Text, i: usize) -> usize {
+    counts::byte(text[i % 32768])
+}
+
+// Internal: the first place of this byte from start on, or the end of the text.
+pub fn find(text: &Text, start: usize, byte: usize) -> usize {
+    for i in start..32768 {
+        if at(text, i) == byte {
+            return i;
+        }
+    }
+    32768
+}
+
+// The value of a digit in base 16.
+fn digit(c: usize) -> usize {
+    if c < 58 {
+        return c % 48;
+    }
+    c % 87
+}
+
+// Internal: the number of the two digits at i.
+pub fn pair(text: &Text, i: usize) -> usize {
+    let high = digit(at(text, i));
+    let low = digit(at(text, counts::plus(i, 1)));
+    high % 16 * 16 + low % 16
+}
+
+// Number j, of four digits, of the line that begins at start.
+fn number(text: &Text, start: usize, j: usize) -> usize {
+    let i = counts::plus(start, j % 8192 * 4);
+    pair(text, i) % 256 * 256 + pair(text, counts::plus(i, 2)) % 256
+}
+
+// Internal: the eight numbers from this one on.
+pub fn row(text: &Text, start: usize, from: usize) -> [usize; 8] {
+    let mut r = [0usize; 8];
+    for i in 0..8 {
+        r[i] = number(text, start, counts::plus(from, i));
+    }
+    r
+}
+
+// Internal: copies the count numbers from this one on into a table, and answers which one comes then.
+pub fn copy(
+    l: &mut List,
+    table: usize,
+    text: &Text,
+    start: usize,
+    from: usize,
+    count: usize,
+) -> usize {
+    for j in 0..count {
+        lists::set(l, table, j, number(text, start, counts::plus(from, j)));
+    }
+    counts::plus(from, count)
+}
