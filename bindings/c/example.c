@@ -15,10 +15,11 @@ int main(int argc, char **argv)
 {
     const uint16_t a[SEGMENTS] = {0, 1, 2};
     const uint16_t b[SEGMENTS] = {1, 2, 0};
+    const uint16_t start[SEGMENTS] = {0}; /* all closed */
     const uint16_t x[EVENTS] = {LUM_OPENS, LUM_OPENS, 0, LUM_OPENS, 0};
     const uint16_t y[EVENTS] = {0, 1, 2, 2, 2};
     uint8_t answers[EVENTS] = {0};
-    static uint32_t work[LUM_REPLAY_WORK(JUNCTIONS, EVENTS)];
+    static uint32_t work[LUM_REPLAY_WORK(JUNCTIONS, SEGMENTS, EVENTS)];
     size_t share = argc > 1 ? strtoul(argv[1], NULL, 10) : 8;
 
     if (lum_version() != LUM_VERSION) {
@@ -36,6 +37,8 @@ int main(int argc, char **argv)
         .a_len = SEGMENTS,
         .b = b,
         .b_len = SEGMENTS,
+        .start = start,
+        .start_len = SEGMENTS,
         .x = x,
         .x_len = EVENTS,
         .y = y,

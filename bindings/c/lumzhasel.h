@@ -48,10 +48,11 @@
  *  LUM_OPEN_TWICE   6   event    opens an open segment (replay)
  *  LUM_NOT_OPEN     7   event    closes a closed segment (replay)
  *  LUM_ENTRY        8   entry    the first active entry not below n (contraction)
+ *  LUM_START       11   segment  the first starting entry above 1 (replay)
  *
  * The first that holds counts, in this order: 1, 2, 3, 4, then 8 in the contraction;
- * in the replay then the first event that shows 5, 6 or 7, and 5 precedes the others
- * at one event. Places are counted from 0.
+ * in the replay then 11, then the first event that shows 5, 6 or 7, and 5 precedes the
+ * others at one event. Places are counted from 0. 9 and 10 are the program's alone.
  */
 #ifndef LUMZHASEL_H
 #define LUMZHASEL_H
@@ -64,7 +65,7 @@ extern "C" {
 #endif
 
 /* The version of the calls below. */
-#define LUM_VERSION 2u
+#define LUM_VERSION 3u
 
 /* The limits. */
 #define LUM_MOST_JUNCTIONS 4096u
@@ -82,15 +83,17 @@ extern "C" {
 #define LUM_OPEN_TWICE 6u
 #define LUM_NOT_OPEN 7u
 #define LUM_ENTRY 8u
+#define LUM_START 11u
 
 /* The x of an event that opens or closes the segment in its y. */
 #define LUM_OPENS 65535u
 #define LUM_CLOSES 65534u
 
-/* The least length of the replay's work table, for n at most 4,096 and t at most 4,096. */
-#define LUM_REPLAY_WORK(n, t) (256u * (size_t)(t) + 32u * (size_t)(n) + 2048u)
+/* The least length of the replay's work table, for sizes within the limits. */
+#define LUM_REPLAY_WORK(n, m, t) \
+    (256u * (size_t)(t) + 32u * (size_t)(n) + 8u * (size_t)(m) + 2048u)
 
-/* The least length of the contraction's work table, for n at most 4,096 and m at most 8,192. */
+/* The least length of the contraction's work table, likewise. */
 #define LUM_CONTRACT_WORK(n, m) (16u * (size_t)(n) + 8u * (size_t)(m) + 512u)
 
 struct lum_sizes_reply {
@@ -137,6 +140,8 @@ struct lum_replay_lent {
     size_t a_len;
     const uint16_t *b;
     size_t b_len;
+    const uint16_t *start;
+    size_t start_len;
     const uint16_t *x;
     size_t x_len;
     const uint16_t *y;
@@ -187,23 +192,24 @@ struct lum_contract_reply lum_contract(struct lum_contract_lent lent);
 
 /*
  * Replays t events over n junctions and m segments, with the share p, 4 to 12. Segment s
- * joins a[s] and b[s], both ways; every segment is closed at the start. Event i is
+ * joins a[s] and b[s], both ways; it is open before the first event where start[s] is 1,
+ * and closed where it is 0. Event i is
  *
  *  x[i]             y[i]
  *  0 to n - 1       junction   a query of x[i] and y[i]
  *  LUM_OPENS        segment    it opens
  *  LUM_CLOSES       segment    it closes
  *
- *  table     least length            afterwards, where the call is accepted
- *  a, b      m                       (read)
- *  x, y      t                       (read)
- *  answers   t                       the first t entries: the answer bytes
- *  work      256t + 32n + 2,048      0 over that length
+ *  table        least length                afterwards, where the call is accepted
+ *  a, b, start  m                           (read)
+ *  x, y         t                           (read)
+ *  answers      t                           the first t entries: the answer bytes
+ *  work         256t + 32n + 8m + 2,048     0 over that length
  *
  * No other entry changes. The answer byte of a query is 2 where the junctions are joined
  * and stay joined whichever single open segment is removed, 1 where they are joined and
  * some single removal parts them, 0 where they are not joined; an event that opens or
- * closes has 3. The share changes `kept` and no answer. Refused by 1 to 7.
+ * closes has 3. The share changes `kept` and no answer. Refused by 1 to 7 and 11.
  */
 struct lum_replay_reply lum_replay(struct lum_replay_lent lent);
 

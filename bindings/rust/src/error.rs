@@ -16,6 +16,8 @@ pub enum Reason {
     Share,
     /// 4: the first segment or edge, the place, with an end that is no junction or node.
     End,
+    /// 11: the first segment, the place, whose starting entry is neither 0 nor 1.
+    Start,
     /// 5: the event at the place names no junction, segment or kind of event.
     Event,
     /// 6: the event at the place opens an open segment.
@@ -40,6 +42,7 @@ impl Reason {
             Reason::OpenTwice => 6,
             Reason::NotOpen => 7,
             Reason::Entry => 8,
+            Reason::Start => 11,
             Reason::Other(code) => code,
         }
     }
@@ -54,6 +57,7 @@ impl Reason {
             6 => Reason::OpenTwice,
             7 => Reason::NotOpen,
             8 => Reason::Entry,
+            11 => Reason::Start,
             code => Reason::Other(code),
         }
     }
@@ -76,6 +80,7 @@ impl fmt::Display for Refusal {
             Reason::Short => "a table is too short",
             Reason::Share => "the share is not 4 to 12",
             Reason::End => "an end of the segment is no junction",
+            Reason::Start => "the segment's starting entry is neither 0 nor 1",
             Reason::Event => "the event names no junction, segment or kind of event",
             Reason::OpenTwice => "the event opens an open segment",
             Reason::NotOpen => "the event closes a closed segment",
@@ -150,6 +155,7 @@ mod tests {
         }
         assert_eq!(Reason::from_code(8), Reason::Entry);
         assert_eq!(Reason::from_code(9), Reason::Other(9));
+        assert_eq!(Reason::from_code(11), Reason::Start);
         assert_eq!(Reason::from_code(usize::MAX).code(), usize::MAX);
     }
 

@@ -19,6 +19,20 @@
 //! # Ok::<(), lumzhasel::Error>(())
 //! ```
 //!
+//! Segments are closed at the start, but for those that the network is told of:
+//!
+//! ```
+//! # use lumzhasel::{Answer, List, Network};
+//! let network = Network::with_segments(3, [(0, 1), (1, 2), (2, 0)]).with_open(0..3);
+//! let mut list = List::new();
+//! list.query(0, 2).close(2).query(0, 2);
+//!
+//! let replayed = network.replay(&list)?;
+//! let answers: Vec<(usize, Answer)> = replayed.queries().collect();
+//! assert_eq!(answers, [(0, Answer::JoinedTwice), (2, Answer::JoinedOnce)]);
+//! # Ok::<(), lumzhasel::Error>(())
+//! ```
+//!
 //! There are two layers. The one above has [`Network`], [`List`] and [`Event`] as values, and results
 //! that own what they hold; it makes the tables of each call. The module [`tables`] has the calls as
 //! they are: the caller lends every table, and nothing is allocated.
@@ -56,7 +70,7 @@ pub const MOST_EVENTS: usize = 4096;
 pub const MOST_ENTRIES: usize = 8192;
 
 /// The version of the calls that this package was written for.
-pub const VERSION: u32 = 2;
+pub const VERSION: u32 = 3;
 
 /// The version of the calls in the archive.
 pub fn version() -> u32 {

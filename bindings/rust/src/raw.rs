@@ -1,5 +1,5 @@
 //! The exported calls of the archive, each lent a struct of numbers and tables, a table as a pointer and a length. All unsafe code
-//! stands here. These declarations are those of version 2, [`crate::VERSION`]: whoever changes one changes both.
+//! stands here. These declarations are those of version 3, [`crate::VERSION`]: whoever changes one changes both.
 #![allow(unsafe_code)]
 
 use crate::tables::{ContractTables, ReplayTables};
@@ -81,6 +81,7 @@ struct ReplayLent {
     p: usize,
     a: Read<u16>,
     b: Read<u16>,
+    start: Read<u16>,
     x: Read<u16>,
     y: Read<u16>,
     answers: Written<u8>,
@@ -143,6 +144,7 @@ pub(crate) fn replay(lent: ReplayTables<'_>) -> ReplayReply {
         p: lent.p,
         a: read(lent.a),
         b: read(lent.b),
+        start: read(lent.start),
         x: read(lent.x),
         y: read(lent.y),
         answers: written(lent.answers),

@@ -8,7 +8,7 @@
 //! use lumzhasel::tables::{answers, replay, replay_work, ReplayTables, OPENS};
 //!
 //! let mut table = [0; 5];
-//! let mut work = vec![0; replay_work(3, 5)];
+//! let mut work = vec![0; replay_work(3, 3, 5)];
 //! let totals = replay(ReplayTables {
 //!     n: 3,
 //!     m: 3,
@@ -16,6 +16,7 @@
 //!     p: 8,
 //!     a: &[0, 1, 2],
 //!     b: &[1, 2, 0],
+//!     start: &[0, 0, 0],
 //!     x: &[OPENS, OPENS, 0, OPENS, 0],
 //!     y: &[0, 1, 2, 2, 2],
 //!     answers: &mut table,
@@ -44,10 +45,11 @@ pub const JOINED_TWICE: u8 = 2;
 /// The byte of an event that opens or closes.
 pub const NO_QUERY: u8 = 3;
 
-/// The least length of the work table of a replay of `t` events over `n` junctions.
-pub const fn replay_work(n: usize, t: usize) -> usize {
+/// The least length of the work table of a replay of `t` events over `n` junctions and `m` segments.
+pub const fn replay_work(n: usize, m: usize, t: usize) -> usize {
     t.saturating_mul(256)
         .saturating_add(n.saturating_mul(32))
+        .saturating_add(m.saturating_mul(8))
         .saturating_add(2048)
 }
 
@@ -95,8 +97,8 @@ pub struct Contracted {
 }
 
 /// What a replay is lent: `t` events over `n` junctions and `m` segments, with the share `p`, 4 to 12. Segment s
-/// joins `a[s]` and `b[s]`, both ways; every segment is closed at the start. Event i is a query of the junctions
-/// `x[i]` and `y[i]`, or opens ([`OPENS`] in `x[i]`) or closes ([`CLOSES`]) the segment `y[i]`.
+/// joins `a[s]` and `b[s]`, both ways. Event i is a query of the junctions `x[i]` and `y[i]`, or opens ([`OPENS`]
+/// in `x[i]`) or closes ([`CLOSES`]) the segment `y[i]`.
 #[derive(Debug)]
 pub struct ReplayTables<'a> {
     /// The junctions.
@@ -111,6 +113,8 @@ pub struct ReplayTables<'a> {
     pub a: &'a [u16],
     /// The other end of each segment, at least m.
     pub b: &'a [u16],
+    /// For each segment 1 where it is open at the start and 0 where it is closed, at least m.
+    pub start: &'a [u16],
     /// The first number of each event, at least t.
     pub x: &'a [u16],
     /// The second number of each event, at least t.
@@ -210,8 +214,8 @@ pub fn contract(lent: ContractTables<'_>) -> Result<Contracted, Error> {
 ///
 /// # Errors
 ///
-/// [`Reason::Sizes`], [`Reason::Short`], [`Reason::Share`] and [`Reason::End`], in this order; then the
-/// first event that shows [`Reason::Event`], [`Reason::OpenTwice`] or [`Reason::NotOpen`].
+/// [`Reason::Sizes`], [`Reason::Short`], [`Reason::Share`], [`Reason::End`] and [`Reason::Start`], in this
+/// order; then the first event that shows [`Reason::Event`], [`Reason::OpenTwice`] or [`Reason::NotOpen`].
 pub fn replay(lent: ReplayTables<'_>) -> Result<Totals, Error> {
     check_version()?;
     let r = raw::replay(lent);
@@ -230,7 +234,7 @@ mod tests {
             let error = fits(archive).unwrap_err();
             assert_eq!(error, Error::Version { archive });
             assert_eq!(error.refusal(), None);
-            let words = format!("the archive has version {archive} of the calls, this package is for version 2");
+            let words = format!("the archive has version {archive} of the calls, this package is for version 3");
             assert_eq!(error.to_string(), words);
         }
     }

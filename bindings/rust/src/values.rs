@@ -5,12 +5,15 @@ use crate::tables::{self, ContractTables, ReplayTables, Totals, CLOSES, OPENS};
 
 /// Junctions and the segments between them; or nodes and edges, for a contraction. Both are numbered from 0.
 ///
-/// A segment may join a junction to itself, and several may join the same two. Nothing is checked before a call is
-/// made: an end that is no junction is refused then.
+/// A segment may join a junction to itself, and several may join the same two. Ends are not checked before a call is
+/// made: one that is no junction is refused then. A segment is closed at the start of a replay, unless the network says
+/// that it is open.
 #[derive(Clone, Debug, Default, PartialEq, Eq, Hash)]
 pub struct Network {
     junctions: usize,
     segments: Vec<(usize, usize)>,
+    // For each segment whether it is open at the start.
+    start: Vec<bool>,
 }
 
 impl Network {
@@ -21,16 +24,43 @@ impl Network {
 
     /// A network with these segments, by their two ends.
     pub fn with_segments(junctions: usize, segments: impl IntoIterator<Item = (usize, usize)>) -> Network {
+        let segments = Vec::from_iter(segments);
         Network {
             junctions,
-            segments: segments.into_iter().collect(),
+            start: vec![false; segments.len()],
+            segments,
         }
+    }
+
+    /// The same network with these segments open at the start, and all others closed.
+    ///
+    /// # Panics
+    ///
+    /// Where the network has no such segment.
+    pub fn with_open(mut self, segments: impl IntoIterator<Item = usize>) -> Network {
+        self.start.fill(false);
+        for s in segments {
+            self.open_at_start(s);
+        }
+        self
     }
 
     /// Adds a segment, and says its number.
     pub fn add_segment(&mut self, u: usize, v: usize) -> usize {
         self.segments.push((u, v));
+        self.start.push(false);
         self.segments.len() - 1
+    }
+
+    /// The segment is open at the start.
+    ///
+    /// # Panics
+    ///
+    /// Where the network has no such segment.
+    pub fn open_at_start(&mut self, segment: usize) -> &mut Network {
+        let open = self.start.get_mut(segment);
+        *open.unwrap_or_else(|| panic!("the network has no segment {segment}")) = true;
+        self
     }
 
     /// The number of junctions.
@@ -43,12 +73,17 @@ impl Network {
         &self.segments
     }
 
+    /// For each segment whether it is open at the start.
+    pub fn start(&self) -> &[bool] {
+        &self.start
+    }
+
     // The two tables of the segments' ends.
     fn ends(&self) -> (Vec<u16>, Vec<u16>) {
         self.segments.iter().map(|&(u, v)| (entry(u), entry(v))).unzip()
     }
 
-    /// Replays a list over the network, in which every segment is closed at the start.
+    /// Replays a list over the network.
     ///
     /// # Errors
     ///
@@ -61,6 +96,7 @@ impl Network {
         // Before any table is made, which must have a length within reason.
         tables::check_sizes(n, m, t, 0)?;
         let (a, b) = self.ends();
+        let start: Vec<u16> = self.start.iter().map(|&open| open.into()).collect();
         let (x, y): (Vec<u16>, Vec<u16>) = list.events.iter().map(|e| e.entries()).unzip();
         let mut answers = vec![0; t];
         let totals = tables::replay(ReplayTables {
@@ -70,10 +106,11 @@ impl Network {
             p: list.share,
             a: &a,
             b: &b,
+            start: &start,
             x: &x,
             y: &y,
             answers: &mut answers,
-            work: &mut vec![0; tables::replay_work(n, t)],
+            work: &mut vec![0; tables::replay_work(n, m, t)],
         })?;
         let answers = tables::answers(&answers, t)?.iter().map(|&b| Answer::from_byte(b));
         Ok(Replayed {
@@ -82,7 +119,7 @@ impl Network {
         })
     }
 
-    /// Contracts the graph of all segments to the active nodes, which may repeat.
+    /// Contracts the graph of all segments, open or closed, to the active nodes, which may repeat.
     ///
     /// # Errors
     ///

@@ -1,4 +1,4 @@
-//! Document 01's cases, as calls show them, and the limits.
+//! The cases of documents 01 and 02, as calls show them, and the limits.
 
 mod common;
 
@@ -18,9 +18,11 @@ fn refusal(l: &List) -> (usize, usize) {
     l.compare().reply.unwrap_err()
 }
 
+const TRIANGLE: [(u16, u16); 3] = [(0, 1), (1, 2), (2, 0)];
+
 fn example(p: usize) -> List {
     let events = [(OPENS, 0), (OPENS, 1), (0, 2), (OPENS, 2), (0, 2)];
-    list(3, p, &[(0, 1), (1, 2), (2, 0)], &events)
+    list(3, p, &TRIANGLE, &events)
 }
 
 #[test]
@@ -103,9 +105,11 @@ fn the_shares() {
 #[test]
 fn the_limits_of_a_replay() {
     let most = list(4096, 8, &vec![(0, 4095); 8192], &vec![(0, 4095); 4096]);
-    let got = most.call();
-    assert_eq!(got.reply.map(|r| (r.0, r.1)), Ok((4096, 0)));
-    assert!(got.answers.iter().all(|b| *b == 0));
+    for (entry, open, byte) in [(0, 0, 0), (1, 8192, 2)] {
+        let got = most.clone().with_start(&[entry; 8192]).call();
+        assert_eq!(got.reply.map(|r| (r.0, r.1)), Ok((4096, open)));
+        assert!(got.answers.iter().all(|b| *b == byte));
+    }
     assert!(list(4096, 8, &[], &[]).call().reply.is_ok());
     assert_eq!(list(4097, 8, &[], &[]).call().reply, Err((1, 0)));
     let mut more = most.clone();
@@ -156,6 +160,31 @@ fn the_sizes() {
 fn an_empty_list() {
     assert_eq!(list(3, 8, &[(0, 1)], &[]).compare().reply, Ok((0, 0, 0)));
     assert_eq!(list(0, 8, &[], &[]).compare().reply, Ok((0, 0, 0)));
+    let open = list(3, 8, &TRIANGLE, &[]).with_start(&[1, 0, 1]);
+    assert_eq!(open.compare().reply, Ok((0, 2, 0)));
+}
+
+#[test]
+fn open_at_the_start() {
+    let closing = [(0, 2), (CLOSES, 2), (0, 2)];
+    let got = list(3, 8, &TRIANGLE, &closing).with_start(&[1, 1, 1]).compare();
+    assert_eq!((got.reply, got.answers), (Ok((2, 2, 9)), vec![2, 3, 1]));
+    // No event names a segment.
+    let got = list(3, 8, &TRIANGLE, &[(0, 2)]).with_start(&[1, 1, 1]).compare();
+    assert_eq!((got.reply, got.answers), (Ok((1, 3, 1)), vec![2]));
+    // A segment that is open at the start opens, and closes twice.
+    let pair = |events: &[(u16, u16)]| list(2, 8, &[(0, 1)], events).with_start(&[1]);
+    assert_eq!(refusal(&pair(&[(OPENS, 0)])), (6, 0));
+    assert_eq!(refusal(&pair(&[(CLOSES, 0), (CLOSES, 0)])), (7, 1));
+}
+
+#[test]
+fn starting_entries_above_1() {
+    let wrong = list(3, 8, &TRIANGLE, &[(9, 9)]);
+    assert_eq!(refusal(&wrong.clone().with_start(&[1, 2, 3])), (11, 1));
+    assert_eq!(refusal(&wrong.clone().with_start(&[0, 1, 65535])), (11, 2));
+    // Entries past the segments are ignored.
+    assert_eq!(refusal(&wrong.with_start(&[0, 1, 0, 2])), (5, 0));
 }
 
 #[test]
@@ -174,7 +203,8 @@ fn closed_and_open_segments() {
 
 #[test]
 fn the_order_of_refusals() {
-    let mut l = list(2, 3, &[(0, 2)], &[(2, 0)]);
+    // The second segment has the end that is no junction, the first the starting entry above 1.
+    let mut l = list(2, 3, &[(0, 1), (0, 2)], &[(2, 0)]).with_start(&[2, 0]);
     l.work.pop();
     l.n = 4097;
     assert_eq!(refusal(&l), (1, 0));
@@ -183,8 +213,10 @@ fn the_order_of_refusals() {
     l.work.push(0);
     assert_eq!(refusal(&l), (3, 0));
     l.p = 4;
-    assert_eq!(refusal(&l), (4, 0));
-    l.b[0] = 1;
+    assert_eq!(refusal(&l), (4, 1));
+    l.b[1] = 1;
+    assert_eq!(refusal(&l), (11, 0));
+    l.start[0] = 1;
     assert_eq!(refusal(&l), (5, 0));
     l.x[0] = 1;
     assert!(l.compare().reply.is_ok());

@@ -60,7 +60,7 @@ fn middle_graphs() {
 
 #[test]
 fn damaged_lists() {
-    let mut seen = [0; 8];
+    let mut seen = [0; 12];
     for seed in 0..6000 {
         let mut r = Numbers::from(50_000 + seed);
         let mut l = random_list(&mut r, 5, 6, 10);
@@ -71,7 +71,9 @@ fn damaged_lists() {
         let got = l.compare();
         seen[got.reply.map_or_else(|e| e.0, |_| 0)] += 1;
     }
-    assert!(seen.iter().all(|k| *k > 0), "a reply was never seen: {seen:?}");
+    for code in (0..8).chain([11]) {
+        assert!(seen[code] > 0, "a reply was never seen: {seen:?}");
+    }
 }
 
 // Changes a size, the share, a length or an entry.
@@ -84,7 +86,7 @@ fn damage(l: &mut common::List, r: &mut Numbers) {
         _ => r.below(8) as u16,
     };
     let place = r.below(12);
-    match r.below(10) {
+    match r.below(12) {
         0 => l.p = r.below(16),
         1 => l.n = r.below(8),
         2 => l.m = r.below(8),
@@ -92,10 +94,12 @@ fn damage(l: &mut common::List, r: &mut Numbers) {
         4 => l.n = 4090 + r.below(14),
         5 => l.a.truncate(l.a.len().saturating_sub(1 + r.below(3))),
         6 => l.answers.truncate(l.answers.len().saturating_sub(1 + r.below(3))),
+        7 => l.start.truncate(l.start.len().saturating_sub(1 + r.below(3))),
         k => {
             let table = match k {
-                7 => &mut l.a,
-                8 => &mut l.x,
+                8 => &mut l.a,
+                9 => &mut l.start,
+                10 => &mut l.x,
                 _ => &mut l.y,
             };
             if place < table.len() {

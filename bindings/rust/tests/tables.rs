@@ -12,9 +12,10 @@ fn a_replay_with_one_table_short() {
         l.answers = r.junk(l.answers.len()).iter().map(|v| *v as u8).collect();
         l.work = r.junk(l.work.len()).iter().map(|v| *v as u32).collect();
         assert!(l.compare().reply.is_ok());
-        let shorten: [fn(&mut List) -> bool; 6] = [
+        let shorten: [fn(&mut List) -> bool; 7] = [
             |l| l.a.pop().is_some(),
             |l| l.b.pop().is_some(),
+            |l| l.start.pop().is_some(),
             |l| l.x.pop().is_some(),
             |l| l.y.pop().is_some(),
             |l| l.answers.pop().is_some(),
@@ -114,6 +115,13 @@ fn refusals_change_nothing() {
             l.x[l.t - 1] = 5000;
             let got = l.compare();
             assert_eq!(got.reply, Err((5, l.t - 1)));
+            assert_eq!((got.answers, got.work), (l.answers.clone(), l.work.clone()));
+        }
+        if l.m > 0 {
+            // Before every event, and after all other entries.
+            l.start[l.m - 1] = 2 + r.below(65534) as u16;
+            let got = l.compare();
+            assert_eq!(got.reply, Err((11, l.m - 1)));
             assert_eq!((got.answers, got.work), (l.answers, l.work));
         }
         let mut g = random_graph(&mut r, 6, 8, 6);

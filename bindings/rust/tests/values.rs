@@ -27,7 +27,8 @@ fn event(x: u16, y: u16) -> Event {
 fn compare_list(l: &List) {
     let events = l.x.iter().zip(&l.y).map(|(&x, &y)| event(x, y));
     let list = lumzhasel::List::from_iter(events).with_share(l.p);
-    let got = network(l.n, &l.a, &l.b).replay(&list);
+    let open = (0..l.m).filter(|&s| l.start[s] == 1);
+    let got = network(l.n, &l.a, &l.b).with_open(open).replay(&list);
     let want = l.slow();
     match got {
         Err(e) => assert_eq!(Err(refusal(e)), want.reply, "{l:?}"),
@@ -78,6 +79,37 @@ fn the_example() {
     let twelve = network.replay(&list.clone().with_share(12)).unwrap();
     assert_eq!((twelve.answers, twelve.totals.kept), (eight.answers, 20));
     assert_eq!(network.replay(&list.with_share(3)), refused(Reason::Share, 0));
+}
+
+#[test]
+fn open_at_the_start() {
+    let mut network = Network::new(3);
+    for (u, v) in [(0, 1), (1, 2), (2, 0)] {
+        let s = network.add_segment(u, v);
+        network.open_at_start(s);
+    }
+    let triangle = Network::with_segments(3, network.segments().to_vec());
+    assert_eq!(network, triangle.clone().with_open([2, 0, 1, 0]));
+    let mut list = lumzhasel::List::new();
+    list.query(0, 2).close(2).query(0, 2);
+    let replayed = network.replay(&list).unwrap();
+    let (twice, once) = (Answer::JoinedTwice, Answer::JoinedOnce);
+    assert_eq!(replayed.answers, [Some(twice), None, Some(once)]);
+    assert_eq!((replayed.totals.queries, replayed.totals.open), (2, 2));
+
+    // Those that are named, and no other.
+    let one = network.clone().with_open([1]);
+    assert_eq!(one.start(), [false, true, false]);
+    assert_eq!(one.replay(&list), refused(Reason::NotOpen, 1));
+    assert_eq!(one.with_open([]), triangle);
+    assert_eq!(triangle.start(), [false; 3]);
+    assert_eq!(network.contract(&[0, 1]), triangle.contract(&[0, 1]));
+}
+
+#[test]
+#[should_panic(expected = "the network has no segment 1")]
+fn a_segment_that_is_not_there() {
+    let _ = Network::with_segments(2, [(0, 1)]).with_open([0, 1]);
 }
 
 #[test]

@@ -143,6 +143,7 @@ pub struct List {
     pub p: usize,
     pub a: Vec<u16>,
     pub b: Vec<u16>,
+    pub start: Vec<u16>,
     pub x: Vec<u16>,
     pub y: Vec<u16>,
     pub answers: Vec<u8>,
@@ -167,13 +168,19 @@ fn windows(first: usize, n: usize, p: usize, all: &mut Vec<(usize, usize)>) {
 }
 
 impl List {
+    /// The same list with another starting table.
+    pub fn with_start(self, start: &[u16]) -> List {
+        let start = start.to_vec();
+        List { start, ..self }
+    }
+
     fn required(&self) -> usize {
-        256 * self.t + 32 * self.n + 2048
+        256 * self.t + 32 * self.n + 8 * self.m + 2048
     }
 
     /// The set of open segments before event i.
     fn open_before(&self, i: usize) -> Vec<bool> {
-        let mut open = vec![false; self.m];
+        let mut open: Vec<bool> = self.start[..self.m].iter().map(|e| *e == 1).collect();
         for e in 0..i {
             match self.x[e] {
                 OPENS => open[self.y[e] as usize] = true,
@@ -188,7 +195,7 @@ impl List {
         if self.n > 4096 || self.m > 8192 || self.t > 4096 {
             return Some((1, 0));
         }
-        let short_network = self.a.len() < self.m || self.b.len() < self.m;
+        let short_network = [&self.a, &self.b, &self.start].iter().any(|table| table.len() < self.m);
         let short_list = self.x.len() < self.t || self.y.len() < self.t || self.answers.len() < self.t;
         if short_network || short_list || self.work.len() < self.required() {
             return Some((2, 0));
@@ -201,7 +208,10 @@ impl List {
                 return Some((4, s));
             }
         }
-        let mut open = vec![false; self.m];
+        if let Some(s) = (0..self.m).find(|&s| self.start[s] > 1) {
+            return Some((11, s));
+        }
+        let mut open = self.open_before(0);
         for i in 0..self.t {
             let (x, y) = (self.x[i], self.y[i] as usize);
             if (x as usize) < self.n {
@@ -294,6 +304,7 @@ impl List {
             p: lent.p,
             a: &lent.a,
             b: &lent.b,
+            start: &lent.start,
             x: &lent.x,
             y: &lent.y,
             answers: &mut answers,
@@ -473,7 +484,7 @@ impl Numbers {
     }
 }
 
-/// A list with tables as long as they must be and zeros in those that are written.
+/// A list with nothing open at the start, tables as long as they must be and zeros in those that are written.
 pub fn list(n: usize, p: usize, segments: &[(u16, u16)], events: &[(u16, u16)]) -> List {
     let (m, t) = (segments.len(), events.len());
     List {
@@ -483,10 +494,11 @@ pub fn list(n: usize, p: usize, segments: &[(u16, u16)], events: &[(u16, u16)]) 
         p,
         a: segments.iter().map(|s| s.0).collect(),
         b: segments.iter().map(|s| s.1).collect(),
+        start: vec![0; m],
         x: events.iter().map(|e| e.0).collect(),
         y: events.iter().map(|e| e.1).collect(),
         answers: vec![0; t],
-        work: vec![0; 256 * t + 32 * n + 2048],
+        work: vec![0; 256 * t + 32 * n + 8 * m + 2048],
     }
 }
 
@@ -513,7 +525,10 @@ pub fn random_list(r: &mut Numbers, junctions: usize, segments: usize, events: u
     let m = r.below(segments + 1);
     let t = r.below(events + 1);
     let ends: Vec<(u16, u16)> = (0..m).map(|_| (r.below(n) as u16, r.below(n) as u16)).collect();
-    let mut open = vec![false; m];
+    // None of the segments is open at the start, or some, or all.
+    let fourths = r.below(5);
+    let mut open: Vec<bool> = (0..m).map(|_| r.below(4) < fourths).collect();
+    let start: Vec<u16> = open.iter().map(|o| *o as u16).collect();
     let mut told = Vec::new();
     for _ in 0..t {
         if m == 0 || r.below(3) == 0 {
@@ -524,7 +539,7 @@ pub fn random_list(r: &mut Numbers, junctions: usize, segments: usize, events: u
         told.push((if open[s] { CLOSES } else { OPENS }, s as u16));
         open[s] = !open[s];
     }
-    list(n, 4 + r.below(9), &ends, &told)
+    list(n, 4 + r.below(9), &ends, &told).with_start(&start)
 }
 
 /// A graph without a fault, of at most these sizes.
@@ -540,7 +555,7 @@ pub fn random_graph(r: &mut Numbers, nodes: usize, edges: usize, entries: usize)
 impl List {
     /// Lengthens each table by some junk, and fills the written ones with it.
     pub fn fill_with_junk(&mut self, r: &mut Numbers) {
-        for table in [&mut self.a, &mut self.b, &mut self.x, &mut self.y] {
+        for table in [&mut self.a, &mut self.b, &mut self.start, &mut self.x, &mut self.y] {
             let more = r.below(4);
             table.extend(r.junk(more));
         }
