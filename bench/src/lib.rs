@@ -29,3 +29,8 @@ pub const MOST_ENTRIES: usize = 8192;
 /// X of an event that opens a segment, and of one that closes it.
 pub const OPENS: u16 = 65535;
 pub const CLOSES: u16 = 65534;
+
+/// The segments whose entry in a starting table is 1.
+pub fn open_at_start(start: &[u16]) -> impl Iterator<Item = u16> + '_ {
+    (0..).zip(start).filter(|(_, &e)| e == 1).map(|(s, _)| s)
+}

@@ -1,7 +1,7 @@
 //! Networks with lists of events.
 
 use crate::random::Random;
-use crate::{CLOSES, OPENS};
+use crate::{CLOSES, MOST_JUNCTIONS, MOST_SEGMENTS, OPENS};
 
 #[derive(Clone, Copy, PartialEq, Eq, Debug)]
 pub enum Kind {
@@ -9,13 +9,18 @@ pub enum Kind {
     Sparse,
     /// N = T / 8 and M = T / 2: most segments are open, and most junctions are in one piece.
     Dense,
+    /// N = 4,096 and M = 8,192 for every T: three quarters of the segments are open at the start, as a fleet finds its map in the morning.
+    Fleet,
 }
 
 impl Kind {
+    pub const ALL: [Kind; 3] = [Kind::Sparse, Kind::Dense, Kind::Fleet];
+
     pub fn name(self) -> &'static str {
         match self {
             Kind::Sparse => "sparse",
             Kind::Dense => "dense",
+            Kind::Fleet => "fleet",
         }
     }
 }
@@ -25,6 +30,7 @@ pub struct List {
     pub m: usize,
     pub a: Vec<u16>,
     pub b: Vec<u16>,
+    pub start: Vec<u16>,
     pub x: Vec<u16>,
     pub y: Vec<u16>,
 }
@@ -92,9 +98,16 @@ impl Network {
     }
 }
 
-/// A list that begins with `run` openings; of the events behind them a third open, a sixth close and the rest are queries.
-/// An opening or closing that no segment is left for becomes a query.
-pub fn random_list(n: usize, m: usize, t: usize, run: usize, random: &mut Random) -> List {
+/// A list over a network in which `open` segments are open at the start. It begins with `run` openings; of the events behind them a third open,
+/// a sixth close and the rest are queries. An opening or closing that no segment is left for becomes a query.
+pub fn random_list(
+    n: usize,
+    m: usize,
+    open: usize,
+    t: usize,
+    run: usize,
+    random: &mut Random,
+) -> List {
     let ends =
         |random: &mut Random| -> Vec<u16> { (0..m).map(|_| random.below(n) as u16).collect() };
     let (a, b) = (ends(random), ends(random));
@@ -105,6 +118,12 @@ pub fn random_list(n: usize, m: usize, t: usize, run: usize, random: &mut Random
         open: 0,
         at: vec![Vec::new(); n],
     };
+    let mut start = vec![0; m];
+    for _ in 0..open {
+        if let Some(s) = network.open_one(random) {
+            start[s as usize] = 1;
+        }
+    }
     let (mut x, mut y) = (Vec::with_capacity(t), Vec::with_capacity(t));
     for i in 0..t {
         let event = match if i < run { 0 } else { random.below(6) } {
@@ -121,16 +140,20 @@ pub fn random_list(n: usize, m: usize, t: usize, run: usize, random: &mut Random
         m,
         a: network.a,
         b: network.b,
+        start,
         x,
         y,
     }
 }
 
-/// A list of t events of a kind: the first quarter are openings.
+/// A list of t events of a kind. Where nothing is open at the start, the first quarter are openings.
 pub fn list(kind: Kind, t: usize, random: &mut Random) -> List {
-    let (n, m) = match kind {
-        Kind::Sparse => (t, t),
-        Kind::Dense => (t / 8, t / 2),
-    };
-    random_list(n, m, t, t / 4, random)
+    match kind {
+        Kind::Sparse => random_list(t, t, 0, t, t / 4, random),
+        Kind::Dense => random_list(t / 8, t / 2, 0, t, t / 4, random),
+        Kind::Fleet => {
+            let (n, m) = (MOST_JUNCTIONS, MOST_SEGMENTS);
+            random_list(n, m, m / 4 * 3, t, 0, random)
+        }
+    }
 }

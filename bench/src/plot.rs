@@ -1,4 +1,4 @@
-//! The plot: time by T of the four programs, sparse and dense lists side by side, both axes logarithmic.
+//! The plot: time by T of the four programs, a panel for each kind of list, both axes logarithmic.
 
 use crate::timing::{ReplayRow, SHARES, SIZES};
 use bench::lists::Kind;
@@ -77,7 +77,8 @@ pub fn svg(rows: &[ReplayRow]) -> String {
         LEFT + panel as f64 * (PANEL_WIDTH + GAP) + 20.0 + part * (PANEL_WIDTH - 40.0)
     };
     let bottom = TOP + PANEL_HEIGHT;
-    let width = LEFT + 2.0 * PANEL_WIDTH + GAP + LEGEND;
+    let right = LEFT + Kind::ALL.len() as f64 * (PANEL_WIDTH + GAP) - GAP;
+    let width = right + LEGEND;
     let height = bottom + 60.0;
 
     let mut out = String::new();
@@ -86,7 +87,7 @@ pub fn svg(rows: &[ReplayRow]) -> String {
         "<svg xmlns=\"http://www.w3.org/2000/svg\" width=\"{width}\" height=\"{height}\" viewBox=\"0 0 {width} {height}\" \
          font-family=\"sans-serif\" font-size=\"13\">\n<rect width=\"100%\" height=\"100%\" fill=\"white\"/>"
     );
-    for (panel, kind) in [Kind::Sparse, Kind::Dense].into_iter().enumerate() {
+    for (panel, kind) in Kind::ALL.into_iter().enumerate() {
         let left = LEFT + panel as f64 * (PANEL_WIDTH + GAP);
         let _ = writeln!(
             out,
@@ -155,7 +156,7 @@ pub fn svg(rows: &[ReplayRow]) -> String {
         "<text transform=\"translate(16 {}) rotate(-90)\" text-anchor=\"middle\">time of one list</text>",
         TOP + PANEL_HEIGHT / 2.0
     );
-    let left = LEFT + 2.0 * PANEL_WIDTH + GAP + 16.0;
+    let left = right + 16.0;
     for (i, curve) in CURVES.iter().enumerate() {
         let y = TOP + 20.0 + 24.0 * i as f64;
         let _ = writeln!(

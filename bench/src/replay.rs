@@ -1,7 +1,8 @@
-//! The replay in plain Rust: the same checks, areas, windows and step as the crates `replay_checks`, `replay_step`, `replay_windows` and `call_replay`.
+//! The replay in plain Rust: the same checks, areas, load, windows and step as the crates `replay_checks`, `replay_start`, `replay_step`,
+//! `replay_windows` and `call_replay`.
 
-use crate::core::{self, Node, LARGE_END, MARK, SMALL_END};
-use crate::{Refusal, CLOSES, MOST_EVENTS, MOST_JUNCTIONS, MOST_SEGMENTS, OPENS};
+use crate::core::{self, Half, Node, LARGE_END, MARK, SMALL_END};
+use crate::{open_at_start, Refusal, CLOSES, MOST_EVENTS, MOST_JUNCTIONS, MOST_SEGMENTS, OPENS};
 
 #[derive(Clone, Copy, PartialEq, Eq, Debug)]
 pub struct Totals {
@@ -10,15 +11,19 @@ pub struct Totals {
     pub kept: usize,
 }
 
-pub fn required(n: usize, t: usize) -> usize {
-    256 * t + 32 * n + 2048
+pub fn required(n: usize, m: usize, t: usize) -> usize {
+    256 * t + 32 * n + 8 * m + 2048
 }
 
 struct Segments([u64; 128]);
 
 impl Segments {
-    fn none() -> Self {
-        Segments([0; 128])
+    fn at_start(start: &[u16]) -> Self {
+        let mut open = Segments([0; 128]);
+        for s in open_at_start(start) {
+            open.insert(s);
+        }
+        open
     }
 
     fn contains(&self, s: u16) -> bool {
@@ -43,8 +48,13 @@ fn names_segment(x: u16) -> bool {
 }
 
 /// The events' first fault, where the tables are long enough; else the number of segments that are open at the end.
-fn check_events(n: usize, m: usize, x: &[u16], y: &[u16]) -> Result<usize, Refusal> {
-    let mut open = Segments::none();
+fn check_events(
+    n: usize,
+    m: usize,
+    mut open: Segments,
+    x: &[u16],
+    y: &[u16],
+) -> Result<usize, Refusal> {
     for (i, (&x, &y)) in x.iter().zip(y).enumerate() {
         let bound = if names_segment(x) { m } else { n };
         if y as usize >= bound || !names_segment(x) && x as usize >= n {
@@ -75,6 +85,11 @@ type Places = [u32; 2];
 /// What the recursion needs of an event, all 0 for a query: 1 + 4 times the segment + 2 where it is open just before + 1 where it is
 /// open just after; the next event that names the segment, t where there is none; 1 + the last event before it that names it, or 0.
 type Event = [u32; 3];
+
+/// The segment that an event names, where it is no query.
+fn segment(event: &Event) -> usize {
+    (event[0] as usize - 1) / 4
+}
 
 fn is_open_before(event: &Event) -> bool {
     (event[0] - 1) & 2 != 0
@@ -153,14 +168,44 @@ fn write_area(nodes: &[Node], edges: usize, places: &[Places], events: &[Event],
     }
 }
 
-/// The whole list's area, behind the window above it, which has all n junctions as its nodes and no edge.
-fn top(n: usize, t: usize, work: &mut [u32]) -> Window {
+/// Puts an edge's ends into its two half-edges.
+fn put_edge(edge: &mut [Half; 2], u: u32, v: u32) {
+    edge[0][0] = u;
+    edge[1][0] = v;
+}
+
+/// Loads the segments that are open at the start and that no event names; how many they are.
+fn load_segments(
+    a: &[u16],
+    b: &[u16],
+    start: &[u16],
+    events: &[Event],
+    halves: &mut [Half],
+) -> usize {
+    let mut named = [0u8; MOST_SEGMENTS];
+    for event in events.iter().filter(|e| e[0] != 0) {
+        named[segment(event)] = 1;
+    }
+    let pairs = halves.as_chunks_mut::<2>().0;
+    let mut m = 0;
+    for (((&u, &v), &open), &named) in a.iter().zip(b).zip(start).zip(&named) {
+        if open == 1 && named == 0 {
+            put_edge(&mut pairs[m], u as u32, v as u32);
+            m += 1;
+        }
+    }
+    m
+}
+
+/// The whole list's area, behind the window above it, whose nodes are all n junctions.
+fn top(n: usize, t: usize, a: &[u16], b: &[u16], start: &[u16], work: &mut [u32]) -> Window {
     let (above, rest) = work.split_at_mut(5 * t);
     let (whole, scratch) = rest.split_at_mut(13 * t);
     let (places, events) = events_of(above, t);
-    let (nodes, halves) = core::split(scratch, n, 0);
+    let (nodes, halves) = core::split(scratch, n, a.len());
     let k = enter_all(nodes, places);
-    let (count, edges) = core::reduce(nodes, halves, k);
+    let m = load_segments(a, b, start, events, halves);
+    let (count, edges) = core::reduce(nodes, &mut halves[..2 * m], k);
     write_area(nodes, edges, places, events, whole);
     Window {
         at: 0,
@@ -186,13 +231,11 @@ fn step(w: Window, lo: usize, c: usize, work: &mut [u32]) -> Window {
     let k = enter_all(nodes, here);
     let pairs = halves.as_chunks_mut::<2>().0;
     for ((edge, &u), &v) in pairs.iter_mut().zip(&small[..w.edges]).zip(large) {
-        edge[0][0] = u;
-        edge[1][0] = v;
+        put_edge(edge, u, v);
     }
     let mut m = w.edges;
     let mut add = |ends: &Places| {
-        pairs[m][0][0] = ends[0];
-        pairs[m][1][0] = ends[1];
+        put_edge(&mut pairs[m], ends[0], ends[1]);
         m += 1;
     };
     for (event, ends) in events[..first].iter().zip(places) {
@@ -245,6 +288,7 @@ pub fn replay(
     p: usize,
     a: &[u16],
     b: &[u16],
+    start: &[u16],
     x: &[u16],
     y: &[u16],
     answers: &mut [u8],
@@ -255,28 +299,33 @@ pub fn replay(
     }
     let short = a.len() < m
         || b.len() < m
+        || start.len() < m
         || x.len() < t
         || y.len() < t
         || answers.len() < t
-        || work.len() < required(n, t);
+        || work.len() < required(n, m, t);
     if short {
         return Err(Refusal::new(2, 0));
     }
     if !(4..=12).contains(&p) {
         return Err(Refusal::new(3, 0));
     }
-    let (a, b, x, y) = (&a[..m], &b[..m], &x[..t], &y[..t]);
+    let (a, b, start) = (&a[..m], &b[..m], &start[..m]);
+    let (x, y) = (&x[..t], &y[..t]);
     let bad = |v: u16| v as usize >= n;
     if let Some(s) = a.iter().zip(b).position(|(&u, &v)| bad(u) || bad(v)) {
         return Err(Refusal::new(4, s));
     }
-    let open = check_events(n, m, x, y)?;
+    if let Some(s) = start.iter().position(|&e| e > 1) {
+        return Err(Refusal::new(11, s));
+    }
+    let open = check_events(n, m, Segments::at_start(start), x, y)?;
 
-    let work = &mut work[..required(n, t)];
+    let work = &mut work[..required(n, m, t)];
     let mut kept = 0;
     if t > 0 {
         make_events(a, b, x, y, &mut work[..5 * t]);
-        let whole = top(n, t, work);
+        let whole = top(n, t, a, b, start, work);
         kept = window(whole, p, answers, &mut work[5 * t..]);
     }
     let queries = x.iter().filter(|&&v| !names_segment(v)).count();

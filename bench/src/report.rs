@@ -45,8 +45,8 @@ pub fn markdown(replays: &[ReplayRow], contractions: &[ContractionRow]) -> Strin
          in brackets that of its least. Ratios are those of the medians, in brackets those of the least times.\n\n\
          ## The replay of a list\n\n\
          The searches do not depend on the share p.\n\n\
-         | list | T | N | M | queries | p | proved | plain Rust | proved / plain | search of all | of all / proved | search of the piece | of the piece / proved |\n\
-         |---|---|---|---|---|---|---|---|---|---|---|---|---|\n"
+         | list | T | N | M | open at the start | queries | p | proved | plain Rust | proved / plain | search of all | of all / proved | search of the piece | of the piece / proved |\n\
+         |---|---|---|---|---|---|---|---|---|---|---|---|---|---|\n"
     );
     for r in replays {
         for (i, p) in SHARES.iter().enumerate() {
@@ -58,11 +58,12 @@ pub fn markdown(replays: &[ReplayRow], contractions: &[ContractionRow]) -> Strin
             );
             let _ = writeln!(
                 out,
-                "| {} | {} | {} | {} | {} | {p} | {} | {} | {} | {} | {} | {} | {} |",
+                "| {} | {} | {} | {} | {} | {} | {p} | {} | {} | {} | {} | {} | {} | {} |",
                 r.kind.name(),
                 r.events,
                 r.junctions,
                 r.segments,
+                r.open,
                 r.queries,
                 both(proved),
                 both(plain),

@@ -1,7 +1,7 @@
 //! Searches that answer each query by itself, in time that is linear in what they search.
 //! Both take lists that are valid, and check nothing.
 
-use crate::{CLOSES, OPENS};
+use crate::{open_at_start, CLOSES, OPENS};
 
 const NONE: u32 = u32::MAX;
 
@@ -30,6 +30,11 @@ pub struct Whole {
 impl Whole {
     pub fn new() -> Self {
         Self::default()
+    }
+
+    fn add(&mut self, s: u16) {
+        self.place[s as usize] = self.open.len() as u32;
+        self.open.push(s as u32);
     }
 
     fn build(&mut self, n: usize, a: &[u16], b: &[u16]) {
@@ -116,11 +121,13 @@ impl Whole {
         }
     }
 
+    #[allow(clippy::too_many_arguments)]
     pub fn replay(
         &mut self,
         n: usize,
         a: &[u16],
         b: &[u16],
+        start: &[u16],
         x: &[u16],
         y: &[u16],
         answers: &mut [u8],
@@ -128,11 +135,13 @@ impl Whole {
         self.open.clear();
         self.place.clear();
         self.place.resize(a.len(), 0);
+        for s in open_at_start(start) {
+            self.add(s);
+        }
         for ((&x, &y), answer) in x.iter().zip(y).zip(answers) {
             *answer = match x {
                 OPENS => {
-                    self.place[y as usize] = self.open.len() as u32;
-                    self.open.push(y as u32);
+                    self.add(y);
                     3
                 }
                 CLOSES => {
@@ -202,7 +211,7 @@ impl Piece {
         Self::default()
     }
 
-    fn start(&mut self, n: usize, a: &[u16], b: &[u16]) {
+    fn make_rows(&mut self, n: usize, a: &[u16], b: &[u16]) {
         self.rows.clear();
         self.rows.resize(n, Row::default());
         for &v in a.iter().chain(b) {
@@ -229,6 +238,11 @@ impl Piece {
         };
         self.place[half] = row.end;
         row.end += 1;
+    }
+
+    fn link_both(&mut self, s: usize, a: &[u16], b: &[u16]) {
+        self.link(a[s], 2 * s, b[s]);
+        self.link(b[s], 2 * s + 1, a[s]);
     }
 
     fn unlink(&mut self, v: u16, half: usize) {
@@ -298,22 +312,26 @@ impl Piece {
         0
     }
 
+    #[allow(clippy::too_many_arguments)]
     pub fn replay(
         &mut self,
         n: usize,
         a: &[u16],
         b: &[u16],
+        start: &[u16],
         x: &[u16],
         y: &[u16],
         answers: &mut [u8],
     ) {
-        self.start(n, a, b);
+        self.make_rows(n, a, b);
+        for s in open_at_start(start) {
+            self.link_both(s as usize, a, b);
+        }
         for ((&x, &y), answer) in x.iter().zip(y).zip(answers) {
             let s = y as usize;
             *answer = match x {
                 OPENS => {
-                    self.link(a[s], 2 * s, b[s]);
-                    self.link(b[s], 2 * s + 1, a[s]);
+                    self.link_both(s, a, b);
                     3
                 }
                 CLOSES => {

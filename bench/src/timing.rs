@@ -54,6 +54,8 @@ pub struct ReplayRow {
     pub events: usize,
     pub junctions: usize,
     pub segments: usize,
+    /// Segments that are open at the start.
+    pub open: usize,
     /// Queries a list, on average.
     pub queries: usize,
     /// By share.
@@ -68,6 +70,7 @@ type Replay = fn(
     usize,
     usize,
     usize,
+    &[u16],
     &[u16],
     &[u16],
     &[u16],
@@ -90,6 +93,7 @@ fn call(
         p,
         &l.a,
         &l.b,
+        &l.start,
         &l.x,
         &l.y,
         answers,
@@ -107,8 +111,8 @@ fn compare(
     let t = l.events();
     let mut found = vec![vec![9; t]; 4];
     let mut queries = 0;
-    whole.replay(l.n, &l.a, &l.b, &l.x, &l.y, &mut found[2]);
-    piece.replay(l.n, &l.a, &l.b, &l.x, &l.y, &mut found[3]);
+    whole.replay(l.n, &l.a, &l.b, &l.start, &l.x, &l.y, &mut found[2]);
+    piece.replay(l.n, &l.a, &l.b, &l.start, &l.x, &l.y, &mut found[3]);
     for p in SHARES {
         let by_proved = call(proved::replay, l, p, &mut found[0], work);
         let by_plain = call(replay::replay, l, p, &mut found[1], work);
@@ -137,8 +141,9 @@ fn replay_row(kind: Kind, events: usize) -> Result<ReplayRow, String> {
         .map(|_| lists::list(kind, events, &mut random))
         .collect();
     let (junctions, segments) = (lists[0].n, lists[0].m);
+    let open = bench::open_at_start(&lists[0].start).count();
     let (mut whole, mut piece) = (search::Whole::new(), search::Piece::new());
-    let mut work = vec![0; replay::required(junctions, events)];
+    let mut work = vec![0; replay::required(junctions, segments, events)];
     let mut queries = 0;
     for list in &lists {
         queries += compare(list, &mut whole, &mut piece, &mut work)?;
@@ -156,9 +161,9 @@ fn replay_row(kind: Kind, events: usize) -> Result<ReplayRow, String> {
             };
             let _ = black_box(call(f, l, SHARES[rival / 2], &mut answers, &mut work));
         } else if rival == 2 * shares {
-            whole.replay(l.n, &l.a, &l.b, &l.x, &l.y, &mut answers);
+            whole.replay(l.n, &l.a, &l.b, &l.start, &l.x, &l.y, &mut answers);
         } else {
-            piece.replay(l.n, &l.a, &l.b, &l.x, &l.y, &mut answers);
+            piece.replay(l.n, &l.a, &l.b, &l.start, &l.x, &l.y, &mut answers);
         }
         black_box(&mut answers);
     });
@@ -170,6 +175,7 @@ fn replay_row(kind: Kind, events: usize) -> Result<ReplayRow, String> {
         events,
         junctions,
         segments,
+        open,
         queries: queries / LISTS,
         proved: every_second(0),
         plain: every_second(1),
@@ -180,7 +186,7 @@ fn replay_row(kind: Kind, events: usize) -> Result<ReplayRow, String> {
 
 pub fn replays() -> Result<Vec<ReplayRow>, String> {
     let mut rows = Vec::new();
-    for kind in [Kind::Sparse, Kind::Dense] {
+    for kind in Kind::ALL {
         for events in SIZES {
             rows.push(replay_row(kind, events)?);
         }

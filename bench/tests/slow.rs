@@ -2,6 +2,8 @@
 
 use bench::random::Random;
 use bench::{contraction, lists, replay, search, Refusal, CLOSES, OPENS};
+use std::fmt::Debug;
+use std::str::FromStr;
 
 /// A number for each node's piece, where the edge `without` is left out.
 fn pieces(n: usize, edges: &[(usize, usize)], without: usize) -> Vec<usize> {
@@ -123,7 +125,7 @@ fn slow_replay(l: &lists::List, p: usize) -> (Vec<u8>, replay::Totals) {
     let t = l.events();
     let ends = |s: usize| (l.a[s] as usize, l.b[s] as usize);
     let mut open_before = Vec::new();
-    let mut open: Vec<usize> = Vec::new();
+    let mut open: Vec<usize> = (0..l.m).filter(|&s| l.start[s] == 1).collect();
     let mut answers = Vec::new();
     for (&x, &y) in l.x.iter().zip(&l.y) {
         open_before.push(open.clone());
@@ -215,11 +217,15 @@ fn plain_contract(n: usize, edges: &[(usize, usize)], active: &[usize]) -> Small
     }
 }
 
-fn plain_replay(l: &lists::List, p: usize) -> (Vec<u8>, Result<replay::Totals, Refusal>) {
-    let t = l.events();
-    let need = replay::required(l.n, t);
-    let mut work = vec![77; need + 3];
-    let mut answers = vec![9; t + 2];
+/// The answers and the totals of the plain replay of the first t events, with the written tables of these lengths. It leaves what it is not to change.
+fn plain_replay(
+    l: &lists::List,
+    t: usize,
+    p: usize,
+    answers: usize,
+    work: usize,
+) -> Result<(Vec<u8>, replay::Totals), Refusal> {
+    let (mut answers, mut work) = (vec![9; answers], vec![77; work]);
     let reply = replay::replay(
         l.n,
         l.m,
@@ -227,16 +233,21 @@ fn plain_replay(l: &lists::List, p: usize) -> (Vec<u8>, Result<replay::Totals, R
         p,
         &l.a,
         &l.b,
+        &l.start,
         &l.x,
         &l.y,
         &mut answers,
         &mut work,
     );
-    let expected = if reply.is_ok() { 0 } else { 77 };
-    assert!(work[..need].iter().all(|&w| w == expected) && work[need..].iter().all(|&w| w == 77));
-    assert!(answers[t..] == [9, 9]);
-    answers.truncate(t);
-    (answers, reply)
+    let (filled, cleared) = if reply.is_ok() {
+        (t, replay::required(l.n, l.m, t))
+    } else {
+        (0, 0)
+    };
+    assert!(work[..cleared].iter().all(|&w| w == 0) && work[cleared..].iter().all(|&w| w == 77));
+    assert!(answers[filled..].iter().all(|&a| a == 9));
+    answers.truncate(filled);
+    reply.map(|totals| (answers, totals))
 }
 
 #[test]
@@ -275,34 +286,49 @@ fn replays() {
         let m = 1 + random.below(14);
         let t = random.below(32);
         let run = random.below(t / 2 + 1);
-        let list = lists::random_list(n, m, t, run, &mut random);
+        // In a third of the lists nothing is open at the start.
+        let open = random.below(3) * random.below(m + 1) / 2;
+        let l = lists::random_list(n, m, open, t, run, &mut random);
         let p = 4 + round % 9;
-        let (answers, totals) = slow_replay(&list, p);
-        assert_eq!(plain_replay(&list, p), (answers.clone(), Ok(totals)));
+        let (answers, totals) = slow_replay(&l, p);
+        let need = replay::required(n, m, t);
+        let plain = plain_replay(&l, t, p, t + 2, need + 3);
+        assert_eq!(plain, Ok((answers.clone(), totals)));
         let mut found = vec![9; t];
-        search::Whole::new().replay(n, &list.a, &list.b, &list.x, &list.y, &mut found);
+        search::Whole::new().replay(n, &l.a, &l.b, &l.start, &l.x, &l.y, &mut found);
         assert_eq!(found, answers);
         found.fill(9);
-        search::Piece::new().replay(n, &list.a, &list.b, &list.x, &list.y, &mut found);
+        search::Piece::new().replay(n, &l.a, &l.b, &l.start, &l.x, &l.y, &mut found);
         assert_eq!(found, answers);
     }
 }
 
+/// A vector: rows of numbers, each behind its name.
+struct Vector<'a>(&'a str);
+
+impl Vector<'_> {
+    fn row<T: FromStr<Err: Debug>>(&self, name: &str) -> Option<Vec<T>> {
+        let line = self.0.lines().find(|l| l.split(' ').next() == Some(name))?;
+        let numbers = line.split_whitespace().skip(1);
+        Some(numbers.map(|w| w.parse().unwrap()).collect())
+    }
+
+    fn numbers<T: FromStr<Err: Debug>>(&self, name: &str) -> Vec<T> {
+        self.row(name).unwrap()
+    }
+}
+
+fn vectors(text: &str) -> impl Iterator<Item = Vector<'_>> {
+    text.split("\n\n")
+        .filter(|b| !b.trim().is_empty())
+        .map(Vector)
+}
+
 #[test]
 fn contraction_vectors() {
-    let text = include_str!("vectors/contraction.txt");
     let mut count = 0;
-    for block in text.split("\n\n").filter(|b| !b.trim().is_empty()) {
-        let row = |name: &str| -> Vec<usize> {
-            let line = block
-                .lines()
-                .find(|l| l.split(' ').next() == Some(name))
-                .unwrap();
-            line.split_whitespace()
-                .skip(1)
-                .map(|w| w.parse().unwrap())
-                .collect()
-        };
+    for vector in vectors(include_str!("vectors/contraction.txt")) {
+        let row = |name: &str| vector.numbers::<usize>(name);
         let pairs =
             |a: &str, b: &str| -> Vec<(usize, usize)> { row(a).into_iter().zip(row(b)).collect() };
         let small = plain_contract(row("n")[0], &pairs("from", "to"), &row("active"));
@@ -316,46 +342,34 @@ fn contraction_vectors() {
 
 #[test]
 fn replay_vectors() {
-    let text = include_str!("vectors/replay.txt");
     let mut count = 0;
-    for block in text.split("\n\n").filter(|b| !b.trim().is_empty()) {
-        let (first, out) = block.trim().split_once('\n').unwrap();
-        let words: Vec<u16> = first
-            .split_whitespace()
-            .skip(1)
-            .map(|w| w.parse().unwrap())
-            .collect();
-        let (n, m, t, p) = (
-            words[0] as usize,
-            words[1] as usize,
-            words[2] as usize,
-            words[3] as usize,
-        );
-        let (ends, events) = words[4..].split_at(2 * m);
-        let list = lists::List {
-            n,
-            m,
-            a: ends[..m].to_vec(),
-            b: ends[m..].to_vec(),
-            x: events[..t].to_vec(),
-            y: events[t..].to_vec(),
+    for vector in vectors(include_str!("vectors/replay.txt")) {
+        let sizes: Vec<usize> = vector.numbers("sizes");
+        let lengths: Vec<usize> = vector.numbers("lengths");
+        let l = lists::List {
+            n: sizes[0],
+            m: sizes[1],
+            a: vector.numbers("a"),
+            b: vector.numbers("b"),
+            start: vector.numbers("start"),
+            x: vector.numbers("x"),
+            y: vector.numbers("y"),
         };
-        let (answers, reply) = plain_replay(&list, p);
-        let mut written = String::new();
-        match reply {
-            Err(r) => written += &format!("refused {} at {}\n", r.code, r.place),
-            Ok(totals) => {
-                for (i, a) in answers.iter().enumerate().filter(|(_, a)| **a != 3) {
-                    written += &format!("{i} {a}\n");
-                }
-                written += &format!(
-                    "asks {} open {} kept {}\n",
-                    totals.queries, totals.open, totals.kept
-                );
+        let reply = plain_replay(&l, sizes[2], sizes[3], lengths[0], lengths[1]);
+        let expected = match vector.row("refused") {
+            Some(refused) => Err(Refusal::new(refused[0], refused[1])),
+            None => {
+                let totals: Vec<usize> = vector.numbers("totals");
+                let totals = replay::Totals {
+                    queries: totals[0],
+                    open: totals[1],
+                    kept: totals[2],
+                };
+                Ok((vector.numbers("answers"), totals))
             }
-        }
-        assert_eq!(written.trim(), out.trim());
+        };
+        assert_eq!(reply, expected);
         count += 1;
     }
-    assert_eq!(count, 77);
+    assert_eq!(count, 110);
 }

@@ -2,8 +2,9 @@
 //! one that runs out of stack is ended by the system. With two words, a call and a number of KB, the program is such a try.
 
 use bench::graphs::{graph, Shape};
-use bench::lists::random_list;
+use bench::lists::{list, Kind};
 use bench::random::Random;
+use bench::MOST_EVENTS;
 use lumzhasel::tables::{self, ContractTables, ReplayTables};
 use std::process::{Command, ExitCode, Stdio};
 use std::thread;
@@ -17,10 +18,10 @@ const MOST: usize = 4096;
 
 /// The full sizes. How deep a replay goes depends on the number of events and on the share alone.
 fn replay(share: usize) -> impl FnOnce() + Send {
-    let (n, m, t) = (4096, 8192, 4096);
-    let list = random_list(n, m, t, t / 4, &mut Random::new(1));
+    let list = list(Kind::Fleet, MOST_EVENTS, &mut Random::new(1));
+    let (n, m, t) = (list.n, list.m, list.events());
     let mut answers = vec![0; t];
-    let mut work = vec![0; tables::replay_work(n, t)];
+    let mut work = vec![0; tables::replay_work(n, m, t)];
     move || {
         let lent = ReplayTables {
             n,
@@ -29,6 +30,7 @@ fn replay(share: usize) -> impl FnOnce() + Send {
             p: share,
             a: &list.a,
             b: &list.b,
+            start: &list.start,
             x: &list.x,
             y: &list.y,
             answers: &mut answers,
