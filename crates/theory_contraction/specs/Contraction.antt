@@ -1,5 +1,5 @@
 -- The contraction as a public call: what it is lent, its faults in their order, what it returns, and what each lent table holds afterwards.
--- The contraction itself is defined in the crate theory_graph, specs/Contraction. Assumes nothing: these are definitions.
+-- The contraction itself is defined in the crate theory_graph, specs/Contraction, and the pieces in its specs/Pieces. Assumes nothing: these are definitions.
 use Prim.Native.Nat.{ℕ, _+_, _*_}
 use mathlib.Core.Bool.{Bool, true, false}
 use mathlib.Core.List.{List, [], _∷_, _++_, map}
@@ -9,6 +9,7 @@ use lib.ListN.{length, getD, take, replicate}
 use Rattle.theory_graph.specs.Lists.{pairs, over}
 use Rattle.theory_graph.specs.Graph.{Edge}
 use Rattle.theory_graph.specs.Contraction.{Contracted, contract}
+use Rattle.theory_graph.specs.Pieces as graph
 use Rattle.call_sizes.specs.Refusal.{Row, row, Refusal, badEnds, firstFault, seek, shortRows}
 use Rattle.call_sizes.specs.Sizes.{sizeFaults}
 
@@ -23,12 +24,13 @@ pub record Lent : Type 0 where
   pub map : List ℕ
   pub outFrom : List ℕ
   pub outTo : List ℕ
+  pub pieces : List ℕ
   pub work : List ℕ
 
 -- the sizes and the tables of a call as one record
-abbrev pub lent : ℕ → ℕ → ℕ → List ℕ → List ℕ → List ℕ → List ℕ → List ℕ → List ℕ → List ℕ → Lent
-lent n m k from to active map outFrom outTo work =
-    record { n = n; m = m; k = k; from = from; to = to; active = active; map = map; outFrom = outFrom; outTo = outTo; work = work }
+abbrev pub lent : ℕ → ℕ → ℕ → List ℕ → List ℕ → List ℕ → List ℕ → List ℕ → List ℕ → List ℕ → List ℕ → Lent
+lent n m k from to active map outFrom outTo pieces work =
+    record { n = n; m = m; k = k; from = from; to = to; active = active; map = map; outFrom = outFrom; outTo = outTo; pieces = pieces; work = work }
 
 -- the words that a contraction of n nodes and m edges needs
 abbrev pub required : ℕ → ℕ → ℕ
@@ -55,6 +57,7 @@ tableLengths l =
     ∷ (length (l .map), l .k)
     ∷ (length (l .outFrom), 2 * l .k)
     ∷ (length (l .outTo), 2 * l .k)
+    ∷ (length (l .pieces), l .k)
     ∷ (length (l .work), required (l .n) (l .m))
     ∷ []
 
@@ -89,6 +92,7 @@ pub record Outcome : Type 0 where
   pub map : List ℕ
   pub outFrom : List ℕ
   pub outTo : List ℕ
+  pub pieces : List ℕ
   pub work : List ℕ
 
 unfoldable pub done : Lent → Outcome
@@ -103,11 +107,24 @@ done l =
       map = over (c .map) (l .map);
       outFrom = over (map (λ (e : Edge). e .0) (c .edges)) (l .outFrom);
       outTo = over (map (λ (e : Edge). e .1) (c .edges)) (l .outTo);
+      pieces = over (graph.pieces (edges l) (entries l)) (l .pieces);
       work = over (replicate (required (l .n) (l .m)) 0) (l .work);
     }
 
 unfoldable pub refused : Lent → Refusal → Outcome
-refused l f = record { accepted = false; code = f .0; place = f .1; nodes = 0; edges = 0; map = l .map; outFrom = l .outFrom; outTo = l .outTo; work = l .work }
+refused l f =
+    record {
+      accepted = false;
+      code = f .0;
+      place = f .1;
+      nodes = 0;
+      edges = 0;
+      map = l .map;
+      outFrom = l .outFrom;
+      outTo = l .outTo;
+      pieces = l .pieces;
+      work = l .work;
+    }
 
 -- the outcome that a call with these sizes and tables must have
 unfoldable pub contraction : Lent → Outcome

@@ -1,1 +1,2 @@
 pub mod Contraction
+pub mod Pieces

@@ -30,3 +30,4 @@ pub mod Reading
 pub mod SpanningForest
 pub mod ActiveLists
 pub mod TableLaws
+pub mod Pieces

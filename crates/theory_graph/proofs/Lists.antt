@@ -94,6 +94,22 @@ in-filter f a (x ∷ xs) (List·Memᴰ·tail m) q = go (f x) (in-filter f a xs m
     go true n = List·Memᴰ·tail n
     go false n = n
 
+pub filter-append : (p : ℕ → Bool) (xs ys : List ℕ) → filter p (xs ++ ys) ≡ filter p xs ++ filter p ys
+filter-append p [] ys = refl
+filter-append p (x ∷ xs) ys = go (p x) (filter-append p xs ys)
+  where
+    go : (b : Bool) → filter p (xs ++ ys) ≡ filter p xs ++ filter p ys → cond b (x ∷ filter p (xs ++ ys)) (filter p (xs ++ ys)) ≡ cond b (x ∷ filter p xs) (filter p xs) ++ filter p ys
+    go true e = ap (λ (l : List ℕ). x ∷ l) e
+    go false e = e
+
+-- a longer list has the same first entries, and others behind them
+pub firsts-append : (R : ℕ → ℕ → Bool) (xs ys : List ℕ) → (us : List ℕ) × (firsts R (xs ++ ys) ≡ firsts R xs ++ us)
+firsts-append R [] ys = (firsts R ys, refl)
+firsts-append R (x ∷ xs) ys =
+    let p : ℕ → Bool = λ y. not (R x y) in
+    let (us, e) = firsts-append R xs ys in
+    (filter p us, ap (λ (l : List ℕ). x ∷ l) (ap (filter p) e ∙ filter-append p (firsts R xs) us))
+
 pub firsts-in : (R : ℕ → ℕ → Bool) (a : ℕ) (xs : List ℕ) → List·Memᴰ a (firsts R xs) → List·Memᴰ a xs
 firsts-in R a (x ∷ xs) (List·Memᴰ·head p) = List·Memᴰ·head p
 firsts-in R a (x ∷ xs) (List·Memᴰ·tail m) = List·Memᴰ·tail (firsts-in R a xs (filter-in (λ y. not (R x y)) a (firsts R xs) m .0))
@@ -248,6 +264,16 @@ position-nth f i c (x ∷ xs) m p = go (f x) refl m (λ n. position-nth f (suc i
         let z : suc i + position f xs ≡ i + suc (position f xs) = omega arith in
         (s, there (subst (λ (v : ℕ). Nth s (suc i) xs v) z n), h)
 
+-- what stands behind an entry that passes does not matter
+pub position-append : (f : ℕ → Bool) (c : ℕ) (xs ys : List ℕ) → List·Memᴰ c xs → f c ≡ true → position f (xs ++ ys) ≡ position f xs
+position-append f c (x ∷ xs) ys m p = go (f x) refl m (λ n. position-append f c xs ys n p)
+  where
+    go : (b : Bool) → f x ≡ b → List·Memᴰ c (x ∷ xs) → (List·Memᴰ c xs → position f (xs ++ ys) ≡ position f xs)
+        → cond b 0 (suc (position f (xs ++ ys))) ≡ cond b 0 (suc (position f xs))
+    go true e m k = refl
+    go false e (List·Memᴰ·head q) k = contradict (ap f (sym q) ∙ p) e
+    go false e (List·Memᴰ·tail m) k = ap suc (k m)
+
 -- ---- the nodes as a list
 pub table-length : {A : Type 0} (ρ : ℕ → A) (i n : ℕ) → length (table ρ i n) ≡ n
 table-length ρ i zero = refl
@@ -261,6 +287,12 @@ pub table-in : (ρ : ℕ → ℕ) (i n k : ℕ) → i ≤ k → k < i + n → Li
 table-in ρ i zero k a b = absurd (omega arith)
 table-in ρ i (suc n) k a b = onBool (eqb k i) (λ t. List·Memᴰ·head (ap ρ (eqb-true k i t))) λ t. let e : ¬ (k ≡ i) = eqb-false k i t in List·Memᴰ·tail
     (table-in ρ (suc i) n k (omega arith) (omega arith))
+
+pub table-nth : (ρ : ℕ → ℕ) (i n k : ℕ) → i ≤ k → k < i + n → Nth (ρ k) i (table ρ i n) k
+table-nth ρ i zero k a b = absurd (omega arith)
+table-nth ρ i (suc n) k a b = onBool (eqb k i)
+    (λ t. subst (λ (v : ℕ). Nth (ρ v) i (table ρ i (suc n)) v) (sym (eqb-true k i t)) here)
+    (λ t. let e : ¬ (k ≡ i) = eqb-false k i t in there (table-nth ρ (suc i) n k (omega arith) (omega arith)))
 
 pub table-mem : (ρ : ℕ → ℕ) (i n x : ℕ) → List·Memᴰ x (table ρ i n) → (k : ℕ) × (k < i + n) × (x ≡ ρ k)
 table-mem ρ i zero x m = absurd (elim m [ ])

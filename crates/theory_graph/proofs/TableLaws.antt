@@ -30,6 +30,21 @@ module _ {A : Type 0} where
   pub table-more : (f : ℕ → A) (k : ℕ) → table f 0 (k + 1) ≡ table f 0 k ++ (f k ∷ [])
   table-more f k = let e : 0 + k ≡ k = omega arith in ap (table f 0) (add-one k) ∙ table-suc f 0 k ∙ ap (λ j. table f 0 k ++ (f j ∷ [])) e
 
+pub table-append : (f : ℕ → ℕ) (i m n : ℕ) → table f i (m + n) ≡ table f i m ++ table f (i + m) n
+table-append f i zero n = let a : 0 + n ≡ n = omega arith in let b : i + 0 ≡ i = omega arith in rw (a, b) refl
+table-append f i (suc m) n =
+    let a : suc m + n ≡ suc (m + n) = omega arith in
+    let b : i + suc m ≡ suc i + m = omega arith in
+    rw (a, b) (ap (λ l. f i ∷ l) (table-append f (suc i) m n))
+
+table-entry : (f : ℕ → ℕ) (i k j : ℕ) → j < k → getD (table f i k) j 0 ≡ f (i + j)
+table-entry f i zero j l = absurd (omega arith)
+table-entry f i (suc k) zero l = let e : i ≡ i + 0 = omega arith in ap f e
+table-entry f i (suc k) (suc j) l = let e : suc i + j ≡ i + suc j = omega arith in table-entry f (suc i) k j (omega arith) ∙ ap f e
+
+pub table-getD : (f : ℕ → ℕ) (k j : ℕ) → j < k → getD (table f 0 k) j 0 ≡ f j
+table-getD f k j l = let e : 0 + j ≡ j = omega arith in table-entry f 0 k j l ∙ ap f e
+
 pub table-map : {A B : Type 0} (g : A → B) (f : ℕ → A) (i k : ℕ) → map g (table f i k) ≡ table (λ j. g (f j)) i k
 table-map g f i zero = refl
 table-map g f i (suc k) = ap (λ l. g (f i) ∷ l) (table-map g f (suc i) k)

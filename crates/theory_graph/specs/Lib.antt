@@ -4,3 +4,4 @@ pub mod Contraction
 pub mod Cut
 pub mod Route
 pub mod SmallGraph
+pub mod Pieces

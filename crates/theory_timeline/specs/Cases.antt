@@ -1,8 +1,8 @@
--- The cases that document 01 marks P and those of document 02, No. 1, as one table: what the definitions of the calls give, and what the documents say.
+-- The cases that document 01 marks P and those of document 02, Nos. 1 and 2, as one table: what the definitions of the calls give, and what the documents say.
 -- proofs/Cases proves every row.
 -- A replay is seen by its whole outcome but for the work table, a contraction by its outcome but for the work table, the program by the bytes that it writes.
 -- Assumes nothing: these are definitions.
-use Prim.Native.Nat.{_%_, _*_, _/_, ℕ}
+use Prim.Native.Nat.{_%_, _*_, _/_, suc, ℕ}
 use mathlib.Core.List.{List, [], _∷_}
 use mathlib.Core.Path.{_≡_}
 use lib.ListN.{length, replicate, take}
@@ -15,9 +15,9 @@ use Rattle.theory_timeline.specs.Replay as R
 abbrev pub Replayed : Type 0
 Replayed = ℕ × ℕ × ℕ × ℕ × ℕ × List ℕ
 
--- code, place, nodes, edges, the map table, the edge tables
+-- code, place, nodes, edges, the map table, the edges' first and second ends, the table of pieces
 abbrev pub Contracted : Type 0
-Contracted = ℕ × ℕ × ℕ × ℕ × List ℕ × List ℕ × List ℕ
+Contracted = ℕ × ℕ × ℕ × ℕ × List ℕ × List ℕ × List ℕ × List ℕ
 
 pub data Seen : Type 0 where
   replayed : Replayed → Seen
@@ -46,9 +46,9 @@ replayFrom start n a b x y p =
 abbrev pub replayOf : ℕ → List ℕ → List ℕ → List ℕ → List ℕ → ℕ → Seen
 replayOf n a = replayFrom (replicate (length a) 0) n a
 
--- edge tables and map filled with 9
-abbrev pub contractionOf : ℕ → List ℕ → List ℕ → List ℕ → Seen
-contractionOf n from to active =
+-- with this table of pieces; edge tables and map filled with 9
+abbrev pub contractionWith : List ℕ → ℕ → List ℕ → List ℕ → List ℕ → Seen
+contractionWith pieces n from to active =
     let l : C.Lent = record {
       n = n;
       m = length from;
@@ -59,10 +59,15 @@ contractionOf n from to active =
       map = replicate (length active) 9;
       outFrom = replicate (2 * length active) 9;
       outTo = replicate (2 * length active) 9;
+      pieces = pieces;
       work = replicate (C.required n (length from)) 7;
     } in
     let r : C.Outcome = C.contraction l in
-    contracted (r .code, r .place, r .nodes, r .edges, r .map, take (r .edges) (r .outFrom), take (r .edges) (r .outTo))
+    contracted (r .code, r .place, r .nodes, r .edges, r .map, take (r .edges) (r .outFrom), take (r .edges) (r .outTo), r .pieces)
+
+-- with a table of pieces that is filled with 9 and has one entry more than it must have
+abbrev pub contractionOf : ℕ → List ℕ → List ℕ → List ℕ → Seen
+contractionOf n from to active = contractionWith (replicate (suc (length active)) 9) n from to active
 
 -- numbers as the program reads them
 abbrev pub bytesOf : List ℕ → List ℕ
@@ -99,15 +104,18 @@ table =
     -- segment 0-0 open, N = 2: query of 0 and 1 gives 0
     ∷ (replayOf 2 (0 ∷ []) (0 ∷ []) (65535 ∷ 0 ∷ []) (0 ∷ 1 ∷ []) 8, replayed (0, 0, 1, 1, 5, 3 ∷ 0 ∷ []))
     -- path 0-1-2 to 0, 2: two nodes, edge 0 1
-    ∷ (contractionOf 3 (0 ∷ 1 ∷ []) (1 ∷ 2 ∷ []) (0 ∷ 2 ∷ []), contracted (0, 0, 2, 1, 0 ∷ 1 ∷ [], 0 ∷ [], 1 ∷ []))
+    ∷ (contractionOf 3 (0 ∷ 1 ∷ []) (1 ∷ 2 ∷ []) (0 ∷ 2 ∷ []), contracted (0, 0, 2, 1, 0 ∷ 1 ∷ [], 0 ∷ [], 1 ∷ [], 0 ∷ 0 ∷ 9 ∷ []))
     -- star with centre 3, active 0, 1, 2: four nodes, edges 0 3, 1 3, 2 3
-    ∷ (contractionOf 4 (0 ∷ 1 ∷ 2 ∷ []) (3 ∷ 3 ∷ 3 ∷ []) (0 ∷ 1 ∷ 2 ∷ []), contracted (0, 0, 4, 3, 0 ∷ 1 ∷ 2 ∷ [], 0 ∷ 1 ∷ 2 ∷ [], 3 ∷ 3 ∷ 3 ∷ []))
+    ∷ (
+      contractionOf 4 (0 ∷ 1 ∷ 2 ∷ []) (3 ∷ 3 ∷ 3 ∷ []) (0 ∷ 1 ∷ 2 ∷ []),
+      contracted (0, 0, 4, 3, 0 ∷ 1 ∷ 2 ∷ [], 0 ∷ 1 ∷ 2 ∷ [], 3 ∷ 3 ∷ 3 ∷ [], 0 ∷ 0 ∷ 0 ∷ 9 ∷ []),
+    )
     -- triangle, all active: one node, no edge
-    ∷ (contractionOf 3 (0 ∷ 1 ∷ 2 ∷ []) (1 ∷ 2 ∷ 0 ∷ []) (0 ∷ 1 ∷ 2 ∷ []), contracted (0, 0, 1, 0, 0 ∷ 0 ∷ 0 ∷ [], [], []))
+    ∷ (contractionOf 3 (0 ∷ 1 ∷ 2 ∷ []) (1 ∷ 2 ∷ 0 ∷ []) (0 ∷ 1 ∷ 2 ∷ []), contracted (0, 0, 1, 0, 0 ∷ 0 ∷ 0 ∷ [], [], [], 0 ∷ 0 ∷ 0 ∷ 9 ∷ []))
     -- no active entries: no nodes
-    ∷ (contractionOf 2 (0 ∷ []) (1 ∷ []) [], contracted (0, 0, 0, 0, [], [], []))
+    ∷ (contractionOf 2 (0 ∷ []) (1 ∷ []) [], contracted (0, 0, 0, 0, [], [], [], 9 ∷ []))
     -- active 1, 1 of two nodes: one node, map 0 0
-    ∷ (contractionOf 2 [] [] (1 ∷ 1 ∷ []), contracted (0, 0, 1, 0, 0 ∷ 0 ∷ [], [], []))
+    ∷ (contractionOf 2 [] [] (1 ∷ 1 ∷ []), contracted (0, 0, 1, 0, 0 ∷ 0 ∷ [], [], [], 0 ∷ 0 ∷ 9 ∷ []))
     -- p = 3 refused by 3, with the answer table as it was; p = 4 accepted
     ∷ (example 3, replayed (3, 0, 0, 0, 0, 9 ∷ 9 ∷ 9 ∷ 9 ∷ 9 ∷ []))
     ∷ (example 4, replayed (0, 0, 2, 3, 19, 3 ∷ 3 ∷ 1 ∷ 3 ∷ 2 ∷ []))
@@ -126,6 +134,15 @@ table =
     ∷ (replayFrom (1 ∷ 2 ∷ 3 ∷ []) 3 (0 ∷ 1 ∷ 2 ∷ []) (1 ∷ 2 ∷ 0 ∷ []) (9 ∷ []) (9 ∷ []) 8, replayed (11, 1, 0, 0, 0, 9 ∷ []))
     -- with an end out of range at a later segment: 4
     ∷ (replayFrom (2 ∷ 0 ∷ 0 ∷ []) 3 (0 ∷ 1 ∷ 2 ∷ []) (1 ∷ 2 ∷ 3 ∷ []) (9 ∷ []) (9 ∷ []) 8, replayed (4, 2, 0, 0, 0, 9 ∷ []))
+    -- edges 0-2 and 1-3, active 3, 0, 1, 2: two pieces, which the entries meet in turn, the one of node 3 first
+    ∷ (
+      contractionOf 4 (0 ∷ 1 ∷ []) (2 ∷ 3 ∷ []) (3 ∷ 0 ∷ 1 ∷ 2 ∷ []),
+      contracted (0, 0, 4, 2, 0 ∷ 1 ∷ 2 ∷ 3 ∷ [], 0 ∷ 1 ∷ [], 2 ∷ 3 ∷ [], 0 ∷ 1 ∷ 0 ∷ 1 ∷ 9 ∷ []),
+    )
+    -- one edge 0-1, active 2, 1, 2, 0, where 2 has no edge: a repeated entry has its piece again
+    ∷ (contractionOf 3 (0 ∷ []) (1 ∷ []) (2 ∷ 1 ∷ 2 ∷ 0 ∷ []), contracted (0, 0, 3, 1, 0 ∷ 1 ∷ 0 ∷ 2 ∷ [], 1 ∷ [], 2 ∷ [], 0 ∷ 1 ∷ 0 ∷ 1 ∷ 9 ∷ []))
+    -- a table of pieces with one entry for two: 2, and it stays as it was
+    ∷ (contractionWith (9 ∷ []) 2 [] [] (0 ∷ 1 ∷ []), contracted (2, 0, 0, 0, 9 ∷ 9 ∷ [], [], [], 9 ∷ []))
     -- the program: N = 177 is "refused 10 at 0"
     ∷ (wrote (output (bytesOf (177 ∷ 0 ∷ 0 ∷ 8 ∷ []))), wrote (114 ∷ 101 ∷ 102 ∷ 117 ∷ 115 ∷ 101 ∷ 100 ∷ 32 ∷ 49 ∷ 48 ∷ 32 ∷ 97 ∷ 116 ∷ 32 ∷ 48 ∷ 10 ∷ []))
     ∷ []
