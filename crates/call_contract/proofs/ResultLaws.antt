@@ -2,21 +2,21 @@
 -- those of the outcome.
 -- Assumes nothing.
 use Prim.Native.Nat.{_*_, _+_, _<_, _≤_, suc, zero, ℕ}
-use mathlib.Core.Bool.{_&&_, true}
+use mathlib.Core.Bool.{true}
 use mathlib.Core.List.{List, List·Memᴰ, List·Memᴰ·head, List·Memᴰ·tail, [], _∷_, map}
 use mathlib.Core.Path.{_∙_, _≡_, ap, ap₂, refl, subst, sym}
 use lib.Dec.{eqb, ltb}
 use lib.ListN.{getD, length, length-replicate, replicate}
-use lib.Seq.{length-take-le}
 use native.Mathlib.Omega.{arith}
-use borrow.Author.Tests.{eqb-false, eqb-true, lt-ltb}
-use Rattle.contraction_checks.proofs.FaultLaws.{Accepted}
+use borrow.Author.Tests.{eqb-false, eqb-true}
+use Rattle.theory_contraction.proofs.Acceptance.{Accepted, edges-below, entries-at, entries-below, entries-length, entries-table}
 use Rattle.theory_graph.proofs.ActiveLists.{in-firsts}
 use Rattle.theory_graph.proofs.ActiveLists.{canonical-repeats, small-repeats}
-use Rattle.theory_graph.proofs.TableLaws.{over-equal, pairs-table, table-map, take-table}
+use Rattle.theory_graph.proofs.Pieces.{numbered-map}
+use Rattle.theory_graph.proofs.TableLaws.{over-equal, over-length, table-map}
 use Rattle.theory_graph.proofs.Lists.{table-length, table-mem}
 use Rattle.theory_contraction.specs.Contraction.{Lent, done, edges, entries, required}
-use Rattle.contraction_tables.specs.Transfer.{Loadable, Prepared}
+use Rattle.contraction_tables.specs.Transfer.{CanNumber, Loadable, Prepared, TreesNumbered, rootsOf}
 use Rattle.call_contract.specs.Reply.{outcome}
 use Rattle.call_contract.specs.declared.ContractReply.the-variants.{Done}
 use Rattle.core_reduce.specs.Core.{Reduced, activeIn, edgesIn, edgesOut}
@@ -29,10 +29,11 @@ use Rattle.theory_graph.proofs.SmallGraphDefinition.{definition-small}
 use Rattle.theory_graph.proofs.SmallGraphs.{SmallGraph}
 use Rattle.theory_graph.proofs.Uniqueness.{nodes-same, places-same}
 use Rattle.theory_graph.specs.Contraction.{Contracted, contract, keptClasses}
-use Rattle.theory_graph.specs.Graph.{Edge}
+use Rattle.theory_graph.specs.Graph.{Edge, joined}
 use Rattle.theory_graph.specs.Lists.{firsts, over, table}
+use Rattle.theory_graph.specs.Pieces.{numbered, pieces}
 use Rattle.theory_graph.specs.SmallGraph.{Canonical, IsSmallGraph, endsIn}
-use Rattle.core_words.specs.Fields.{ACTIVE, LOWER, MAPPED, UPPER, node}
+use Rattle.core_words.specs.Fields.{ACTIVE, LOWER, MAPPED, ROOT, UPPER, node}
 
 -- ---- the definition's contraction is the only small graph so numbered
 module _ (n : ℕ) (E : List Edge) (S : List ℕ) (wE : endsIn (λ v. ltb v n) E ≡ true) (wS : (a : ℕ) → List·Memᴰ a S → a < n)
@@ -53,12 +54,6 @@ module _ (n : ℕ) (E : List Edge) (S : List ℕ) (wE : endsIn (λ v. ltb v n) E
       go x e g c = the-one E S (length (keptClasses n E S)) H ρ σ (rw e at g) (rw e at c) _ _ _ (contract-small n E S wE wS) (contract-canon n E S wE wS)
 
 -- ---- lists of edges and entries below n
-endsIn-table : (n : ℕ) (f g : ℕ → ℕ) (i k : ℕ) → ((j : ℕ) → i ≤ j → j < i + k → (f j < n) × (g j < n)) → endsIn (λ v. ltb v n) (table (λ j. (f j, g j)) i k) ≡ true
-endsIn-table n f g i zero l = refl
-endsIn-table n f g i (suc k) l =
-    let q = l i (omega arith) (omega arith) in
-    ap₂ _&&_ (lt-ltb (f i) n (q .0)) (ap₂ _&&_ (lt-ltb (g i) n (q .1)) (endsIn-table n f g (suc i) k (λ j a b. l j (omega arith) (omega arith))))
-
 map-equal : (f g : ℕ → ℕ) (xs : List ℕ) → ((a : ℕ) → List·Memᴰ a xs → f a ≡ g a) → map f xs ≡ map g xs
 map-equal f g [] e = refl
 map-equal f g (x ∷ xs) e = ap₂ _∷_ (e x (List·Memᴰ·head refl)) (map-equal f g xs (λ a m. e a (List·Memᴰ·tail m)))
@@ -83,28 +78,6 @@ module _ (l : Lent) (s : Accepted l) where
     entries = s .entries;
   }
 
-  edges-below : endsIn (λ v. ltb v (l .n)) (edges l) ≡ true
-  unfolding edges
-  edges-below =
-      ap (endsIn (λ v. ltb v (l .n))) (pairs-table (l .m) (l .from) (l .to) (s .long .from-length) (s .long .to-length))
-      ∙ endsIn-table (l .n) (λ i. getD (l .from) i 0) (λ i. getD (l .to) i 0) 0 (l .m) (λ j a b. s .ends j (omega arith))
-
-  entries-table : entries l ≡ table (λ i. getD (l .active) i 0) 0 (l .k)
-  unfolding entries
-  entries-table = take-table (l .k) (l .active) (s .long .active-length)
-
-  entries-at : (i : ℕ) → i < l .k → List·Memᴰ (getD (l .active) i 0) (entries l)
-  entries-at i j = subst (λ (xs : List ℕ). List·Memᴰ (getD (l .active) i 0) xs) (sym entries-table) (table-at (λ i. getD (l .active) i 0) 0 (l .k) i (omega arith) (omega arith))
-
-  entries-below : (a : ℕ) → List·Memᴰ a (entries l) → a < l .n
-  entries-below a m =
-      let (i, j, e) = table-mem (λ i. getD (l .active) i 0) 0 (l .k) a (subst (λ (xs : List ℕ). List·Memᴰ a xs) entries-table m) in
-      rw e (s .entries i (omega arith))
-
-  entries-length : length (entries l) ≡ l .k
-  unfolding entries
-  entries-length = length-take-le (l .k) (l .active) (s .long .active-length)
-
   module _ {d h e : ℕ} {w w₂ : List ℕ} (p : Prepared (l .n) (l .m) (l .k) (l .from) (l .to) (l .active) (l .work) w d) (r : Reduced (l .n) (l .m) d w w₂ h e) where
     given-edges : edgesIn (l .n) (l .m) w ≡ edges l
     unfolding edges
@@ -124,18 +97,22 @@ module _ (l : Lent) (s : Accepted l) where
         (subst (λ (E : List Edge). Canonical E (firsts eqb (entries l)) h (r .ρ) (r .σ)) given-edges
         (subst (λ (S : List ℕ). Canonical (edgesIn (l .n) (l .m) w) S h (r .ρ) (r .σ)) given-active (r .canonical)))
 
+    -- an entry is one of the different active nodes
+    active-at : (a : ℕ) → List·Memᴰ a (entries l) → (i : ℕ) × (i < d) × (a ≡ node ACTIVE w i)
+    active-at a m =
+        let (i, j, q) = table-mem (node ACTIVE w) 0 d a (subst (λ (xs : List ℕ). List·Memᴰ a xs) (sym given-active) (in-firsts (entries l) a m)) in
+        (i, omega arith, q)
+
     -- MAPPED of an entry is its number
     number-at : (a : ℕ) → List·Memᴰ a (entries l) → node MAPPED w₂ a ≡ r .σ a
-    number-at a m =
-        let (i, j, q) = table-mem (node ACTIVE w) 0 d a (subst (λ (xs : List ℕ). List·Memᴰ a xs) (sym given-active) (in-firsts (entries l) a m)) in
-        ap (node MAPPED w₂) q ∙ r .numbers i (omega arith) ∙ ap (r .σ) (sym q)
+    number-at a m = let (i, j, q) = active-at a m in ap (node MAPPED w₂) q ∙ r .numbers i j ∙ ap (r .σ) (sym q)
 
     -- ---- what the fills ask
     pub words-length : length w₂ ≡ length (l .work)
     words-length = r .same ∙ p .same
 
     pub map-fits : (i : ℕ) → i < l .k → (getD (l .active) i 0 < l .n) × (node MAPPED w₂ (getD (l .active) i 0) < 65536)
-    map-fits i j = (s .entries i j, omega (arith, number-at (getD (l .active) i 0) (entries-at i j), small .place (getD (l .active) i 0) (entries-at i j) .0, r .less, s .within .nodes))
+    map-fits i j = (s .entries i j, omega (arith, number-at (getD (l .active) i 0) (entries-at l s i j), small .place (getD (l .active) i 0) (entries-at l s i j) .0, r .less, s .within .nodes))
 
     pub ends-fit : (i : ℕ) → i < e → (node LOWER w₂ i < 65536) × (node UPPER w₂ i < 65536)
     ends-fit i j =
@@ -149,7 +126,7 @@ module _ (l : Lent) (s : Accepted l) where
     edges-few = omega (arith, edges-length, small-edges-most (edges l) (entries l) h (edgesOut e w₂) (r .ρ) (r .σ) small, r .less)
 
     pub edges-room : e ≤ 2 * l .k
-    edges-room = omega (arith, edges-length, small-edges-entries (edges l) (entries l) h (edgesOut e w₂) (r .ρ) (r .σ) small, entries-length)
+    edges-room = omega (arith, edges-length, small-edges-entries (edges l) (entries l) h (edgesOut e w₂) (r .ρ) (r .σ) small, entries-length l s)
 
     -- ---- what they give
     abbrev result : Contracted
@@ -157,11 +134,11 @@ module _ (l : Lent) (s : Accepted l) where
 
     result-map : table (λ i. node MAPPED w₂ (getD (l .active) i 0)) 0 (l .k) ≡ result .map
     result-map =
-        sym (table-map (node MAPPED w₂) (λ i. getD (l .active) i 0) 0 (l .k)) ∙ ap (map (node MAPPED w₂)) (sym entries-table) ∙ map-equal (node MAPPED w₂) (r .σ) (entries l) number-at
-        ∙ the-map (l .n) (edges l) (entries l) edges-below entries-below h (edgesOut e w₂) (r .ρ) (r .σ) small canonical
+        sym (table-map (node MAPPED w₂) (λ i. getD (l .active) i 0) 0 (l .k)) ∙ ap (map (node MAPPED w₂)) (sym (entries-table l s)) ∙ map-equal (node MAPPED w₂) (r .σ) (entries l) number-at
+        ∙ the-map (l .n) (edges l) (entries l) (edges-below l s) (entries-below l s) h (edgesOut e w₂) (r .ρ) (r .σ) small canonical
 
     result-edges : edgesOut e w₂ ≡ result .edges
-    result-edges = the-edges (l .n) (edges l) (entries l) edges-below entries-below h (edgesOut e w₂) (r .ρ) (r .σ) small canonical
+    result-edges = the-edges (l .n) (edges l) (entries l) (edges-below l s) (entries-below l s) h (edgesOut e w₂) (r .ρ) (r .σ) small canonical
 
     result-from : table (node LOWER w₂) 0 e ≡ map (λ (x : Edge). x .0) (result .edges)
     result-from = sym (table-map (λ (x : Edge). x .0) (λ j. (node LOWER w₂ j, node UPPER w₂ j)) 0 e) ∙ ap (map (λ (x : Edge). x .0)) result-edges
@@ -169,28 +146,62 @@ module _ (l : Lent) (s : Accepted l) where
     result-to : table (node UPPER w₂) 0 e ≡ map (λ (x : Edge). x .1) (result .edges)
     result-to = sym (table-map (λ (x : Edge). x .1) (λ j. (node LOWER w₂ j, node UPPER w₂ j)) 0 e) ∙ ap (map (λ (x : Edge). x .1)) result-edges
 
-    result-work : over (replicate (required (l .n) (l .m)) 0) w₂ ≡ over (replicate (required (l .n) (l .m)) 0) (l .work)
-    result-work = over-equal (replicate (required (l .n) (l .m)) 0) w₂ (l .work) words-length
-        (λ i j. let k = length-replicate (required (l .n) (l .m)) zero in r .past i (omega arith) ∙ p .past i (omega arith))
+    -- ---- the pieces: one root just where joined
+    root-joined : (a b : ℕ) → List·Memᴰ a (entries l) → List·Memᴰ b (entries l) → joined (edges l) a b ≡ eqb (node ROOT w₂ a) (node ROOT w₂ b)
+    root-joined a b ma mb =
+        let (i, li, ei) = active-at a ma in
+        let (j, lj, ej) = active-at b mb in
+        rw (ei, ej) (ap (λ (E : List Edge). joined E (node ACTIVE w i) (node ACTIVE w j)) (sym given-edges) ∙ sym (r .pieces i j li lj))
 
-    pub outcome-is : {mp lows highs w₃ : List ℕ} {k : ℕ}
-        → mp ≡ over (table (λ i. node MAPPED w₂ (getD (l .active) i 0)) 0 (l .k)) (l .map)
-        → lows ≡ over (table (node LOWER w₂) 0 e) (l .outFrom)
-        → highs ≡ over (table (node UPPER w₂) 0 e) (l .outTo)
-        → k ≡ required (l .n) (l .m) → w₃ ≡ over (replicate k 0) w₂
-        → outcome (Done h e) mp lows highs w₃ ≡ done l
-    unfolding done
-    outcome-is a b c k f =
-        rw (
-          the-nodes (l .n) (edges l) (entries l) edges-below entries-below h (edgesOut e w₂) (r .ρ) (r .σ) small canonical,
-          sym edges-length ∙ ap length result-edges,
-          a,
-          b,
-          c,
-          f,
-          k,
-          result-map,
-          result-from,
-          result-to,
-          result-work,
-        ) refl
+    result-pieces : numbered eqb (rootsOf (l .k) (l .active) w₂) ≡ pieces (edges l) (entries l)
+    unfolding pieces
+    result-pieces = sym (
+        numbered-map (node ROOT w₂) (joined (edges l)) eqb (entries l) root-joined
+        ∙ ap (λ (xs : List ℕ). numbered eqb (map (node ROOT w₂) xs)) (entries-table l s)
+        ∙ ap (numbered eqb) (table-map (node ROOT w₂) (λ i. getD (l .active) i 0) 0 (l .k))
+        )
+
+    pub can-number : CanNumber (l .n) (l .k) (l .active) (l .pieces) w₂
+    can-number = record {
+      few = omega (arith, s .within .nodes);
+      room = omega (arith, words-length, s .long .work-length);
+      active-length = s .long .active-length;
+      pieces-length = s .long .pieces-length;
+      entries = λ i j. let (x, b, q) = active-at (getD (l .active) i 0) (entries-at l s i j) in (s .entries i j, rw q (r .roots x b));
+    }
+
+    module _ {ps w₃ : List ℕ} (f : TreesNumbered (l .n) (l .k) (l .active) w₂ w₃ (l .pieces) ps) where
+      pub numbered-length : length w₃ ≡ length (l .work)
+      numbered-length = f .same ∙ words-length
+
+      pub cleared-length : {w₄ : List ℕ} {k : ℕ} → k ≡ required (l .n) (l .m) → w₄ ≡ over (replicate k 0) w₃ → length w₄ ≡ length (l .work)
+      cleared-length {k = k} q g =
+          ap length g ∙ over-length (replicate k 0) w₃ (omega (arith, length-replicate k zero, numbered-length, s .long .work-length)) ∙ numbered-length
+
+      result-work : over (replicate (required (l .n) (l .m)) 0) w₃ ≡ over (replicate (required (l .n) (l .m)) 0) (l .work)
+      result-work = over-equal (replicate (required (l .n) (l .m)) 0) w₃ (l .work) numbered-length
+          (λ i j. let k = length-replicate (required (l .n) (l .m)) zero in f .past i (omega arith) ∙ r .past i (omega arith) ∙ p .past i (omega arith))
+
+      pub outcome-is : {mp lows highs w₄ : List ℕ} {k : ℕ}
+          → mp ≡ over (table (λ i. node MAPPED w₂ (getD (l .active) i 0)) 0 (l .k)) (l .map)
+          → lows ≡ over (table (node LOWER w₂) 0 e) (l .outFrom)
+          → highs ≡ over (table (node UPPER w₂) 0 e) (l .outTo)
+          → k ≡ required (l .n) (l .m) → w₄ ≡ over (replicate k 0) w₃
+          → outcome (Done h e) mp lows highs ps w₄ ≡ done l
+      unfolding done
+      outcome-is a b c k g =
+          rw (
+            the-nodes (l .n) (edges l) (entries l) (edges-below l s) (entries-below l s) h (edgesOut e w₂) (r .ρ) (r .σ) small canonical,
+            sym edges-length ∙ ap length result-edges,
+            a,
+            b,
+            c,
+            f .filled,
+            g,
+            k,
+            result-map,
+            result-from,
+            result-to,
+            result-pieces,
+            result-work,
+          ) refl

@@ -25,11 +25,12 @@ fn length_fault(
     map: &[u16],
     out_from: &[u16],
     out_to: &[u16],
+    pieces: &[u16],
     work: &[u32],
 ) -> Fault
     requires { ⌜ (n ≤ 4096) × (m ≤ 8192) × (k ≤ 8192) ⌝ }
     ensures { λ r. ⌜ (r .code, r .place) ≡ firstFault (shortTables (lent n m k (now (from .entry)) (now (to .entry)) (now (active .entry))
-        (now (map .entry)) (now («out_from» .entry)) (now («out_to» .entry)) (now (work .entry)))) ⌝ }
+        (now (map .entry)) (now («out_from» .entry)) (now («out_to» .entry)) (now (pieces .entry)) (now (work .entry)))) ⌝ }
 {
     let tables = [
         from.len(),
@@ -44,6 +45,8 @@ fn length_fault(
         2 * k,
         out_to.len(),
         2 * k,
+        pieces.len(),
+        k,
         work.len(),
         required(n, m),
     ];
@@ -76,16 +79,29 @@ pub fn first_fault(
     map: &[u16],
     out_from: &[u16],
     out_to: &[u16],
+    pieces: &[u16],
     work: &[u32],
 ) -> Fault
     ensures { λ r. ⌜ (r .code, r .place) ≡ fault (lent n m k (now (from .entry)) (now (to .entry)) (now (active .entry))
-        (now (map .entry)) (now («out_from» .entry)) (now («out_to» .entry)) (now (work .entry))) ⌝ }
+        (now (map .entry)) (now («out_from» .entry)) (now («out_to» .entry)) (now (pieces .entry)) (now (work .entry))) ⌝ }
 {
     let sizes = call_sizes::size_fault(n, m, 0, k);
     if sizes.code != 0 {
         return sizes;
     }
-    let lengths = length_fault(n, m, k, from, to, active, map, out_from, out_to, work);
+    let lengths = length_fault(
+        n,
+        m,
+        k,
+        from,
+        to,
+        active,
+        map,
+        out_from,
+        out_to,
+        pieces,
+        work,
+    );
     if lengths.code != 0 {
         return lengths;
     }

@@ -1,1 +1,2 @@
 pub mod TransferLaws
+pub mod TreeLaws

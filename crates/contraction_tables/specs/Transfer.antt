@@ -1,4 +1,4 @@
--- What loading a graph gives: all active entries entered, the ends of the edges stored, and both together.
+-- What loading a graph gives: all active entries entered, the ends of the edges stored, and both together; and what numbering the trees takes and gives.
 -- Assumes nothing: these are definitions.
 use Prim.Native.Nat.{_*_, _+_, _<_, _≤_, ℕ}
 use mathlib.Core.List.{List}
@@ -6,9 +6,10 @@ use mathlib.Core.Path.{_≡_}
 use lib.Dec.{eqb}
 use lib.ListN.{getD, length, take}
 use Rattle.core_reduce.specs.Core.{Loaded, activeIn, edgesIn}
-use Rattle.theory_graph.specs.Lists.{firsts, pairs}
+use Rattle.theory_graph.specs.Lists.{firsts, over, pairs, table}
+use Rattle.theory_graph.specs.Pieces.{numbered}
 use Rattle.core_loading.specs.Loading.{Entered, Past}
-use Rattle.core_words.specs.Fields.{ACTIVE, MARK, TO, half, node}
+use Rattle.core_words.specs.Fields.{ACTIVE, MARK, ROOT, TO, half, node}
 
 -- from a to b all of S are entered
 pub record Entries (n : ℕ) (S : List ℕ) (a b : List ℕ) (d : ℕ) : Type 0 where
@@ -41,3 +42,21 @@ pub record Prepared (n m k : ℕ) (from to active a b : List ℕ) (d : ℕ) : Ty
   pub loaded : Loaded n m d b
   pub edges : edgesIn n m b ≡ pairs (take m from) (take m to)
   pub actives : activeIn d b ≡ firsts eqb (take k active)
+
+-- the roots of the trees that the first k active entries lie in
+abbrev pub rootsOf : ℕ → List ℕ → List ℕ → List ℕ
+rootsOf k active w = table (λ i. node ROOT w (getD active i 0)) 0 k
+
+-- the trees can be numbered
+pub record CanNumber (n k : ℕ) (active pieces w : List ℕ) : Type 0 where
+  pub few : n ≤ 65536
+  pub room : 16 * n ≤ length w
+  pub active-length : k ≤ length active
+  pub pieces-length : k ≤ length pieces
+  pub entries : (i : ℕ) → i < k → (getD active i 0 < n) × (node ROOT w (getD active i 0) < n)
+
+-- from the table p to q the number of each entry's tree is written, by first appearance of its root; the words go from a to b
+pub record TreesNumbered (n k : ℕ) (active a b p q : List ℕ) : Type 0 where
+  pub same : length b ≡ length a
+  pub past : Past (16 * n) a b
+  pub filled : q ≡ over (numbered eqb (rootsOf k active a)) p

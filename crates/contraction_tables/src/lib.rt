@@ -4,7 +4,7 @@ ghost use mathlib.Core.Path.{_≡_};
 ghost use Prim.Native.Nat.{ℕ, _+_, _*_, _<_, _≤_};
 ghost use lib.ListN.{length, getD, take};
 ghost use Rattle.core_words.specs.Fields.{MAPPED, MARK, node};
-ghost use Rattle.contraction_tables.specs.Transfer.{Entries, Edges, Loadable, Prepared};
+ghost use Rattle.contraction_tables.specs.Transfer.{Entries, Edges, Loadable, Prepared, CanNumber, TreesNumbered};
 ghost use Rattle.theory_graph.specs.Lists.{table, over};
 
 // Enters the first k active entries; the count of different active nodes.
@@ -73,4 +73,29 @@ pub fn fill_ends(work: &[u32], e: usize, j: usize, out: &mut [u16])
         let x = core_words::get(work, i, j);
         out[i] = x as u16;
     }
+}
+
+// The trees of the forest that the first k active entries lie in, numbered as the entries meet them. Where no node is marked, a tree's root is entered as an
+// active node is, so that its mark is one more than the number of its tree.
+fn number_trees(work: &mut [u32], n: usize, k: usize, active: &[u16], pieces: &mut [u16])
+    requires { ⌜ CanNumber n k (now active) (now pieces) (now work) × ((v : ℕ) → v < n → node MARK (now work) v ≡ 0) ⌝ }
+    ensures { λ _. ⌜ TreesNumbered n k (now (active .entry)) (now (work .entry)) (now (work .exit)) (now (pieces .entry)) (now (pieces .exit)) ⌝ }
+{
+    let mut trees: usize = 0;
+    for j in 0..k {
+        let r = core_words::get(work, active[j] as usize, ROOT);
+        trees = core_loading::enter(work, n, trees, r);
+        let x = core_words::get(work, r, MARK);
+        pieces[j] = (x - 1) as u16;
+    }
+}
+
+// Internal: the numbers of the pieces of the first k active entries. The forest began a tree at each active node that it had not seen, in the order of the
+// list, so that the pieces are its trees in the order in which the entries meet them.
+pub fn fill_pieces(work: &mut [u32], n: usize, k: usize, active: &[u16], pieces: &mut [u16])
+    requires { ⌜ CanNumber n k (now active) (now pieces) (now work) ⌝ }
+    ensures { λ _. ⌜ TreesNumbered n k (now (active .entry)) (now (work .entry)) (now (work .exit)) (now (pieces .entry)) (now (pieces .exit)) ⌝ }
+{
+    core_words::clear_field(work, n, MARK, n);
+    number_trees(work, n, k, active, pieces);
 }

@@ -2,7 +2,7 @@
 -- Assumes nothing.
 use Prim.Native.Nat.{_%_, _*_, _+_, _-_, _/_, _<_, _≤_, suc, zero, ℕ}
 use mathlib.Core.Bool.{Bool, _||_, cond, false, not, or-true, true}
-use mathlib.Core.List.{List, List·Memᴰ, [], _++_, _∷_}
+use mathlib.Core.List.{List, List·Memᴰ, [], _++_, _∷_, append-nil}
 use mathlib.Core.Path.{_∙_, _≡_, ap, ap₂, refl, subst, sym}
 use lib.Dec.{eqb}
 use lib.ListN.{getD, length}
@@ -10,8 +10,9 @@ use native.Mathlib.Omega.{arith}
 use borrow.Author.Tests.{eq-eqb, eqb-false, eqb-true, ne-eqb}
 use Rattle.theory_graph.proofs.ActiveLists.{in-firsts}
 use Rattle.theory_graph.proofs.Booleans.{contradict, onBool}
-use Rattle.theory_graph.proofs.Lists.{All, Pairwise, all-filter, filter-all, filter-length, firsts-in, firsts-pairwise}
-use Rattle.theory_graph.proofs.Lists.{mem-member, member-mem, pairwise-filter, table-all, table-in, table-length, table-mem}
+use Rattle.theory_graph.proofs.Lists.{All, Pairwise, all-filter, filter-all, filter-append, filter-length, firsts-in, firsts-pairwise}
+use Rattle.theory_graph.proofs.Lists.{Nth, mem-member, member-mem, pairwise-filter, table-all, table-in, table-length, table-mem, table-nth}
+use Rattle.theory_graph.proofs.Pieces.{equal-nodes, group, group-nth}
 use Rattle.theory_graph.proofs.TableLaws.{table-equal, table-more}
 use Rattle.theory_graph.specs.Lists.{filter, firsts, member, table}
 use Rattle.core_loading.specs.Loading.{Entered, Entering, Past, PutEdge, Unmarked}
@@ -20,18 +21,6 @@ use Rattle.core_words.specs.Clearing.{Cleared}
 use Rattle.core_words.specs.Fields.{ACTIVE, MARK, TO, Put, PutHalf, half, node, update}
 
 -- ---- the different entries of a list
-filter-append : (p : ℕ → Bool) (xs ys : List ℕ) → filter p (xs ++ ys) ≡ filter p xs ++ filter p ys
-filter-append p [] ys = refl
-filter-append p (x ∷ xs) ys = go (p x) (filter-append p xs ys)
-  where
-    go : (b : Bool) → filter p (xs ++ ys) ≡ filter p xs ++ filter p ys → cond b (x ∷ filter p (xs ++ ys)) (filter p (xs ++ ys)) ≡ cond b (x ∷ filter p xs) (filter p xs) ++ filter p ys
-    go true e = ap (λ (l : List ℕ). x ∷ l) e
-    go false e = e
-
-append-none : (xs : List ℕ) → xs ++ [] ≡ xs
-append-none [] = refl
-append-none (x ∷ xs) = ap (λ (l : List ℕ). x ∷ l) (append-none xs)
-
 -- one more entry that is not there yet, and one that is
 firsts-new : (xs : List ℕ) (v : ℕ) → member xs v ≡ false → firsts eqb (xs ++ (v ∷ [])) ≡ firsts eqb xs ++ (v ∷ [])
 firsts-new [] v m = refl
@@ -53,7 +42,7 @@ firsts-again (x ∷ xs) v m =
     let a : eqb v x ≡ true = onBool (eqb v x) (λ e. e) (λ e. contradict m (ap₂ _||_ e b)) in
     let q : eqb x v ≡ true = eq-eqb x v (sym (eqb-true v x a)) in
     let none : filter p (v ∷ []) ≡ [] = ap (λ (b : Bool). cond (not b) (v ∷ []) []) q in
-    ap (filter p) (firsts-new xs v b) ∙ filter-append p (firsts eqb xs) (v ∷ []) ∙ ap (λ (l : List ℕ). filter p (firsts eqb xs) ++ l) none ∙ append-none (filter p (firsts eqb xs))))
+    ap (filter p) (firsts-new xs v b) ∙ filter-append p (firsts eqb xs) (v ∷ []) ∙ ap (λ (l : List ℕ). filter p (firsts eqb xs) ++ l) none ∙ append-nil (filter p (firsts eqb xs))))
 
 -- different numbers below n are at most n
 distinct-most : (n : ℕ) (xs : List ℕ) → Pairwise eqb xs → All (λ x. x < n) xs → length xs ≤ n
@@ -107,6 +96,15 @@ module _ {n d v : ℕ} {S : List ℕ} {mark act : ℕ → ℕ} (g : Entered n S 
   member-mark m =
       let (i, k, e) = table-mem act 0 d v (subst (λ (l : List ℕ). List·Memᴰ v l) (sym (g .active)) (in-firsts S v m)) in
       (i, omega arith, e)
+
+  -- an entry's mark is one more than its number by first appearance
+  pub entered-place : List·Memᴰ v S → (0 < mark v) × (mark v ≤ n) × (mark v - 1 ≡ group eqb S v)
+  entered-place m =
+      let (i, l, e) = member-mark m in
+      let z : mark v ≡ i + 1 = ap mark e ∙ g .marked i l in
+      let at : Nth (act i) 0 (firsts eqb S) i = subst (λ (xs : List ℕ). Nth (act i) 0 xs i) (g .active) (table-nth act 0 d i (omega arith) (omega arith)) in
+      let q : group eqb S v ≡ i = group-nth equal-nodes S (act i) v i at m (eq-eqb (act i) v (sym e)) in
+      (omega arith, omega (arith, entered-most g), omega arith)
 
   mark-none : mark v ≡ 0 → member S v ≡ false
   mark-none z = onBool (member S v)
@@ -171,7 +169,7 @@ cleared-unmarked z v l = z .zero MARK (omega arith) refl v l
 
 -- a node that has its mark already
 pub entering-again : {n d v : ℕ} {a : List ℕ} → v < n → 0 < node MARK a v → Entering n d v a a d
-entering-again l p = record { same = refl; past = λ i k. refl; more = λ S g. entered-again g l p }
+entering-again l p = record { same = refl; past = λ i k. refl; else = λ j i m a. refl; more = λ S g. entered-again g l p }
 
 pub entering-room : {n d v : ℕ} (a : List ℕ) → v < n → node MARK a v ≡ 0 → (S : List ℕ) × Entered n S d (node MARK a) (node ACTIVE a) → d < n
 entering-room a l z (S, g) = entered-room g l z
@@ -180,6 +178,7 @@ pub entering-new : {n d v : ℕ} {a b c : List ℕ} → v < n → node MARK a v 
 entering-new {n} {d} {v} {a} {b} {c} l z k p q = record {
   same = q .same ∙ p .same;
   past = halves-past n a c (λ j. q .halves n l j ∙ p .halves n k j);
+  else = λ j i m f. q .else j i m ∙ p .else j i f;
   more = λ S g.
       let mark : node MARK c ≡ update (node MARK a) v (d + 1) = q .here ∙ ap (λ (f : ℕ → ℕ). update f v (d + 1)) (p .else MARK (omega arith) (λ e. omega arith)) in
       let act : node ACTIVE c ≡ update (node ACTIVE a) d v = q .else ACTIVE (omega arith) (λ e. omega arith) ∙ p .here in

@@ -27,6 +27,7 @@ pub record Entered (n : ℕ) (S : List ℕ) (d : ℕ) (mark act : ℕ → ℕ) :
 pub record Entering (n d v : ℕ) (a b : List ℕ) (r : ℕ) : Type 0 where
   pub same : length b ≡ length a
   pub past : Past (16 * n) a b
+  pub else : (j : ℕ) → j < 16 → ¬ (j ≡ MARK) → ¬ (j ≡ ACTIVE) → node j b ≡ node j a
   pub more : (S : List ℕ) → Entered n S d (node MARK a) (node ACTIVE a) → Entered n (S ++ (v ∷ [])) r (node MARK b) (node ACTIVE b)
 
 -- from w to z edge j is stored, with the ends a and b

@@ -6,6 +6,7 @@ use mathlib.Core.Bool.{false, true}
 use mathlib.Core.List.{List, [], _∷_}
 use mathlib.Core.Logic.{inl, inr, ⊎-elim}
 use mathlib.Core.Path.{_≡_, _∙_, ap, refl, subst}
+use lib.Dec.{eqb}
 use lib.ListN.{length, getD}
 use native.Mathlib.Omega.{arith}
 use Rattle.core_branches.proofs.SmallForestLaws.{forest-small}
@@ -14,6 +15,7 @@ use Rattle.core_branches.specs.SmallForest.{ParentPairs}
 use Rattle.core_components.proofs.JoinLaws.{between-still}
 use Rattle.core_components.specs.Components.{CanMergeComponents, Components}
 use Rattle.core_reduce.proofs.EdgeOrder.{canonical-cuts-equal, edges-cut}
+use Rattle.core_reduce.proofs.PieceLaws.{root-below, root-joined}
 use Rattle.core_words.specs.Clearing.{Cleared}
 use Rattle.core_reduce.specs.Core.{startFields}
 use Rattle.core_reduce.specs.Core.{Loaded, Reduced, activeIn, edgesIn, edgesOut}
@@ -28,12 +30,12 @@ use Rattle.theory_graph.proofs.CutEquivalence.{small-cuts-equal}
 use Rattle.theory_graph.proofs.SmallGraphDefinition.{definition-small, small-definition}
 use Rattle.theory_graph.proofs.TableLaws.{table-equal}
 use Rattle.theory_graph.specs.Cut.{cut}
-use Rattle.theory_graph.specs.Graph.{NodeSet}
+use Rattle.theory_graph.specs.Graph.{NodeSet, joined}
 use Rattle.theory_graph.specs.Lists.{member, table}
 use Rattle.theory_graph.specs.SmallGraph.{Canonical, IsSmallGraph}
 use Rattle.core_words.proofs.ChangeLaws.{only-more, only-past, only-then}
 use Rattle.core_words.specs.Changes.{OnlyFields}
-use Rattle.core_words.specs.Fields.{ABOVE, ACTIVE, BRANCH, HEAD, LIVE, LOWER, MAPPED, MARK, MEMBER, NUMBER, OTHER, POSITION, TO, TOP, UPPER, half, node}
+use Rattle.core_words.specs.Fields.{ABOVE, ACTIVE, BRANCH, HEAD, LIVE, LOWER, MAPPED, MARK, MEMBER, NUMBER, OTHER, POSITION, ROOT, TO, TOP, UPPER, half, node}
 
 -- the listed edges are the pairs of a number and its parent
 listed-pairs : {n h e : ℕ} {a w : List ℕ} → EdgesListed n h a w e → ParentPairs h (node ABOVE a) (edgesOut e w)
@@ -158,6 +160,22 @@ module _ {n m k : ℕ} {w₀ : List ℕ} (s : Loaded n m k w₀) where
                     rw (l .rest .nodes NUMBER (omega arith) refl, l .rest .nodes TOP (omega arith) refl) at (t .numbers i b) in
                     rw (act₆ i b) at e
 
+                root-same : node ROOT w₇ ≡ node ROOT w₄
+                root-same = t .rest .nodes ROOT (omega arith) refl ∙ l .rest .nodes ROOT (omega arith) refl ∙ d .rest .nodes ROOT (omega arith) refl
+
+                -- an active node is seen
+                seen₄ : (i : ℕ) → i < k → 0 < node POSITION w₄ (node ACTIVE w₀ i)
+                seen₄ i b = subst (λ (v : ℕ). 0 < node POSITION w₄ v) (act₄ i b) (between-still (p .rest) (f .1) .have i b)
+
+                roots : (i : ℕ) → i < k → node ROOT w₇ (node ACTIVE w₀ i) < n
+                roots i b = rw root-same (root-below (p .forest) (node POSITION w₄ (node ACTIVE w₀ i)) (node ACTIVE w₀ i) (omega arith) (s .active i b) (seen₄ i b))
+
+                pieces : (i j : ℕ) → i < k → j < k
+                    → eqb (node ROOT w₇ (node ACTIVE w₀ i)) (node ROOT w₇ (node ACTIVE w₀ j)) ≡ joined (edgesIn n m w₀) (node ACTIVE w₀ i) (node ACTIVE w₀ j)
+                pieces i j b c =
+                    rw root-same
+                    (root-joined (p .forest) (node ACTIVE w₀ i) (node ACTIVE w₀ j) (s .active i b) (s .active j c) (seen₄ i b) (seen₄ j c) (edgesIn n m w₀) (rw ends-same cuts))
+
                 past : (i : ℕ) → 16 * n + 4 * m ≤ i → getD w₇ i 0 ≡ getD w₀ i 0
                 past i b =
                     let f : 16 * n ≤ i = omega arith in
@@ -173,4 +191,6 @@ module _ {n m k : ℕ} {w₀ : List ℕ} (s : Loaded n m k w₀) where
                   small = rw (t .rest .nodes LOWER (omega arith) refl, t .rest .nodes UPPER (omega arith) refl) small;
                   canonical = canonical;
                   numbers = numbers;
+                  roots = roots;
+                  pieces = pieces;
                 }

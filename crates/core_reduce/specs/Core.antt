@@ -1,16 +1,17 @@
 -- What the contraction on words takes and gives. n nodes, m edges by their half-edges, k different active nodes.
 -- Before: TO of half-edge 2e is one end of edge e and that of 2e + 1 the other; ACTIVE of i is the i-th active node, and MARK of an active node
--- is one more than its place among them, 0 of any other node. After: MAPPED of an active node is its new number, and LOWER and UPPER of j are the ends of
--- the j-th edge out.
+-- is one more than its place among them, 0 of any other node. After: MAPPED of an active node is its new number and ROOT the root of its tree, and LOWER and
+-- UPPER of j are the ends of the j-th edge out.
 -- Assumes nothing: these are definitions.
 use Prim.Native.Nat.{ℕ, _+_, _*_, _≤_, _<_}
 use mathlib.Core.Path.{_≡_}
 use mathlib.Core.List.{List, [], _∷_}
+use lib.Dec.{eqb}
 use lib.ListN.{length, getD}
 use Rattle.theory_graph.specs.Lists.{table}
-use Rattle.theory_graph.specs.Graph.{Edge}
+use Rattle.theory_graph.specs.Graph.{Edge, joined}
 use Rattle.theory_graph.specs.SmallGraph.{IsSmallGraph, Canonical}
-use Rattle.core_words.specs.Fields.{ACTIVE, BRANCH, HEAD, LIVE, LOWER, MAPPED, MARK, NUMBER, OTHER, POSITION, TO, UPPER, half, node}
+use Rattle.core_words.specs.Fields.{ACTIVE, BRANCH, HEAD, LIVE, LOWER, MAPPED, MARK, NUMBER, OTHER, POSITION, ROOT, TO, UPPER, half, node}
 
 -- the fields of a node that start at 0
 abbrev pub startFields : List ℕ
@@ -47,3 +48,7 @@ pub record Reduced (n m k : ℕ) (a b : List ℕ) (h e : ℕ) : Type 0 where
   pub small : IsSmallGraph (edgesIn n m a) (activeIn k a) h (edgesOut e b) ρ σ
   pub canonical : Canonical (edgesIn n m a) (activeIn k a) h ρ σ
   pub numbers : (i : ℕ) → i < k → node MAPPED b (node ACTIVE a i) ≡ σ (node ACTIVE a i)
+  -- two active nodes have one root just where they are joined
+  pub roots : (i : ℕ) → i < k → node ROOT b (node ACTIVE a i) < n
+  pub pieces : (i j : ℕ) → i < k → j < k
+      → eqb (node ROOT b (node ACTIVE a i)) (node ROOT b (node ACTIVE a j)) ≡ joined (edgesIn n m a) (node ACTIVE a i) (node ACTIVE a j)

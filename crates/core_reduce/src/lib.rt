@@ -14,7 +14,7 @@
 // | OTHER | a top | 1 + another branch | ABOVE of a number: 1 + the number of the nearest kept class above |
 // | NUMBER | a top | 1 + the number of its class, 0 for none | |
 // | MEMBER | a number | a node of its class | |
-// | ROOT | a node | the root of its tree | |
+// | ROOT | a node | the root of its tree (out) | |
 // | EDGE | a node | 1 + its tree edge, 0 at a root | |
 //
 // HEAD, POSITION, LIVE, BRANCH, OTHER and NUMBER start at 0. TO of a half-edge is its far end, NEXT the next at the same node.

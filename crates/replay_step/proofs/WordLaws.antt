@@ -10,16 +10,9 @@ use lib.Seq.{drop-at, drop-cons, drop-set-lt, getD-drop, getD-set-other, getD-ta
 use native.Mathlib.Omega.{arith}
 use borrow.Rule.Slice.PartMut.{putMid}
 use Rattle.theory_graph.proofs.Lists.{table-length}
-use Rattle.theory_graph.proofs.TableLaws.{sets-append}
+use Rattle.theory_graph.proofs.TableLaws.{sets-append, table-append}
 use Rattle.theory_graph.specs.Lists.{table}
 use Rattle.core_words.specs.Fields.{MAPPED, node}
-
-pub table-append : (f : ℕ → ℕ) (i m n : ℕ) → table f i (m + n) ≡ table f i m ++ table f (i + m) n
-table-append f i zero n = let a : 0 + n ≡ n = omega arith in let b : i + 0 ≡ i = omega arith in rw (a, b) refl
-table-append f i (suc m) n =
-    let a : suc m + n ≡ suc (m + n) = omega arith in
-    let b : i + suc m ≡ suc i + m = omega arith in
-    rw (a, b) (ap (λ l. f i ∷ l) (table-append f (suc i) m n))
 
 -- the table of a window is that of its parts
 pub sets-two : (f : ℕ → ℕ) (l : List ℕ) (i n c : ℕ) → c ≤ n → sets l i (table f i n) ≡ sets (sets l i (table f i c)) (i + c) (table f (i + c) (n - c))
