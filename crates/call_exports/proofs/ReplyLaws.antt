@@ -40,26 +40,26 @@ module _ (n m t k : ℕ) {r : SizesReply} (e : sizesOutcome r ≡ checkSizes n m
       code = ap (λ (o : SizesOutcome). eqb (o .code) 0) says ∙ sym (ap (λ (o : SizesOutcome). o .accepted) says)
 
 -- ---- the contraction
-contract-code : (l : contraction.Lent) (map outFrom outTo work : List ℕ) {c i : ℕ} →
-    contracting.outcome (contracts.Refused c i) map outFrom outTo work ≡ contraction.contraction l → eqb c 0 ≡ false
+contract-code : (l : contraction.Lent) (map outFrom outTo pieces work : List ℕ) {c i : ℕ} →
+    contracting.outcome (contracts.Refused c i) map outFrom outTo pieces work ≡ contraction.contraction l → eqb c 0 ≡ false
 unfolding contraction.contraction contraction.done contraction.refused
-contract-code l map outFrom outTo work e = onBool (eqb (contraction.fault l .0) 0)
+contract-code l map outFrom outTo pieces work e = onBool (eqb (contraction.fault l .0) 0)
     (λ h. contradict {b = true} refl (rw (contraction.contraction, h) at (sym (ap (λ (o : contraction.Outcome). o .accepted) e))))
     (λ h. ap (λ (x : ℕ). eqb x 0) (rw (contraction.contraction, h) at (ap (λ (o : contraction.Outcome). o .code) e)) ∙ h)
 
-module _ (l : contraction.Lent) (map outFrom outTo work : List ℕ) {r : ContractReply}
-    (e : contracting.outcome r map outFrom outTo work ≡ contraction.contraction l) where
+module _ (l : contraction.Lent) (map outFrom outTo pieces work : List ℕ) {r : ContractReply}
+    (e : contracting.outcome r map outFrom outTo pieces work ≡ contraction.contraction l) where
   pub contract-done : {nodes edges : ℕ} → r ≡ contracts.Done nodes edges →
-      contractedOf record { code = 0; place = 0; nodes = nodes; edges = edges } map outFrom outTo work ≡ contraction.contraction l
-  contract-done g = ap (λ (r : ContractReply). contracting.outcome r map outFrom outTo work) (sym g) ∙ e
+      contractedOf record { code = 0; place = 0; nodes = nodes; edges = edges } map outFrom outTo pieces work ≡ contraction.contraction l
+  contract-done g = ap (λ (r : ContractReply). contracting.outcome r map outFrom outTo pieces work) (sym g) ∙ e
 
   pub contract-refused : {c i : ℕ} → r ≡ contracts.Refused c i →
-      contractedOf record { code = c; place = i; nodes = 0; edges = 0 } map outFrom outTo work ≡ contraction.contraction l
+      contractedOf record { code = c; place = i; nodes = 0; edges = 0 } map outFrom outTo pieces work ≡ contraction.contraction l
   contract-refused {c} {i} g =
-      let says : contracting.outcome (contracts.Refused c i) map outFrom outTo work ≡ contraction.contraction l =
-      ap (λ (r : ContractReply). contracting.outcome r map outFrom outTo work) (sym g) ∙ e in
-      ap (λ (b : Bool). record { accepted = b; code = c; place = i; nodes = 0; edges = 0; map = map; outFrom = outFrom; outTo = outTo; work = work })
-      (contract-code l map outFrom outTo work says) ∙ says
+      let says : contracting.outcome (contracts.Refused c i) map outFrom outTo pieces work ≡ contraction.contraction l =
+      ap (λ (r : ContractReply). contracting.outcome r map outFrom outTo pieces work) (sym g) ∙ e in
+      ap (λ (b : Bool). record { accepted = b; code = c; place = i; nodes = 0; edges = 0; map = map; outFrom = outFrom; outTo = outTo; pieces = pieces; work = work })
+      (contract-code l map outFrom outTo pieces work says) ∙ says
 
 -- ---- the replay
 replay-code : (l : timeline.Lent) (p : ℕ) (answers work : List ℕ) {c i : ℕ} → replaying.outcome (replays.Refused c i) answers work ≡ timeline.replay l p → eqb c 0 ≡ false

@@ -19,8 +19,8 @@ abbrev pub sizesOf : LumSizesReply → SizesOutcome
 sizesOf r = record { accepted = eqb (r .code) 0; code = r .code; place = r .place; n = r .n; m = r .m; t = r .t; k = r .k }
 
 -- with the tables that may be written as they are afterwards
-abbrev pub contractedOf : LumContractReply → List ℕ → List ℕ → List ℕ → List ℕ → contraction.Outcome
-contractedOf r map outFrom outTo work =
+abbrev pub contractedOf : LumContractReply → List ℕ → List ℕ → List ℕ → List ℕ → List ℕ → contraction.Outcome
+contractedOf r map outFrom outTo pieces work =
     record {
       accepted = eqb (r .code) 0;
       code = r .code;
@@ -30,6 +30,7 @@ contractedOf r map outFrom outTo work =
       map = map;
       outFrom = outFrom;
       outTo = outTo;
+      pieces = pieces;
       work = work;
     }
 
@@ -50,7 +51,7 @@ replayedOf r answers work =
 abbrev pub contractLent : LumContractLent → contraction.Lent
 contractLent l =
     contraction.lent (l .n) (l .m) (l .k) (now (l .from)) (now (l .to)) (now (l .active))
-    (now (l .map)) (now (l .«out_from»)) (now (l .«out_to»)) (now (l .work))
+    (now (l .map)) (now (l .«out_from»)) (now (l .«out_to»)) (now (l .pieces)) (now (l .work))
 
 abbrev pub replayLent : LumReplayLent → timeline.Lent
 replayLent l = replaying.lent (l .n) (l .m) (l .t) (now (l .a)) (now (l .b)) (now (l .start)) (now (l .x)) (now (l .y)) (now (l .answers)) (now (l .work))
@@ -60,10 +61,11 @@ abbrev Table : Type 0
 Table = RefT (List ℕ)
 
 abbrev pub ContractFields : Type 0
-ContractFields = ℕ × (ℕ × (ℕ × (Table × (Table × (Table × (Table × (Table × (Table × (Table × Unit {0})))))))))
+ContractFields = ℕ × (ℕ × (ℕ × (Table × (Table × (Table × (Table × (Table × (Table × (Table × (Table × Unit {0}))))))))))
 
 abbrev pub contractLeft : LumContractReply → ContractFields → contraction.Outcome
-contractLeft r (n, (m, (k, (from, (to, (active, (map, (outFrom, (outTo, (work, end)))))))))) = contractedOf r (now map) (now outFrom) (now outTo) (now work)
+contractLeft r (n, (m, (k, (from, (to, (active, (map, (outFrom, (outTo, (pieces, (work, end))))))))))) =
+    contractedOf r (now map) (now outFrom) (now outTo) (now pieces) (now work)
 
 abbrev pub ReplayFields : Type 0
 ReplayFields = ℕ × (ℕ × (ℕ × (ℕ × (Table × (Table × (Table × (Table × (Table × (Table × (Table × Unit {0}))))))))))

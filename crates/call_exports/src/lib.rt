@@ -27,6 +27,7 @@ pub struct LumContractLent<'a> {
     pub map: &'a mut [u16],
     pub out_from: &'a mut [u16],
     pub out_to: &'a mut [u16],
+    pub pieces: &'a mut [u16],
     pub work: &'a mut [u32],
 }
 
@@ -80,7 +81,7 @@ pub struct LumReplayReply {
 pub extern "C" fn lum_version() -> u32
     ensures { λ r. ⌜ r ≡ version ⌝ }
 {
-    3
+    4
 }
 
 // The sizes' check.
@@ -134,13 +135,26 @@ fn contract_tables<'a>(
     map: &'a mut [u16],
     out_from: &'a mut [u16],
     out_to: &'a mut [u16],
+    pieces: &'a mut [u16],
     work: &'a mut [u32],
 ) -> LumContractReply
-    ensures { λ r. ⌜ contractedOf r (now (map .exit)) (now («out_from» .exit)) (now («out_to» .exit)) (now (work .exit))
+    ensures { λ r. ⌜ contractedOf r (now (map .exit)) (now («out_from» .exit)) (now («out_to» .exit)) (now (pieces .exit)) (now (work .exit))
         ≡ contraction (contracting.lent n m k (now (from .entry)) (now (to .entry)) (now (active .entry))
-        (now (map .entry)) (now («out_from» .entry)) (now («out_to» .entry)) (now (work .entry))) ⌝ }
+        (now (map .entry)) (now («out_from» .entry)) (now («out_to» .entry)) (now (pieces .entry)) (now (work .entry))) ⌝ }
 {
-    let reply = call_contract::contract(n, m, k, from, to, active, map, out_from, out_to, work);
+    let reply = call_contract::contract(
+        n,
+        m,
+        k,
+        from,
+        to,
+        active,
+        map,
+        out_from,
+        out_to,
+        pieces,
+        work,
+    );
     match reply {
         ContractReply::Done(nodes, edges) => {
             return LumContractReply {
@@ -176,6 +190,7 @@ pub extern "C" fn lum_contract<'a>(lent: LumContractLent<'a>) -> LumContractRepl
         lent.map,
         lent.out_from,
         lent.out_to,
+        lent.pieces,
         lent.work,
     )
 }
