@@ -65,7 +65,7 @@ extern "C" {
 #endif
 
 /* The version of the calls below. */
-#define LUM_VERSION 3u
+#define LUM_VERSION 4u
 
 /* The limits. */
 #define LUM_MOST_JUNCTIONS 4096u
@@ -129,6 +129,8 @@ struct lum_contract_lent {
     size_t out_from_len;
     uint16_t *out_to;
     size_t out_to_len;
+    uint16_t *pieces;
+    size_t pieces_len;
     uint32_t *work;
     size_t work_len;
 };
@@ -182,11 +184,18 @@ size_t lum_answers(const uint8_t *table, size_t table_len, size_t t);
  *  map       k                  map[i] is the new number of active[i], for i below k
  *  out_from  2k                 the first `edges` entries: the smaller end of each edge
  *  out_to    2k                 the first `edges` entries: the larger end of each edge
+ *  pieces    k                  pieces[i] is the number of active[i]'s piece, for i below k
  *  work      16n + 8m + 512     0 over that length
  *
  * No other entry changes. The new nodes are numbered from 0: those that hold an active
  * node in order of first appearance in `active`, then the others by their smallest node.
- * Edges ascend by their first end, then by their second. Refused by 1, 2, 4 and 8.
+ * Edges ascend by their first end, then by their second. Connected pieces are numbered
+ * from 0 in order of first appearance in `active`. Refused by 1, 2, 4 and 8.
+ *
+ * Two entries have different numbers in `pieces` exactly where their nodes are not joined,
+ * answer 0, in the graph given and, by `map`, in the small one. So a caller draws unjoined
+ * areas in different colours without another search. An edge that is added afterwards may
+ * join two pieces: answer 0 is read off different numbers only where none was added.
  */
 struct lum_contract_reply lum_contract(struct lum_contract_lent lent);
 

@@ -33,6 +33,20 @@
 //! # Ok::<(), lumzhasel::Error>(())
 //! ```
 //!
+//! A contraction numbers the connected pieces that its active junctions lie in, so that unjoined areas can
+//! be drawn in different colours without a search:
+//!
+//! ```
+//! # use lumzhasel::Network;
+//! // Junctions 0, 2 and 4 hang together, and so do 1 and 3.
+//! let network = Network::with_segments(5, [(0, 2), (2, 4), (1, 3)]);
+//!
+//! let small = network.contract(&[4, 1, 0, 3])?;
+//! assert_eq!(small.pieces, [0, 1, 0, 1]);
+//! assert_eq!(small.piece_count(), 2);
+//! # Ok::<(), lumzhasel::Error>(())
+//! ```
+//!
 //! There are two layers. The one above has [`Network`], [`List`] and [`Event`] as values, and results
 //! that own what they hold; it makes the tables of each call. The module [`tables`] has the calls as
 //! they are: the caller lends every table, and nothing is allocated.
@@ -70,7 +84,7 @@ pub const MOST_EVENTS: usize = 4096;
 pub const MOST_ENTRIES: usize = 8192;
 
 /// The version of the calls that this package was written for.
-pub const VERSION: u32 = 3;
+pub const VERSION: u32 = 4;
 
 /// The version of the calls in the archive.
 pub fn version() -> u32 {

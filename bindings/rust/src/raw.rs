@@ -1,5 +1,5 @@
 //! The exported calls of the archive, each lent a struct of numbers and tables, a table as a pointer and a length. All unsafe code
-//! stands here. These declarations are those of version 3, [`crate::VERSION`]: whoever changes one changes both.
+//! stands here. These declarations are those of version 4, [`crate::VERSION`]: whoever changes one changes both.
 #![allow(unsafe_code)]
 
 use crate::tables::{ContractTables, ReplayTables};
@@ -70,6 +70,7 @@ struct ContractLent {
     map: Written<u16>,
     out_from: Written<u16>,
     out_to: Written<u16>,
+    pieces: Written<u16>,
     work: Written<u32>,
 }
 
@@ -127,6 +128,7 @@ pub(crate) fn contract(lent: ContractTables<'_>) -> ContractReply {
         map: written(lent.map),
         out_from: written(lent.out_from),
         out_to: written(lent.out_to),
+        pieces: written(lent.pieces),
         work: written(lent.work),
     };
     // SAFETY: each pointer and the length after it are those of one slice, also of an empty one, whose

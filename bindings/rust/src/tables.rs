@@ -147,6 +147,8 @@ pub struct ContractTables<'a> {
     pub out_from: &'a mut [u16],
     /// At least 2k. An accepted contraction writes the larger end of each edge.
     pub out_to: &'a mut [u16],
+    /// At least k. An accepted contraction fills the first k: the number of each active entry's connected piece.
+    pub pieces: &'a mut [u16],
     /// At least [`contract_work`]. An accepted contraction leaves 0 over that length.
     pub work: &'a mut [u32],
 }
@@ -197,8 +199,33 @@ pub fn answers(table: &[u8], t: usize) -> Result<&[u8], Error> {
 }
 
 /// Contracts a graph to its active entries. The new nodes are numbered from 0: those that hold an active node in
-/// order of first appearance in `active`, then the others by their smallest node. What is not said to be written
-/// does not change.
+/// order of first appearance in `active`, then the others by their smallest node. Connected pieces are numbered from
+/// 0 in order of first appearance in `active`. What is not said to be written does not change.
+///
+/// Two active entries have different numbers in `pieces` exactly where their nodes are not joined, in the graph given
+/// and, by `map`, in the small one. A caller who has added no edge since then reads [`NOT_JOINED`] there:
+///
+/// ```
+/// use lumzhasel::tables::{contract, contract_work, ContractTables};
+///
+/// // Two segments that no other joins, and their ends by turns.
+/// let (mut map, mut pieces) = ([0; 4], [0; 4]);
+/// contract(ContractTables {
+///     n: 4,
+///     m: 2,
+///     k: 4,
+///     from: &[0, 1],
+///     to: &[2, 3],
+///     active: &[3, 0, 1, 2],
+///     map: &mut map,
+///     out_from: &mut [0; 8],
+///     out_to: &mut [0; 8],
+///     pieces: &mut pieces,
+///     work: &mut vec![0; contract_work(4, 2)],
+/// })?;
+/// assert_eq!((map, pieces), ([0, 1, 2, 3], [0, 1, 0, 1]));
+/// # Ok::<(), lumzhasel::Error>(())
+/// ```
 ///
 /// # Errors
 ///
@@ -234,7 +261,7 @@ mod tests {
             let error = fits(archive).unwrap_err();
             assert_eq!(error, Error::Version { archive });
             assert_eq!(error.refusal(), None);
-            let words = format!("the archive has version {archive} of the calls, this package is for version 3");
+            let words = format!("the archive has version {archive} of the calls, this package is for version 4");
             assert_eq!(error.to_string(), words);
         }
     }

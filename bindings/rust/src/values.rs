@@ -130,7 +130,7 @@ impl Network {
         tables::check_sizes(n, m, 0, k)?;
         let (from, to) = self.ends();
         let active: Vec<u16> = active.iter().map(|&v| entry(v)).collect();
-        let mut map = vec![0; k];
+        let (mut map, mut pieces) = (vec![0; k], vec![0; k]);
         let (mut out_from, mut out_to) = (vec![0; 2 * k], vec![0; 2 * k]);
         let small = tables::contract(ContractTables {
             n,
@@ -142,6 +142,7 @@ impl Network {
             map: &mut map,
             out_from: &mut out_from,
             out_to: &mut out_to,
+            pieces: &mut pieces,
             work: &mut vec![0; tables::contract_work(n, m)],
         })?;
         let ends = out_from.iter().zip(&out_to).take(small.edges);
@@ -149,6 +150,7 @@ impl Network {
             nodes: small.nodes,
             edges: ends.map(|(&u, &v)| (u.into(), v.into())).collect(),
             map: map.into_iter().map(usize::from).collect(),
+            pieces: pieces.into_iter().map(usize::from).collect(),
         })
     }
 }
@@ -322,7 +324,11 @@ impl Replayed {
 }
 
 /// The result of a contraction. Its nodes are numbered from 0: those that hold an active node in order of first
-/// appearance among the active ones, then the others by their smallest node.
+/// appearance among the active ones, then the others by their smallest node. Connected pieces are numbered from 0 in
+/// order of first appearance among the active ones.
+///
+/// Two active entries have different numbers in `pieces` exactly where their nodes are not joined, in the graph that was
+/// contracted and, by `map`, in this one. Once an edge is added to either, different numbers say nothing any more.
 #[derive(Clone, Debug, PartialEq, Eq, Hash)]
 #[non_exhaustive]
 pub struct SmallGraph {
@@ -332,6 +338,15 @@ pub struct SmallGraph {
     pub edges: Vec<(usize, usize)>,
     /// The node that each active entry stands at.
     pub map: Vec<usize>,
+    /// The number of the connected piece that each active entry lies in.
+    pub pieces: Vec<usize>,
+}
+
+impl SmallGraph {
+    /// How many connected pieces hold an active node.
+    pub fn piece_count(&self) -> usize {
+        self.pieces.iter().max().map_or(0, |last| last + 1)
+    }
 }
 
 #[cfg(test)]

@@ -66,6 +66,7 @@ fn a_path_is_contracted() {
     assert_eq!(got.reply, Ok((2, 1)));
     assert_eq!((got.out_from[0], got.out_to[0]), (0, 1));
     assert_eq!(got.map, [0, 1]);
+    assert_eq!(got.pieces, [0, 0]);
 }
 
 #[test]
@@ -74,6 +75,7 @@ fn a_star_is_contracted() {
     assert_eq!(got.reply, Ok((4, 3)));
     assert_eq!(got.out_from[..3], [0, 1, 2]);
     assert_eq!(got.out_to[..3], [3, 3, 3]);
+    assert_eq!(got.pieces, [0, 0, 0]);
 }
 
 #[test]
@@ -81,6 +83,7 @@ fn a_triangle_is_contracted() {
     let got = graph(3, &[(0, 1), (1, 2), (2, 0)], &[0, 1, 2]).compare();
     assert_eq!(got.reply, Ok((1, 0)));
     assert_eq!(got.map, [0, 0, 0]);
+    assert_eq!(got.pieces, [0, 0, 0]);
 }
 
 #[test]
@@ -89,6 +92,46 @@ fn no_active_entries_and_repeated_ones() {
     let got = graph(2, &[], &[1, 1]).compare();
     assert_eq!(got.reply, Ok((1, 0)));
     assert_eq!(got.map, [0, 0]);
+    assert_eq!(got.pieces, [0, 0]);
+}
+
+// The reply and the pieces, out of a table that is filled with 9 and has one entry more than it must have.
+fn pieces(n: usize, edges: &[(u16, u16)], active: &[u16]) -> ((usize, usize), Vec<u16>) {
+    let mut g = graph(n, edges, active);
+    g.pieces = vec![9; active.len() + 1];
+    let got = g.compare();
+    (got.reply.unwrap(), got.pieces)
+}
+
+#[test]
+fn the_pieces() {
+    // Two pieces that the entries meet in turn, the one of node 3 first.
+    let two = pieces(4, &[(0, 2), (1, 3)], &[3, 0, 1, 2]);
+    assert_eq!(two, ((4, 2), vec![0, 1, 0, 1, 9]));
+    // A repeated entry has its piece again, and a node without an edge is a piece of its own.
+    let repeated = pieces(3, &[(0, 1)], &[2, 1, 2, 0]);
+    assert_eq!(repeated, ((3, 1), vec![0, 1, 0, 1, 9]));
+    let alone = pieces(3, &[(1, 1)], &[2, 1, 0, 1]);
+    assert_eq!(alone, ((3, 0), vec![0, 1, 2, 1, 9]));
+    // One piece of two classes, joined over a node that is not active, beside one class.
+    let edges = [(0, 1), (0, 1), (1, 2), (2, 3), (4, 5), (4, 5)];
+    assert_eq!(pieces(6, &edges, &[5, 3, 0, 4]), ((3, 1), vec![0, 1, 1, 0, 9]));
+    assert_eq!(pieces(2, &[(0, 1)], &[]), ((0, 0), vec![9]));
+    assert_eq!(pieces(0, &[], &[]), ((0, 0), vec![9]));
+}
+
+#[test]
+fn a_short_table_of_pieces() {
+    let mut g = graph(2, &[], &[0, 1]);
+    g.pieces = vec![9];
+    let got = g.compare();
+    assert_eq!((got.reply, got.pieces), (Err((2, 0)), vec![9]));
+    assert_eq!(got.map, g.map);
+    // It counts before an entry that is no node.
+    g.active[0] = 2;
+    assert_eq!(g.compare().reply, Err((2, 0)));
+    g.pieces.push(9);
+    assert_eq!(g.compare().reply, Err((8, 0)));
 }
 
 #[test]
@@ -123,7 +166,14 @@ fn the_limits_of_a_replay() {
 #[test]
 fn the_limits_of_a_contraction() {
     let most = graph(4096, &vec![(0, 4095); 8192], &vec![4095; 8192]);
-    assert_eq!(most.call().reply, Ok((1, 0)));
+    let got = most.call();
+    assert_eq!(got.reply, Ok((1, 0)));
+    assert!(got.pieces.iter().all(|p| *p == 0));
+    // As many pieces as there can be.
+    let apart: Vec<u16> = (0..8192).map(|i| 4095 - i % 4096).collect();
+    let got = graph(4096, &vec![(7, 7); 8192], &apart).call();
+    assert_eq!(got.reply, Ok((4096, 0)));
+    assert!((0..8192).all(|i| got.pieces[i] as usize == i % 4096));
     for grow in [
         |g: &mut common::Graph| g.n += 1,
         |g: &mut common::Graph| g.m += 1,

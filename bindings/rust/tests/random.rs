@@ -2,7 +2,7 @@
 
 mod common;
 
-use common::{random_graph, random_list, Numbers};
+use common::{random_graph, random_list, Edge, Numbers, Removals};
 
 #[test]
 fn small_lists() {
@@ -56,6 +56,38 @@ fn middle_graphs() {
         let g = random_graph(&mut r, 40, 42, 20);
         assert!(g.compare().reply.is_ok());
     }
+}
+
+// What the pieces are for: they tell which entries have answer 0, in the graph given and in the small one.
+#[test]
+fn pieces_tell_what_is_not_joined() {
+    let mut seen = [0; 3];
+    for seed in 0..1000 {
+        let mut r = Numbers::from(45_000 + seed);
+        let g = random_graph(&mut r, 12, 10, 8);
+        let got = g.call();
+        let (nodes, count) = got.reply.unwrap();
+        let number = |table: &[u16], i: usize| table[i] as usize;
+        let edges: Vec<Edge> = (0..count)
+            .map(|e| (number(&got.out_from, e), number(&got.out_to, e)))
+            .collect();
+        let (given, small) = (Removals::of(g.n, &g.edges()), Removals::of(nodes, &edges));
+        for i in 0..g.k {
+            for j in 0..g.k {
+                let answer = given.answer(number(&g.active, i), number(&g.active, j));
+                assert_eq!(answer, small.answer(number(&got.map, i), number(&got.map, j)), "{g:?}");
+                assert_eq!(got.pieces[i] != got.pieces[j], answer == 0, "{g:?}");
+                seen[answer as usize] += 1;
+            }
+        }
+        // Each number is one that an entry before it has, or the next.
+        let mut next = 0;
+        for &piece in &got.pieces {
+            assert!(piece <= next, "{g:?}");
+            next = next.max(piece + 1);
+        }
+    }
+    assert!(seen.iter().all(|k| *k > 0), "an answer was never seen: {seen:?}");
 }
 
 #[test]
@@ -117,17 +149,18 @@ fn damaged_graphs() {
         let mut g = random_graph(&mut r, 6, 8, 8);
         g.fill_with_junk(&mut r);
         let place = r.below(8);
-        match r.below(8) {
+        match r.below(9) {
             0 => g.n = r.below(8),
             1 => g.m = r.below(10),
             2 => g.k = r.below(10),
             3 => g.m = 8190 + r.below(5),
             4 => g.work.truncate(16 * g.n + 8 * g.m + 511),
+            5 => g.pieces.truncate(g.pieces.len().saturating_sub(1 + r.below(3))),
             k => {
                 let value = (g.n + r.below(2)) as u16;
                 let table = match k {
-                    5 => &mut g.from,
-                    6 => &mut g.to,
+                    6 => &mut g.from,
+                    7 => &mut g.to,
                     _ => &mut g.active,
                 };
                 if place < table.len() {

@@ -37,18 +37,19 @@ fn a_contraction_with_one_table_short() {
     for seed in 0..200 {
         let mut r = Numbers::from(80_000 + seed);
         let mut g = random_graph(&mut r, 6, 8, 6);
-        for table in [&mut g.map, &mut g.out_from, &mut g.out_to] {
+        for table in [&mut g.map, &mut g.out_from, &mut g.out_to, &mut g.pieces] {
             *table = r.junk(table.len());
         }
         g.work = r.junk(g.work.len()).iter().map(|v| *v as u32).collect();
         assert!(g.compare().reply.is_ok());
-        let shorten: [fn(&mut Graph) -> bool; 7] = [
+        let shorten: [fn(&mut Graph) -> bool; 8] = [
             |g| g.from.pop().is_some(),
             |g| g.to.pop().is_some(),
             |g| g.active.pop().is_some(),
             |g| g.map.pop().is_some(),
             |g| g.out_from.pop().is_some(),
             |g| g.out_to.pop().is_some(),
+            |g| g.pieces.pop().is_some(),
             |g| g.work.pop().is_some(),
         ];
         for pop in shorten {
@@ -58,6 +59,7 @@ fn a_contraction_with_one_table_short() {
                 assert_eq!(got.reply, Err((2, 0)));
                 assert_eq!((got.map, got.work), (short.map, short.work));
                 assert_eq!((got.out_from, got.out_to), (short.out_from, short.out_to));
+                assert_eq!(got.pieces, short.pieces);
             }
         }
     }
@@ -92,6 +94,8 @@ fn junk_changes_no_contraction() {
         let (k, edges) = (clean.k, got.reply.unwrap().1);
         assert_eq!(got.map[..k], plain.map[..]);
         assert_eq!(got.map[k..], filled.map[k..]);
+        assert_eq!(got.pieces[..k], plain.pieces[..]);
+        assert_eq!(got.pieces[k..], filled.pieces[k..]);
         assert_eq!(got.out_from[..edges], plain.out_from[..edges]);
         assert_eq!(got.out_from[edges..], filled.out_from[edges..]);
         assert_eq!(got.out_to[..edges], plain.out_to[..edges]);
@@ -132,6 +136,7 @@ fn refusals_change_nothing() {
             assert_eq!(got.reply, Err((8, g.k - 1)));
             assert_eq!((got.map, got.work), (g.map, g.work));
             assert_eq!((got.out_from, got.out_to), (g.out_from, g.out_to));
+            assert_eq!(got.pieces, g.pieces);
         }
     }
 }

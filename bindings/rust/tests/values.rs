@@ -54,6 +54,10 @@ fn compare_graph(g: &Graph) {
             assert_eq!(Ok((small.nodes, small.edges.len())), want.reply, "{g:?}");
             let map: Vec<u16> = small.map.iter().map(|&v| v as u16).collect();
             assert_eq!(map, want.map, "{g:?}");
+            let pieces: Vec<u16> = small.pieces.iter().map(|&p| p as u16).collect();
+            assert_eq!(pieces, want.pieces, "{g:?}");
+            assert!((0..small.piece_count()).all(|p| small.pieces.contains(&p)), "{g:?}");
+            assert!(small.pieces.iter().all(|&p| p < small.piece_count()), "{g:?}");
             for (i, &(u, v)) in small.edges.iter().enumerate() {
                 assert_eq!((u as u16, v as u16), (want.out_from[i], want.out_to[i]), "{g:?}");
             }
@@ -127,6 +131,21 @@ fn a_star_is_contracted() {
     assert_eq!(small.edges, [(0, 3), (1, 3), (2, 3)]);
     let small = star.contract(&[]).unwrap();
     assert_eq!((small.nodes, small.edges.len(), small.map.len()), (0, 0, 0));
+    assert_eq!((small.pieces.len(), small.piece_count()), (0, 0));
+}
+
+#[test]
+fn unjoined_areas_have_different_pieces() {
+    // Junctions 0, 2 and 4, then 1 and 3, then 5 alone.
+    let network = Network::with_segments(6, [(0, 2), (2, 4), (1, 3)]);
+    let small = network.contract(&[5, 3, 0, 1, 4, 5]).unwrap();
+    assert_eq!(
+        (small.pieces.as_slice(), small.piece_count()),
+        (&[0, 1, 2, 1, 2, 0][..], 3)
+    );
+    // A piece without an active node has no number.
+    let small = network.contract(&[4, 2]).unwrap();
+    assert_eq!((small.pieces.as_slice(), small.piece_count()), (&[0, 0][..], 1));
 }
 
 #[test]

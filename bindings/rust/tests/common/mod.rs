@@ -1,4 +1,4 @@
-//! A slow version of the calls, written from document 01 alone, and what the tests share: random numbers,
+//! A slow version of the calls, written from documents 01 and 02 alone, and what the tests share: random numbers,
 //! and calls held to the slow version in their reply and in every lent entry afterwards.
 #![allow(dead_code)]
 
@@ -126,6 +126,22 @@ pub fn slow_contract(n: usize, edges: &[Edge], active: &[usize]) -> Small {
             .collect(),
         edges: joined,
     }
+}
+
+/// For each active entry the number of its piece, by first appearance.
+pub fn slow_pieces(n: usize, edges: &[Edge], active: &[usize]) -> Vec<usize> {
+    let least = components(n, edges);
+    let mut met: Vec<usize> = Vec::new();
+    active
+        .iter()
+        .map(|&v| {
+            let known = met.iter().position(|&c| c == least[v]);
+            known.unwrap_or_else(|| {
+                met.push(least[v]);
+                met.len() - 1
+            })
+        })
+        .collect()
 }
 
 /// The number and the place of a refusal.
@@ -342,6 +358,7 @@ pub struct Graph {
     pub map: Vec<u16>,
     pub out_from: Vec<u16>,
     pub out_to: Vec<u16>,
+    pub pieces: Vec<u16>,
     pub work: Vec<u32>,
 }
 
@@ -352,6 +369,7 @@ pub struct Contracted {
     pub map: Vec<u16>,
     pub out_from: Vec<u16>,
     pub out_to: Vec<u16>,
+    pub pieces: Vec<u16>,
     pub work: Vec<u32>,
 }
 
@@ -366,7 +384,7 @@ impl Graph {
         }
         let short_in = self.from.len() < self.m || self.to.len() < self.m || self.active.len() < self.k;
         let short_out = self.map.len() < self.k || self.out_from.len() < 2 * self.k || self.out_to.len() < 2 * self.k;
-        if short_in || short_out || self.work.len() < self.required() {
+        if short_in || short_out || self.pieces.len() < self.k || self.work.len() < self.required() {
             return Some((2, 0));
         }
         for e in 0..self.m {
@@ -377,47 +395,55 @@ impl Graph {
         (0..self.k).find(|&i| self.active[i] as usize >= self.n).map(|i| (8, i))
     }
 
-    pub fn slow(&self) -> Contracted {
-        let mut map = self.map.clone();
-        let (mut out_from, mut out_to) = (self.out_from.clone(), self.out_to.clone());
-        let mut work = self.work.clone();
-        if let Some(refusal) = self.fault() {
-            return Contracted {
-                reply: Err(refusal),
-                map,
-                out_from,
-                out_to,
-                work,
-            };
-        }
-        let edges: Vec<Edge> = (0..self.m)
+    /// The edges, of a graph without a fault.
+    pub fn edges(&self) -> Vec<Edge> {
+        (0..self.m)
             .map(|e| (self.from[e] as usize, self.to[e] as usize))
-            .collect();
-        let active: Vec<usize> = self.active[..self.k].iter().map(|v| *v as usize).collect();
+            .collect()
+    }
+
+    /// The active entries, of a graph without a fault.
+    pub fn entries(&self) -> Vec<usize> {
+        self.active[..self.k].iter().map(|v| *v as usize).collect()
+    }
+
+    // The written tables as they are lent.
+    fn untouched(&self, reply: Result<(usize, usize), (usize, usize)>) -> Contracted {
+        Contracted {
+            reply,
+            map: self.map.clone(),
+            out_from: self.out_from.clone(),
+            out_to: self.out_to.clone(),
+            pieces: self.pieces.clone(),
+            work: self.work.clone(),
+        }
+    }
+
+    pub fn slow(&self) -> Contracted {
+        if let Some(refusal) = self.fault() {
+            return self.untouched(Err(refusal));
+        }
+        let (edges, active) = (self.edges(), self.entries());
         let small = slow_contract(self.n, &edges, &active);
+        let mut done = self.untouched(Ok((small.nodes, small.edges.len())));
         for (i, v) in small.map.iter().enumerate() {
-            map[i] = *v as u16;
+            done.map[i] = *v as u16;
         }
         for (i, (u, v)) in small.edges.iter().enumerate() {
-            out_from[i] = *u as u16;
-            out_to[i] = *v as u16;
+            done.out_from[i] = *u as u16;
+            done.out_to[i] = *v as u16;
         }
-        work[..self.required()].fill(0);
-        Contracted {
-            reply: Ok((small.nodes, small.edges.len())),
-            map,
-            out_from,
-            out_to,
-            work,
+        for (i, piece) in slow_pieces(self.n, &edges, &active).iter().enumerate() {
+            done.pieces[i] = *piece as u16;
         }
+        done.work[..self.required()].fill(0);
+        done
     }
 
     /// The call's reply and tables.
     pub fn call(&self) -> Contracted {
         let lent = self.clone();
-        let mut map = self.map.clone();
-        let (mut out_from, mut out_to) = (self.out_from.clone(), self.out_to.clone());
-        let mut work = self.work.clone();
+        let mut done = self.untouched(Ok((0, 0)));
         let r = contract(ContractTables {
             n: lent.n,
             m: lent.m,
@@ -425,20 +451,15 @@ impl Graph {
             from: &lent.from,
             to: &lent.to,
             active: &lent.active,
-            map: &mut map,
-            out_from: &mut out_from,
-            out_to: &mut out_to,
-            work: &mut work,
+            map: &mut done.map,
+            out_from: &mut done.out_from,
+            out_to: &mut done.out_to,
+            pieces: &mut done.pieces,
+            work: &mut done.work,
         });
         assert_eq!(&lent, self, "a table that is only read was written");
-        let reply = r.map(|c| (c.nodes, c.edges)).map_err(refusal);
-        Contracted {
-            reply,
-            map,
-            out_from,
-            out_to,
-            work,
-        }
+        done.reply = r.map(|c| (c.nodes, c.edges)).map_err(refusal);
+        done
     }
 
     /// Calls the contraction, holds it to the slow version, and hands its outcome back.
@@ -446,11 +467,13 @@ impl Graph {
         let (got, want) = (self.call(), self.slow());
         assert!(
             got == want,
-            "{self:?}\ngot {:?} {:?}\nwant {:?} {:?}",
+            "{self:?}\ngot {:?} {:?} {:?}\nwant {:?} {:?} {:?}",
             got.reply,
             got.map,
+            got.pieces,
             want.reply,
-            want.map
+            want.map,
+            want.pieces
         );
         got
     }
@@ -515,6 +538,7 @@ pub fn graph(n: usize, edges: &[(u16, u16)], active: &[u16]) -> Graph {
         map: vec![0; k],
         out_from: vec![0; 2 * k],
         out_to: vec![0; 2 * k],
+        pieces: vec![0; k],
         work: vec![0; 16 * n + 8 * m + 512],
     }
 }
@@ -572,7 +596,7 @@ impl Graph {
             let more = r.below(4);
             table.extend(r.junk(more));
         }
-        for table in [&mut self.map, &mut self.out_from, &mut self.out_to] {
+        for table in [&mut self.map, &mut self.out_from, &mut self.out_to, &mut self.pieces] {
             let long = table.len() + r.below(4);
             *table = r.junk(long);
         }
