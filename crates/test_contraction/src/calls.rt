@@ -1,14 +1,16 @@
-// Calls of contract. A result is a list: the edges in A and B, the map in X.
+// Calls of contract. A result is a list: the edges in A and B, the map in X, the pieces in Y.
 use call_contract::ContractReply;
 use test_library::calls;
+use test_library::calls::Lengths;
 use test_library::calls::Reply;
 use test_library::counts;
 use test_library::lists;
 use test_library::lists::List;
-ghost use Prim.Native.Nat.{_<_, _≤_};
+use test_slow_contraction::contraction;
+ghost use Prim.Native.Nat.{_≤_};
 ghost use lib.ListN.{length};
 
-type Out = [u16; 16392];
+type Out = [u16; 16400];
 
 type Work = [u32; 131616];
 
@@ -19,86 +21,110 @@ fn plain(r: ContractReply) -> Reply {
     }
 }
 
-// The least length of the work table.
-fn required(n: usize, m: usize) -> usize
-    ensures { λ r. ⌜ r < 131610 ⌝ }
-{
-    n % 4098 * 16 + m % 8194 * 8 + 512
+// The least lengths of the tables, or one of them one entry short: 1 to 8, or all of them longer.
+pub(crate) fn lengths(l: &List, short: usize) -> Lengths {
+    let m = lists::size(l, lists::B);
+    let k = lists::size(l, lists::X);
+    let ends = counts::plus(k, k);
+    let words = contraction::required(lists::size(l, lists::A), m);
+    [
+        calls::length(m, 1, short),
+        calls::length(m, 2, short),
+        calls::length(k, 3, short),
+        calls::length(k, 4, short),
+        calls::length(ends, 5, short),
+        calls::length(ends, 6, short),
+        calls::length(k, 7, short),
+        calls::length(words, 8, short),
+    ]
 }
 
-// The call with tables of the least lengths, or one of them one entry short: 1 to 7, or all of them longer. The tables of the list stand in s.
+// The call with tables of these lengths. The tables of the list stand in s.
 fn call(
     n: usize,
     m: usize,
     k: usize,
-    words: usize,
-    short: usize,
+    lengths: Lengths,
     s: &[u16],
     map: &mut [u16],
     from: &mut [u16],
     to: &mut [u16],
+    pieces: &mut [u16],
     work: &mut [u32],
 ) -> ContractReply
-    requires { ⌜ (m < 8194) × (k < 8194) × (words < 131610) ⌝ }
-    requires { ⌜ (40968 ≤ length (now s)) × (16392 ≤ length (now map)) ⌝ }
-    requires { ⌜ (16392 ≤ length (now from)) × (16392 ≤ length (now to)) × (131616 ≤ length (now work)) ⌝ }
+    requires { ⌜ (40968 ≤ length (now s)) × (16400 ≤ length (now map)) × (16400 ≤ length (now from)) ⌝ }
+    requires { ⌜ (16400 ≤ length (now to)) × (16400 ≤ length (now pieces)) × (131616 ≤ length (now work)) ⌝ }
 {
-    let a = calls::length(m, 1, short);
-    let b = 8192 + calls::length(m, 2, short);
-    let c = 16384 + calls::length(k, 3, short);
-    let d = calls::length(k, 4, short);
-    let e = calls::length(k * 2, 5, short);
-    let f = calls::length(k * 2, 6, short);
-    let h = calls::length(words, 7, short);
+    let a = counts::least(lengths[3], 16400);
+    let b = counts::least(lengths[4], 16400);
+    let c = counts::least(lengths[5], 16400);
+    let d = counts::least(lengths[6], 16400);
+    let words = counts::least(lengths[7], 131616);
     call_contract::contract(
         n,
         m,
         k,
-        &s[..a],
-        &s[8192..b],
-        &s[16384..c],
-        &mut map[..d],
-        &mut from[..e],
-        &mut to[..f],
-        &mut work[..h],
+        lists::part(s, lists::A, lengths[0]),
+        lists::part(s, lists::B, lengths[1]),
+        lists::part(s, lists::X, lengths[2]),
+        &mut map[..a],
+        &mut from[..b],
+        &mut to[..c],
+        &mut pieces[..d],
+        &mut work[..words],
     )
 }
 
-// The call's reply, with how many entries of the map, ends of the edges and words are wrong, given the result that is wanted.
+// The call's reply, with how many pieces, entries of the map, ends of the edges and words are wrong, given the result that is wanted. Eight entries behind
+// those that may be written are compared too.
 fn compared(
     l: &List,
-    short: usize,
+    lengths: Lengths,
     want: &List,
     map: &mut Out,
     from: &mut Out,
     to: &mut Out,
+    pieces: &mut Out,
     work: &mut Work,
 ) -> Reply {
     let n = lists::size(l, lists::A);
-    let m = lists::size(l, lists::B) % 8194;
-    let k = lists::size(l, lists::X) % 8194;
-    let words = required(n, m);
-    let mut r = plain(call(n, m, k, words, short, l, map, from, to, work));
-    let a = calls::entries_wrong(from, want, lists::A, r[3], k * 2 + 3);
-    let b = calls::entries_wrong(to, want, lists::B, r[3], k * 2 + 3);
-    let c = calls::entries_wrong(map, want, lists::X, calls::written(r, k), k + 3);
-    let w = calls::words_wrong(work, calls::written(r, words), counts::plus(words, 3));
+    let m = lists::size(l, lists::B);
+    let k = lists::size(l, lists::X);
+    let words = contraction::required(n, m);
+    let mut r = plain(call(n, m, k, lengths, l, map, from, to, pieces, work));
+    let entries = calls::written(r, k);
+    let ends = counts::plus(k, counts::plus(k, 8));
+    let a = calls::entries_wrong(from, want, lists::A, r[3], ends);
+    let b = calls::entries_wrong(to, want, lists::B, r[3], ends);
+    let c = calls::entries_wrong(map, want, lists::X, entries, counts::plus(k, 8));
+    let d = calls::entries_wrong(pieces, want, lists::Y, entries, counts::plus(k, 8));
+    let w = calls::words_wrong(work, calls::written(r, words), counts::plus(words, 8));
+    r[4] = d;
     r[5] = c;
     r[6] = counts::plus(a, b);
     r[7] = w;
     r
 }
 
-pub(crate) fn run(l: &List, short: usize, want: &List) -> Reply {
-    let mut map = [7u16; 16392];
-    let mut from = [7u16; 16392];
-    let mut to = [7u16; 16392];
+pub(crate) fn run(l: &List, lengths: Lengths, want: &List) -> Reply {
+    let mut map = [7u16; 16400];
+    let mut from = [7u16; 16400];
+    let mut to = [7u16; 16400];
+    let mut pieces = [7u16; 16400];
     let mut work = [7u32; 131616];
-    compared(l, short, want, &mut map, &mut from, &mut to, &mut work)
+    compared(
+        l,
+        lengths,
+        want,
+        &mut map,
+        &mut from,
+        &mut to,
+        &mut pieces,
+        &mut work,
+    )
 }
 
 // Whether the call gives the reply and the result that are wanted.
-pub(crate) fn agrees(l: &List, reply: Reply, want: &List) -> bool {
-    let r = run(l, calls::LONGER, want);
-    calls::differ(r, [reply[0], reply[1], reply[2], reply[3], 0, 0, 0, 0]) == 0
+pub(crate) fn agrees(l: &List, lengths: Lengths, reply: Reply, want: &List) -> bool {
+    calls::differ(run(l, lengths, want), reply) == 0
 }

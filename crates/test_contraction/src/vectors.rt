@@ -1,47 +1,99 @@
-// Contractions made by a slow program before any code of the product; they stand on standard input. A line has 77 numbers, where the character 0 is 0, and
-// each later one in
-// ASCII is one more: the nodes n, the edges m and the active entries k; the nodes and the edges of the contraction; then 16 first ends and 16 second ends
-// of the edges,
-// 9 entries and 9 numbers of the map, 11 first ends and 11 second ends of the edges out, of which as many count as the sizes say.
+// Contractions made by a slow program before any code of the product; they stand on standard input. The first 39 are those of document 02, No. 2, each once:
+// 26 are accepted, 8 refused by 2 and 5 by 4. The other 60 are those of document 01, all accepted; they came without pieces, and theirs are from a search of
+// their own. A vector is a line of numbers of four digits in base 16, then ; at its end. Eight of the sizes: the nodes, the edges, the active entries and
+// zeros; eight of the lengths: of the first and the second ends of the edges, the active entries, the map, the first and the second ends of the edges out, the
+// pieces and the work table; eight of the reply: a refusal's number and its place, the nodes, the edges and zeros. Then come the first three tables of these
+// lengths; and where it is accepted the map, the first and the second ends of the edges out, and the pieces.
+use crate::calls;
 use libc::STDIN_FILENO;
+use test_library::calls::Lengths;
 use test_library::calls::Reply;
 use test_library::counts;
 use test_library::lists;
 use test_library::lists::List;
+use test_library::print;
+use test_library::tables::Table;
+use test_library::text;
+use test_library::text::Text;
+use test_slow_contraction::contraction;
 
-pub(crate) type Text = [u8; 4680];
-
-// Reads the vectors, and answers how many there are.
-pub(crate) fn read(text: &mut Text) -> usize {
-    io::read_full(STDIN_FILENO, text) / 78
+// Copies the tables of these lengths into the list, and answers which number comes then.
+fn copy_graph(l: &mut List, text: &Text, start: usize, lengths: Lengths) -> usize {
+    let b = text::copy(l, lists::A, text, start, 24, lengths[0]);
+    let x = text::copy(l, lists::B, text, start, b, lengths[1]);
+    text::copy(l, lists::X, text, start, x, lengths[2])
 }
 
-// Number j of line i.
-fn number(text: &Text, i: usize, j: usize) -> usize {
-    counts::byte(text[(i % 60 * 78 + j % 78) % 4680]) % 48
+// Copies the result for k active entries that begins at this number.
+fn copy_result(want: &mut List, text: &Text, start: usize, from: usize, reply: Reply, k: usize) {
+    let a = text::copy(want, lists::X, text, start, from, k);
+    let b = text::copy(want, lists::A, text, start, a, reply[3]);
+    let y = text::copy(want, lists::B, text, start, b, reply[3]);
+    text::copy(want, lists::Y, text, start, y, k);
 }
 
-// Copies numbers of line i, from this one on, into a table of the list.
-fn copy(l: &mut List, table: usize, text: &Text, i: usize, from: usize, count: usize) {
-    for j in 0..count {
-        let v = number(text, i, from % 78 + j % 78);
-        lists::set(l, table, j, v);
+// Counts the vector that begins at start: whether the call gives it, and whether the slow contraction gives what the call does.
+fn add(t: &mut Table, text: &Text, start: usize) {
+    let sizes = text::row(text, start, 0);
+    let lengths = text::row(text, start, 8);
+    let reply = text::row(text, start, 16);
+    let mut l = [65000u16; 40968];
+    let mut want = [0u16; 40968];
+    lists::set_sizes(&mut l, sizes[0], sizes[1], sizes[2], 0);
+    let from = copy_graph(&mut l, text, start, lengths);
+    copy_result(&mut want, text, start, from, reply, sizes[2]);
+    let right = calls::agrees(&l, lengths, reply, &want);
+    let mut slow = [0u16; 40968];
+    let s = contraction::reply(&mut slow, &l, lengths);
+    let slow_right = calls::agrees(&l, lengths, s, &slow);
+    print::add(
+        t,
+        [
+            1,
+            (reply[0] == 0) as usize,
+            !right as usize,
+            !slow_right as usize,
+            0,
+            0,
+            0,
+            0,
+            0,
+            0,
+            0,
+            0,
+            0,
+            0,
+            0,
+            0,
+        ],
+    );
+}
+
+// Counts all vectors. After the last one there is no ;.
+fn run(t: &mut Table, text: &Text, length: usize) {
+    let mut start: usize = 0;
+    for _ in 0..100usize {
+        let end = text::find(text, start, 59);
+        if end < length {
+            add(t, text, start);
+            start = counts::plus(end, 2);
+        }
     }
 }
 
-// The graph of line i.
-pub(crate) fn graph(l: &mut List, text: &Text, i: usize) {
-    let n = number(text, i, 0);
-    lists::set_sizes(l, n, number(text, i, 1), number(text, i, 2), 0);
-    copy(l, lists::A, text, i, 5, 16);
-    copy(l, lists::B, text, i, 21, 16);
-    copy(l, lists::X, text, i, 37, 9);
-}
-
-// The result of line i.
-pub(crate) fn wanted(want: &mut List, text: &Text, i: usize) -> Reply {
-    copy(want, lists::X, text, i, 46, 9);
-    copy(want, lists::A, text, i, 55, 11);
-    copy(want, lists::B, text, i, 66, 11);
-    [0, 0, number(text, i, 3), number(text, i, 4), 0, 0, 0, 0]
+// Reads the vectors and runs them.
+pub(crate) fn report() {
+    let mut text = [0u8; 32768];
+    let length = io::read_full(STDIN_FILENO, &mut text);
+    let mut t = [0u32; 512];
+    run(&mut t, &text, length);
+    print::report(
+        b"\
+vectors: #\n\
+accepted: #\n\
+wrong: #\n\
+wrong by the slow contraction: #\n\
+",
+        &t,
+    );
 }

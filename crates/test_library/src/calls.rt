@@ -5,10 +5,12 @@ use crate::lists::List;
 use crate::random;
 ghost use Prim.Native.Nat.{_+_, _≤_};
 
-// A refusal's number and its place, both 0 where there is none; three numbers that are returned; how many entries of the tables are wrong, in three more.
+// A refusal's number and its place, both 0 where there is none; three numbers that are returned; how many entries of the tables are wrong, in three more. A
+// contraction returns two numbers, and how many entries of the pieces are wrong stands in the place of the third.
 pub type Reply = [usize; 8];
 
-// The lengths of the tables that a replay is lent: A, B, the starting table, X, Y, the answers and the work table; then a number without a meaning.
+// The lengths of the tables that a call is lent. A replay: A, B, the starting table, X, Y, the answers and the work table; then a number without a meaning. A
+// contraction: the first and the second ends of the edges, the active entries, the map, the ends of the edges out, the pieces and the work table.
 pub type Lengths = [usize; 8];
 
 // The answers that a replay is lent, and some behind them.
@@ -36,9 +38,10 @@ pub fn differ(r: Reply, want: Reply) -> usize {
     count
 }
 
-// Internal: the number by which a call is refused, or 99 where it is refused and changed an entry.
+// Internal: the number by which a call is refused, or 99 where it is refused and changed an entry. The third number of a refused replay is 0.
 pub fn code(r: Reply) -> usize {
-    if (r[0] > 0) & (counts::plus(r[5], counts::plus(r[6], r[7])) > 0) {
+    let changed = counts::plus(counts::plus(r[4], r[5]), counts::plus(r[6], r[7]));
+    if (r[0] > 0) & (changed > 0) {
         return 99;
     }
     r[0]

@@ -1,7 +1,10 @@
 // A network with its events, or with its active entries: five tables of 8192 entries, then four sizes. A has the segments' first ends, B their second ends,
 // X and Y the events, START what is open at the start. The sizes stand under the names N, M, T and the share at A, B, X and Y. Of a contraction X has the
-// active entries and K, and Y and START nothing.
+// active entries and K, and Y and START nothing. Of its result A and B have the edges, X the map, Y the pieces, and Y's size how many nodes have no active
+// one.
 use crate::counts;
+ghost use Prim.Native.Nat.{_≤_};
+ghost use lib.ListN.{length};
 
 pub type List = [u16; 40968];
 
@@ -23,6 +26,15 @@ pub fn at(l: &List, table: usize, i: usize) -> usize {
 // Internal: sets entry i of a table.
 pub fn set(l: &mut List, table: usize, i: usize, v: usize) {
     l[table % 5 * 8192 + i % 8192] = (v % 65536) as u16;
+}
+
+// Internal: the first count entries of a table. Those behind it are lent where the table is to be longer than it is.
+pub fn part(s: &[u16], table: usize, count: usize) -> &[u16]
+    requires { ⌜ 40968 ≤ length (now s) ⌝ }
+{
+    let from = table % 5 * 8192;
+    let to = from + counts::least(count, 8196);
+    &s[from..to]
 }
 
 // Internal: how many of the first count entries of a table have this value.

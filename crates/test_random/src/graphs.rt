@@ -1,5 +1,6 @@
 // Random graphs of at most 12 nodes, 16 edges and 9 active entries, of several kinds; and graphs with a fault.
 use crate::networks;
+use test_library::calls;
 use test_library::counts;
 use test_library::lists;
 use test_library::lists::List;
@@ -62,6 +63,14 @@ pub fn make(l: &mut List, s: usize) {
     if s % 9 == 8 {
         spoil(l, s);
     }
+}
+
+// Internal: which table of the random graph s is one entry short: of some of those with a fault one, else all are longer.
+pub fn short(s: usize) -> usize {
+    if (s % 9 == 8) & (random::at(s, 20, 0, 4) == 0) {
+        return 1 + random::at(s, 21, 0, 8) % 8;
+    }
+    calls::LONGER
 }
 
 // Internal: the path of n nodes with m edges and k active entries: each node in turn is active.

@@ -1,14 +1,14 @@
 // Runs replay on vectors, which it reads; on random lists, small and of some hundred events, against a slow replay; on lists of the full sizes on rings, where
 // it shows too that the comparison notices a fault; at the limits; and with one fault and several. Prints counts and replies.
-mod calls;
-mod limits;
 mod vectors;
 
-use crate::calls::Work;
 use test_library::calls::LONGER;
 use test_library::lists::List;
 use test_library::tables::Table;
 use test_random::lists as random_lists;
+use test_replay_calls::calls;
+use test_replay_calls::calls::Work;
+use test_replay_calls::limits;
 use test_slow_replay::replay;
 use test_slow_replay::totals;
 

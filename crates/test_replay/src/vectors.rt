@@ -2,8 +2,6 @@
 // ; at its end. Eight of the sizes: N, M, T, the share and zeros; eight of the lengths: of A, B, the starting table, X, Y, the answers and the work table, and
 // a zero; eight of the reply: a refusal's number and its place, the queries, the segments open at the end, kept and zeros. Then come the tables of these
 // lengths, and the answers where it is accepted.
-use crate::calls;
-use crate::calls::Work;
 use libc::STDIN_FILENO;
 use test_library::calls::Lengths;
 use test_library::calls::Reply;
@@ -14,6 +12,8 @@ use test_library::print;
 use test_library::tables::Table;
 use test_library::text;
 use test_library::text::Text;
+use test_replay_calls::calls;
+use test_replay_calls::calls::Work;
 use test_slow_replay::replay;
 
 // Copies the tables of these lengths into the list, and as many answers as X has entries into A of the other.

@@ -1,5 +1,7 @@
-// The slow contraction: links by taking away the nodes of each third kept class. The result is a list too: the edges in A and B, the map in X.
+// The slow contraction: links by taking away the nodes of each third kept class, and pieces by comparing each active entry with those before it. The result is
+// a list too: the edges in A and B, the map in X, the pieces in Y; Y's size is how many nodes have no active one.
 use crate::graphs;
+use test_library::calls::Lengths;
 use test_library::calls::Reply;
 use test_library::counts;
 use test_library::lists;
@@ -7,6 +9,7 @@ use test_library::lists::List;
 use test_library::tables;
 use test_library::tables::Marks;
 use test_library::tables::Table;
+ghost use Prim.Native.Nat.{_≤_};
 
 // Internal: the first edge with an end that is no node, or m.
 pub fn bad_edge(l: &List) -> usize {
@@ -133,7 +136,38 @@ fn write_map(r: &mut List, l: &List, of: &Table, c: &Table) {
     }
 }
 
-// The contraction of a graph without a fault: nodes, edges, and how many nodes have no active one.
+// The first active entry in the piece of entry i.
+fn first_joined(l: &List, p: &Table, i: usize) -> usize {
+    let v = lists::at(l, lists::X, i);
+    for j in 0..i {
+        if graphs::together(p, lists::at(l, lists::X, j), v) {
+            return j;
+        }
+    }
+    i
+}
+
+// The number of entry i's piece: that of an earlier entry, or the next one, where so many have a number before.
+fn piece(r: &List, l: &List, p: &Table, i: usize, count: usize) -> usize {
+    let j = first_joined(l, p, i);
+    if j < i {
+        return lists::at(r, lists::Y, j);
+    }
+    count
+}
+
+// Writes the number of the piece of each active entry, from 0 by first appearance.
+fn write_pieces(r: &mut List, l: &List, p: &Table) {
+    let k = lists::size(l, lists::X);
+    let mut count: usize = 0;
+    for i in 0..k {
+        let x = piece(r, l, p, i, count);
+        lists::set(r, lists::Y, i, x);
+        count = counts::counted(count, x == count);
+    }
+}
+
+// The contraction of a graph without a fault: nodes and edges.
 fn small(r: &mut List, l: &List) -> Reply {
     let k = lists::size(l, lists::X);
     let open = [true; 8192];
@@ -151,18 +185,64 @@ fn small(r: &mut List, l: &List) -> Reply {
     let nodes = number(&mut of, &mut first, l, &c, &p, &active, &held, k, all, some);
     write_map(r, l, &of, &c);
     let edges = links(r, l, &of, &first, &c, nodes);
-    [0, 0, nodes, edges, counts::minus(nodes, some), 0, 0, 0]
+    let mut q = [0u32; 512];
+    graphs::all_pieces(&mut q, l, &open);
+    write_pieces(r, l, &q);
+    lists::set_size(r, lists::Y, counts::minus(nodes, some));
+    [0, 0, nodes, edges, 0, 0, 0, 0]
 }
 
-// Internal: the contraction, or the refusal by 4 or 8.
-pub fn reply(r: &mut List, l: &List) -> Reply {
+// Internal: the least length of the work table. The sizes go round past their limits, so that it is bounded.
+pub fn required(n: usize, m: usize) -> usize
+    ensures { λ r. ⌜ r ≤ 131608 ⌝ }
+{
+    n % 4098 * 16 + m % 8194 * 8 + 512
+}
+
+// Whether a table is shorter than it must be.
+fn is_short(l: &List, lengths: Lengths) -> bool {
+    let m = lists::size(l, lists::B);
+    let k = lists::size(l, lists::X);
+    let ends = counts::plus(k, k);
+    let graph = (lengths[0] < m) | (lengths[1] < m) | (lengths[2] < k);
+    let result = (lengths[3] < k) | (lengths[4] < ends) | (lengths[5] < ends) | (lengths[6] < k);
+    graph | result | (lengths[7] < required(lists::size(l, lists::A), m))
+}
+
+// The number by which the sizes or a length are refused, or 0.
+fn frame_fault(l: &List, lengths: Lengths) -> usize {
+    let n = lists::size(l, lists::A);
+    if (n > 4096) | (lists::size(l, lists::B) > 8192) | (lists::size(l, lists::X) > 8192) {
+        return 1;
+    }
+    if is_short(l, lengths) {
+        return 2;
+    }
+    0
+}
+
+fn refused(code: usize, place: usize) -> Reply {
+    [code, place, 0, 0, 0, 0, 0, 0]
+}
+
+// The reply where sizes and lengths are allowed.
+fn graph_reply(r: &mut List, l: &List) -> Reply {
     let e = bad_edge(l);
     if e < lists::size(l, lists::B) {
-        return [4, e, 0, 0, 0, 0, 0, 0];
+        return refused(4, e);
     }
     let i = bad_entry(l);
     if i < lists::size(l, lists::X) {
-        return [8, i, 0, 0, 0, 0, 0, 0];
+        return refused(8, i);
     }
     small(r, l)
+}
+
+// Internal: the contraction of a graph whose tables have these lengths; or its refusal.
+pub fn reply(r: &mut List, l: &List, lengths: Lengths) -> Reply {
+    let code = frame_fault(l, lengths);
+    if code > 0 {
+        return refused(code, 0);
+    }
+    graph_reply(r, l)
 }

@@ -62,6 +62,11 @@ fn pieces_without(p: &mut Table, l: &List, open: &Marks, removed: usize) {
     pieces(p, l, open, removed, &all, 1);
 }
 
+// The pieces when no edge is removed.
+pub(crate) fn all_pieces(p: &mut Table, l: &List, open: &Marks) {
+    pieces_without(p, l, open, lists::size(l, lists::B));
+}
+
 fn joined(l: &List, open: &Marks, removed: usize, u: usize, v: usize) -> bool {
     let mut p = [0u32; 512];
     pieces_without(&mut p, l, open, removed);
@@ -133,7 +138,7 @@ fn part_along(c: &mut Table, p: &mut Table, l: &List, open: &Marks, e: usize) {
 pub(crate) fn classes(c: &mut Table, p: &mut Table, l: &List, open: &Marks) {
     let m = lists::size(l, lists::B);
     let mut all = [0u32; 512];
-    pieces_without(&mut all, l, open, m);
+    all_pieces(&mut all, l, open);
     part(c, &all, lists::size(l, lists::A));
     for e in 0..m {
         if tables::marked(open, e) {

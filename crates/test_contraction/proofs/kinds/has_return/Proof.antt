@@ -1,22 +1,24 @@
 use Prim.Native.Nat.{_≤_, _-_}
 use borrow.Author.Needs.{needs}
-use Rattle.test_replay.proofs.calls.refill.Statement.{statement}
-use Rattle.test_replay.proofs.calls.refill.Tie as tie
+use Rattle.test_contraction.proofs.kinds.has_return.Statement.{statement}
+use Rattle.test_contraction.proofs.kinds.has_return.Tie as tie
 
 abbrev Inv-loop : tie.InvT-loop
-Inv-loop work₀ count i₀ work i = i ≤ count
+Inv-loop want k i₀ i = 1 ≤ i
 
 abbrev μ-loop : tie.MeasureT-loop
-μ-loop work₀ count i₀ work i = count - i
+μ-loop want k i₀ i = k - i
 
-pub refill-spec : {M : Type 1} → statement M
-refill-spec =
+pub has-return-spec : {M : Type 1} → statement M
+has-return-spec =
     tie.close
     (tie.spec
     Inv-loop
     μ-loop
     (λ c. search needs)
+    (λ c κs. search needs)
     (λ c. search needs)
+    (λ c κs. search needs)
     (λ c. search needs)
     (λ c. search needs)
     (λ c. search needs)

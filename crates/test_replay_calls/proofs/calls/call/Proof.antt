@@ -2,8 +2,8 @@ use mathlib.Core.Path.{sym}
 use lib.Seq.{length-take-le}
 use native.Mathlib.Omega.{arith}
 use borrow.Author.Needs.{needs}
-use Rattle.test_replay.proofs.calls.call.Statement.{statement}
-use Rattle.test_replay.proofs.calls.call.Tie as tie
+use Rattle.test_replay_calls.proofs.calls.call.Statement.{statement}
+use Rattle.test_replay_calls.proofs.calls.call.Tie as tie
 
 slice-aggregate-replay : tie.Need-slice-aggregate-replay
 slice-aggregate-replay c = sym (length-take-le _ _ (omega arith))

@@ -1,24 +1,25 @@
 use Prim.Native.Nat.{_≤_, _-_}
 use borrow.Author.Needs.{needs}
-use Rattle.test_replay.proofs.limits.short_refused.Statement.{statement}
-use Rattle.test_replay.proofs.limits.short_refused.Tie as tie
+use Rattle.test_contraction.proofs.kinds.has_single.Statement.{statement}
+use Rattle.test_contraction.proofs.kinds.has_single.Tie as tie
 
 abbrev Inv-loop : tie.InvT-loop
-Inv-loop work₀ count₀ i₀ work count i = i ≤ 8
+Inv-loop l k i₀ i = i ≤ k
 
 abbrev μ-loop : tie.MeasureT-loop
-μ-loop work₀ count₀ i₀ work count i = 8 - i
+μ-loop l k i₀ i = k - i
 
-pub short-refused-spec : {M : Type 1} → statement M
-short-refused-spec =
+pub has-single-spec : {M : Type 1} → statement M
+has-single-spec =
     tie.close
     (tie.spec
     Inv-loop
     μ-loop
+    (λ c κs. search needs)
     (λ c. search needs)
     (λ c κs. search needs)
     (λ c κs. search needs)
-    (λ c κs. search needs)
+    (λ c. search needs)
     (λ c. search needs)
     (λ c. search needs)
     (λ c. search needs)

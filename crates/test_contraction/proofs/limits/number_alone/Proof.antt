@@ -1,22 +1,22 @@
 use Prim.Native.Nat.{_≤_, _-_}
 use borrow.Author.Needs.{needs}
-use Rattle.test_contraction.proofs.add_vectors.Statement.{statement}
-use Rattle.test_contraction.proofs.add_vectors.Tie as tie
+use Rattle.test_contraction.proofs.limits.number_alone.Statement.{statement}
+use Rattle.test_contraction.proofs.limits.number_alone.Tie as tie
 
 abbrev Inv-loop : tie.InvT-loop
-Inv-loop t₀ text count i₀ t i = i ≤ count
+Inv-loop l₀ i₀ l i = i ≤ 8192
 
 abbrev μ-loop : tie.MeasureT-loop
-μ-loop t₀ text count i₀ t i = count - i
+μ-loop l₀ i₀ l i = 8192 - i
 
-pub add-vectors-spec : {M : Type 1} → statement M
-add-vectors-spec =
+pub number-alone-spec : {M : Type 1} → statement M
+number-alone-spec =
     tie.close
     (tie.spec
     Inv-loop
     μ-loop
-    (λ c κs. search needs)
     (λ c. search needs)
+    (λ c κs. search needs)
     (λ c κs. search needs)
     (λ c. search needs)
     (λ c. search needs)

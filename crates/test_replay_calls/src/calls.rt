@@ -11,7 +11,8 @@ use theory_timeline::ReplayReply;
 ghost use Prim.Native.Nat.{_≤_};
 ghost use lib.ListN.{length};
 
-pub(crate) type Work = [u32; 1247536];
+// Internal: the longest work table that a call may want, and some words behind it.
+pub type Work = [u32; 1247536];
 
 fn plain(r: ReplayReply) -> Reply {
     match r {
@@ -20,8 +21,8 @@ fn plain(r: ReplayReply) -> Reply {
     }
 }
 
-// The least lengths of the tables, or one of them one entry short: 1 to 7, or all of them longer.
-pub(crate) fn lengths(l: &List, short: usize) -> Lengths {
+// Internal: the least lengths of the tables, or one of them one entry short: 1 to 7, or all of them longer.
+pub fn lengths(l: &List, short: usize) -> Lengths {
     let m = lists::size(l, lists::B);
     let t = lists::size(l, lists::X);
     let words = replay::required(lists::size(l, lists::A), m, t);
@@ -35,15 +36,6 @@ pub(crate) fn lengths(l: &List, short: usize) -> Lengths {
         calls::length(words, 7, short),
         0,
     ]
-}
-
-// The first count entries of a table of the list. Those behind it are lent where the table is to be longer than it is.
-fn part(s: &[u16], table: usize, count: usize) -> &[u16]
-    requires { ⌜ 40968 ≤ length (now s) ⌝ }
-{
-    let from = table % 5 * 8192;
-    let to = from + counts::least(count, 8196);
-    &s[from..to]
 }
 
 // The call with tables of these lengths. The tables of the list stand in s.
@@ -66,11 +58,11 @@ fn call(
         m,
         t,
         p,
-        part(s, lists::A, lengths[0]),
-        part(s, lists::B, lengths[1]),
-        part(s, lists::START, lengths[2]),
-        part(s, lists::X, lengths[3]),
-        part(s, lists::Y, lengths[4]),
+        lists::part(s, lists::A, lengths[0]),
+        lists::part(s, lists::B, lengths[1]),
+        lists::part(s, lists::START, lengths[2]),
+        lists::part(s, lists::X, lengths[3]),
+        lists::part(s, lists::Y, lengths[4]),
         &mut answers[..bytes],
         &mut work[..words],
     )
@@ -82,14 +74,8 @@ fn refill(work: &mut Work, count: usize) {
     }
 }
 
-// The call's reply, with how many answers and words are wrong, given the answers that are wanted.
-pub(crate) fn run(
-    l: &List,
-    lengths: Lengths,
-    want: &List,
-    answers: &mut Bytes,
-    work: &mut Work,
-) -> Reply {
+// Internal: the call's reply, with how many answers and words are wrong, given the answers that are wanted.
+pub fn run(l: &List, lengths: Lengths, want: &List, answers: &mut Bytes, work: &mut Work) -> Reply {
     let n = lists::size(l, lists::A);
     let m = lists::size(l, lists::B);
     let t = lists::size(l, lists::X);

@@ -1,22 +1,21 @@
 use Prim.Native.Nat.{_≤_, _-_}
 use borrow.Author.Needs.{needs}
-use Rattle.test_replay.proofs.limits.pairs_refused.Statement.{statement}
-use Rattle.test_replay.proofs.limits.pairs_refused.Tie as tie
+use Rattle.test_replay_calls.proofs.limits.short_refused.Statement.{statement}
+use Rattle.test_replay_calls.proofs.limits.short_refused.Tie as tie
 
 abbrev Inv-loop : tie.InvT-loop
-Inv-loop work₀ count₀ i₀ work count i = i ≤ 64
+Inv-loop work₀ count₀ i₀ work count i = i ≤ 8
 
 abbrev μ-loop : tie.MeasureT-loop
-μ-loop work₀ count₀ i₀ work count i = 64 - i
+μ-loop work₀ count₀ i₀ work count i = 8 - i
 
-pub pairs-refused-spec : {M : Type 1} → statement M
-pairs-refused-spec =
+pub short-refused-spec : {M : Type 1} → statement M
+short-refused-spec =
     tie.close
     (tie.spec
     Inv-loop
     μ-loop
     (λ c. search needs)
-    (λ c κs. search needs)
     (λ c κs. search needs)
     (λ c κs. search needs)
     (λ c κs. search needs)

@@ -1,24 +1,25 @@
 use Prim.Native.Nat.{_≤_, _-_}
 use borrow.Author.Needs.{needs}
-use Rattle.test_contraction.proofs.vectors.copy.Statement.{statement}
-use Rattle.test_contraction.proofs.vectors.copy.Tie as tie
+use Rattle.test_contraction.proofs.kinds.has_repeated.Statement.{statement}
+use Rattle.test_contraction.proofs.kinds.has_repeated.Tie as tie
 
 abbrev Inv-loop : tie.InvT-loop
-Inv-loop l₀ table text i from count j₀ l j = j ≤ count
+Inv-loop l k i₀ i = i ≤ k
 
 abbrev μ-loop : tie.MeasureT-loop
-μ-loop l₀ table text i from count j₀ l j = count - j
+μ-loop l k i₀ i = k - i
 
-pub copy-spec : {M : Type 1} → statement M
-copy-spec =
+pub has-repeated-spec : {M : Type 1} → statement M
+has-repeated-spec =
     tie.close
     (tie.spec
     Inv-loop
     μ-loop
-    (λ c. search needs)
+    (λ c κs. search needs)
     (λ c. search needs)
     (λ c κs. search needs)
     (λ c κs. search needs)
+    (λ c. search needs)
     (λ c. search needs)
     (λ c. search needs)
     (λ c. search needs)

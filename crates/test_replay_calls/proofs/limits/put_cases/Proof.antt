@@ -1,7 +1,7 @@
 use Prim.Native.Nat.{_≤_, _-_}
 use borrow.Author.Needs.{needs}
-use Rattle.test_replay.proofs.limits.put_cases.Statement.{statement}
-use Rattle.test_replay.proofs.limits.put_cases.Tie as tie
+use Rattle.test_replay_calls.proofs.limits.put_cases.Statement.{statement}
+use Rattle.test_replay_calls.proofs.limits.put_cases.Tie as tie
 
 abbrev Inv-loop : tie.InvT-loop
 Inv-loop t₀ work₀ i₀ t work i = i ≤ 22

@@ -86,7 +86,8 @@ of event: # at #\n\
     );
 }
 
-pub(crate) fn report(work: &mut Work) {
+// Internal: runs the cases, and prints their replies and counts.
+pub fn report(work: &mut Work) {
     report_cases(work);
     let r = reply([4096, 8192, 0, 8, 0, 1, 1, 0, 0, 0, 0], work);
     let short = short_refused(work);
