@@ -1,10 +1,22 @@
 //! The contraction as a call, in plain Rust: checks, loading, the reply's tables, and the words cleared.
 
-use crate::core::{self, LARGE_END, MARK, SMALL_END};
+use crate::core::{self, Node, LARGE_END, MARK, ROOT, SMALL_END};
 use crate::{Refusal, MOST_ENTRIES, MOST_JUNCTIONS, MOST_SEGMENTS};
 
 pub fn required(n: usize, m: usize) -> usize {
     16 * n + 8 * m + 512
+}
+
+/// The pieces of the active entries: the trees of the forest, in the order in which the entries meet them. A tree's root is entered as an
+/// active node is.
+fn fill_pieces(nodes: &mut [Node], active: &[u16], pieces: &mut [u16]) {
+    core::clear_marks(nodes);
+    let mut trees = 0;
+    for (piece, &v) in pieces.iter_mut().zip(active) {
+        let root = nodes[v as usize][ROOT] as usize;
+        trees = core::enter(nodes, trees, root);
+        *piece = (nodes[root][MARK] - 1) as u16;
+    }
 }
 
 #[allow(clippy::too_many_arguments)]
@@ -18,6 +30,7 @@ pub fn contract(
     map: &mut [u16],
     out_from: &mut [u16],
     out_to: &mut [u16],
+    pieces: &mut [u16],
     work: &mut [u32],
 ) -> Result<(usize, usize), Refusal> {
     if n > MOST_JUNCTIONS || m > MOST_SEGMENTS || k > MOST_ENTRIES {
@@ -29,6 +42,7 @@ pub fn contract(
         || map.len() < k
         || out_from.len() < 2 * k
         || out_to.len() < 2 * k
+        || pieces.len() < k
         || work.len() < required(n, m);
     if short {
         return Err(Refusal::new(2, 0));
@@ -43,9 +57,7 @@ pub fn contract(
     }
 
     let (nodes, halves) = core::split(work, n, m);
-    for node in nodes.iter_mut() {
-        node[MARK] = 0;
-    }
+    core::clear_marks(nodes);
     let different = active
         .iter()
         .fold(0, |d, &v| core::enter(nodes, d, v as usize));
@@ -53,7 +65,7 @@ pub fn contract(
         edge[0][0] = u as u32;
         edge[1][0] = v as u32;
     }
-    let (count, edges) = core::reduce(nodes, halves, different);
+    let (count, edges) = core::reduce::<true>(nodes, halves, different);
     for (entry, &v) in map.iter_mut().zip(active) {
         *entry = nodes[v as usize][MARK] as u16;
     }
@@ -61,6 +73,7 @@ pub fn contract(
         *u = node[SMALL_END] as u16;
         *v = node[LARGE_END] as u16;
     }
+    fill_pieces(nodes, active, pieces);
     work[..required(n, m)].fill(0);
     Ok((count, edges))
 }

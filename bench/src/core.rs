@@ -6,7 +6,7 @@ pub type Node = [u32; 16];
 pub type Half = [u32; 2];
 
 // Fields of a node. Several are used again once their first use is over.
-/// 1 + the place among the active nodes (in); the number of the class (out).
+/// 1 + the place among the active nodes (in); the number of the class (out). For the pieces 1 + the number of a tree, at its root.
 pub const MARK: usize = 0;
 /// At i: the i-th active node (in).
 pub const ACTIVE: usize = 1;
@@ -25,6 +25,8 @@ const BRANCHES: usize = 8;
 const ABOVE: usize = 9;
 /// 1 + the number of a class.
 const NUMBER: usize = 10;
+/// The root of the tree, where it is asked for.
+pub const ROOT: usize = 12;
 /// 1 + the edge to the parent, 0 at a root.
 const TREE_EDGE: usize = 13;
 /// At i: the ends of the i-th edge (out).
@@ -38,6 +40,12 @@ const NEXT_CHILD: usize = BRANCHES;
 pub fn split(work: &mut [u32], n: usize, m: usize) -> (&mut [Node], &mut [Half]) {
     let (nodes, rest) = work.split_at_mut(16 * n);
     (nodes.as_chunks_mut().0, rest[..4 * m].as_chunks_mut().0)
+}
+
+pub fn clear_marks(nodes: &mut [Node]) {
+    for node in nodes.iter_mut() {
+        node[MARK] = 0;
+    }
 }
 
 /// Enters v as active where it is not yet; the new count of active nodes.
@@ -60,17 +68,27 @@ fn link_edges(nodes: &mut [Node], halves: &mut [Half]) {
     }
 }
 
-fn append(nodes: &mut [Node], seen: &mut usize, v: usize, parent: usize, tree_edge: usize) {
+fn append<const ROOTS: bool>(
+    nodes: &mut [Node],
+    seen: &mut usize,
+    v: usize,
+    parent: usize,
+    tree_edge: usize,
+    root: usize,
+) {
     nodes[*seen][ORDER] = v as u32;
     *seen += 1;
     let node = &mut nodes[v];
     node[PLACE] = *seen as u32;
     node[PARENT] = parent as u32;
     node[TREE_EDGE] = tree_edge as u32;
+    if ROOTS {
+        node[ROOT] = root as u32;
+    }
 }
 
 /// Breadth first from each active node that is not seen yet; how many nodes are seen.
-fn spanning_forest(nodes: &mut [Node], halves: &[Half], k: usize) -> usize {
+fn spanning_forest<const ROOTS: bool>(nodes: &mut [Node], halves: &[Half], k: usize) -> usize {
     let mut seen = 0;
     let mut done = 0;
     for j in 0..k {
@@ -78,7 +96,7 @@ fn spanning_forest(nodes: &mut [Node], halves: &[Half], k: usize) -> usize {
         if nodes[root][PLACE] != 0 {
             continue;
         }
-        append(nodes, &mut seen, root, root, 0);
+        append::<ROOTS>(nodes, &mut seen, root, root, 0, root);
         while done < seen {
             let v = nodes[done][ORDER] as usize;
             done += 1;
@@ -86,7 +104,8 @@ fn spanning_forest(nodes: &mut [Node], halves: &[Half], k: usize) -> usize {
             while h != 0 {
                 let [w, next] = halves[h - 1];
                 if nodes[w as usize][PLACE] == 0 {
-                    append(nodes, &mut seen, w as usize, v, (h - 1) / 2 + 1);
+                    let tree_edge = (h - 1) / 2 + 1;
+                    append::<ROOTS>(nodes, &mut seen, w as usize, v, tree_edge, root);
                 }
                 h = next as usize;
             }
@@ -244,7 +263,12 @@ fn list_edges(nodes: &mut [Node], count: usize) -> usize {
 }
 
 /// Contracts the graph to its k different active nodes, which are entered; the nodes and the edges of the small graph.
-pub fn reduce(nodes: &mut [Node], halves: &mut [Half], k: usize) -> (usize, usize) {
+/// With ROOTS each seen node has the root of its tree afterwards, for the pieces. The replay needs none and pays for none.
+pub fn reduce<const ROOTS: bool>(
+    nodes: &mut [Node],
+    halves: &mut [Half],
+    k: usize,
+) -> (usize, usize) {
     for node in nodes.iter_mut() {
         node[HEAD] = 0;
         node[PLACE] = 0;
@@ -252,7 +276,7 @@ pub fn reduce(nodes: &mut [Node], halves: &mut [Half], k: usize) -> (usize, usiz
         node[NUMBER] = 0;
     }
     link_edges(nodes, halves);
-    let seen = spanning_forest(nodes, halves, k);
+    let seen = spanning_forest::<ROOTS>(nodes, halves, k);
     merge_edges(nodes, halves, seen);
     let actives = number_actives(nodes, k);
     count_branches(nodes, seen);

@@ -58,6 +58,7 @@ pub fn contract(
     map: &mut [u16],
     out_from: &mut [u16],
     out_to: &mut [u16],
+    pieces: &mut [u16],
     work: &mut [u32],
 ) -> Result<(usize, usize), Refusal> {
     let lent = ContractTables {
@@ -70,6 +71,7 @@ pub fn contract(
         map,
         out_from,
         out_to,
+        pieces,
         work,
     };
     let r = tables::contract(lent).map_err(refusal)?;

@@ -145,9 +145,7 @@ struct Window {
 
 /// Clears the marks and enters the places as active nodes; the number of different ones.
 fn enter_all(nodes: &mut [Node], places: &[Places]) -> usize {
-    for node in nodes.iter_mut() {
-        node[MARK] = 0;
-    }
+    core::clear_marks(nodes);
     let places = places.as_flattened().iter();
     places.fold(0, |k, &v| core::enter(nodes, k, v as usize))
 }
@@ -205,7 +203,7 @@ fn top(n: usize, t: usize, a: &[u16], b: &[u16], start: &[u16], work: &mut [u32]
     let (nodes, halves) = core::split(scratch, n, a.len());
     let k = enter_all(nodes, places);
     let m = load_segments(a, b, start, events, halves);
-    let (count, edges) = core::reduce(nodes, &mut halves[..2 * m], k);
+    let (count, edges) = core::reduce::<false>(nodes, &mut halves[..2 * m], k);
     write_area(nodes, edges, places, events, whole);
     Window {
         at: 0,
@@ -249,7 +247,7 @@ fn step(w: Window, lo: usize, c: usize, work: &mut [u32]) -> Window {
         }
     }
 
-    let (count, edges) = core::reduce(nodes, &mut halves[..2 * m], k);
+    let (count, edges) = core::reduce::<false>(nodes, &mut halves[..2 * m], k);
     write_area(nodes, edges, here, &events[first..behind], part);
     Window {
         at: lo,

@@ -201,12 +201,27 @@ pub struct ContractionRow {
     pub plain: Time,
 }
 
-/// The tables that a contraction is lent.
+/// The tables that a contraction is lent to write.
+#[derive(PartialEq)]
 struct Tables {
     map: Vec<u16>,
     out_from: Vec<u16>,
     out_to: Vec<u16>,
+    pieces: Vec<u16>,
     work: Vec<u32>,
+}
+
+impl Tables {
+    /// For the graphs of n nodes, filled with junk.
+    fn new(n: usize) -> Self {
+        Tables {
+            map: vec![9; n / 4],
+            out_from: vec![9; n / 2],
+            out_to: vec![9; n / 2],
+            pieces: vec![9; n / 4],
+            work: vec![9; contraction::required(n, 2 * n)],
+        }
+    }
 }
 
 type Contract = fn(
@@ -216,6 +231,7 @@ type Contract = fn(
     &[u16],
     &[u16],
     &[u16],
+    &mut [u16],
     &mut [u16],
     &mut [u16],
     &mut [u16],
@@ -238,6 +254,7 @@ fn contract(
         &mut t.map,
         &mut t.out_from,
         &mut t.out_to,
+        &mut t.pieces,
         &mut t.work,
     )
 }
@@ -247,32 +264,18 @@ fn contraction_row(shape: Shape, n: usize) -> Result<ContractionRow, String> {
     let graphs: Vec<graphs::Graph> = (0..GRAPHS)
         .map(|_| graphs::graph(shape, n, &mut random))
         .collect();
-    let mut tables = Tables {
-        map: vec![0; n / 4],
-        out_from: vec![0; n / 2],
-        out_to: vec![0; n / 2],
-        work: vec![0; contraction::required(n, 2 * n)],
-    };
     for g in &graphs {
-        let by_proved = contract(proved::contract, g, &mut tables);
-        let kept = (
-            tables.map.clone(),
-            tables.out_from.clone(),
-            tables.out_to.clone(),
-        );
-        let by_plain = contract(contraction::contract, g, &mut tables);
-        let same = kept
-            == (
-                tables.map.clone(),
-                tables.out_from.clone(),
-                tables.out_to.clone(),
-            );
-        if by_proved.is_err() || by_proved != by_plain || !same {
+        // On tables of their own, so that an entry which one of them leaves as it was is found.
+        let (mut of_proved, mut of_plain) = (Tables::new(n), Tables::new(n));
+        let by_proved = contract(proved::contract, g, &mut of_proved);
+        let by_plain = contract(contraction::contract, g, &mut of_plain);
+        if by_proved.is_err() || by_proved != by_plain || of_proved != of_plain {
             return Err(format!(
                 "the contractions differ: {by_proved:?} and {by_plain:?}"
             ));
         }
     }
+    let mut tables = Tables::new(n);
     let times = measure(2, GRAPHS, |rival, i| {
         let f: Contract = if rival == 0 {
             proved::contract

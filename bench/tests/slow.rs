@@ -38,10 +38,12 @@ fn answer(all: &[Vec<usize>], u: usize, v: usize) -> u8 {
     }
 }
 
+#[derive(PartialEq, Debug)]
 struct Small {
     nodes: usize,
     edges: Vec<(usize, usize)>,
     map: Vec<usize>,
+    pieces: Vec<usize>,
 }
 
 /// The contraction by its definition. A class is named by its smallest node.
@@ -101,10 +103,19 @@ fn contract(n: usize, edges: &[(usize, usize)], active: &[usize]) -> Small {
             }
         }
     }
+    // An entry's piece is numbered by the pieces that the entries before it have.
+    let mut met: Vec<usize> = Vec::new();
+    for &v in active {
+        if !met.contains(&all[0][v]) {
+            met.push(all[0][v]);
+        }
+    }
+    let piece = |v: usize| met.iter().position(|&p| p == all[0][v]);
     Small {
         nodes: order.len(),
         edges: joined,
         map: active.iter().map(|&v| number(class[v]).unwrap()).collect(),
+        pieces: active.iter().map(|&v| piece(v).unwrap()).collect(),
     }
 }
 
@@ -179,42 +190,72 @@ fn slow_replay(l: &lists::List, p: usize) -> (Vec<u8>, replay::Totals) {
     )
 }
 
-fn plain_contract(n: usize, edges: &[(usize, usize)], active: &[usize]) -> Small {
+/// What a contraction is lent, the written tables by their lengths.
+struct Lent<'a> {
+    n: usize,
+    m: usize,
+    k: usize,
+    from: &'a [u16],
+    to: &'a [u16],
+    active: &'a [u16],
+    /// Of map, out_from, out_to, pieces and work.
+    lengths: [usize; 5],
+}
+
+/// The small graph of the plain contraction. It leaves what it is not to change.
+fn plain_contract(l: &Lent) -> Result<Small, Refusal> {
+    let [mut map, mut out_from, mut out_to, mut pieces] =
+        [0, 1, 2, 3].map(|table| vec![7u16; l.lengths[table]]);
+    let mut work = vec![77; l.lengths[4]];
+    let reply = contraction::contract(
+        l.n,
+        l.m,
+        l.k,
+        l.from,
+        l.to,
+        l.active,
+        &mut map,
+        &mut out_from,
+        &mut out_to,
+        &mut pieces,
+        &mut work,
+    );
+    let (entries, edges, cleared) = match reply {
+        Ok((_, edges)) => (l.k, edges, contraction::required(l.n, l.m)),
+        Err(_) => (0, 0, 0),
+    };
+    assert!(work[..cleared].iter().all(|&w| w == 0) && work[cleared..].iter().all(|&w| w == 77));
+    let written = |table: &[u16], count: usize| -> Vec<usize> {
+        assert!(table[count..].iter().all(|&v| v == 7));
+        table[..count].iter().map(|&v| v as usize).collect()
+    };
+    let (small_ends, large_ends) = (written(&out_from, edges), written(&out_to, edges));
+    let (map, pieces) = (written(&map, entries), written(&pieces, entries));
+    reply.map(|(nodes, _)| Small {
+        nodes,
+        edges: small_ends.into_iter().zip(large_ends).collect(),
+        map,
+        pieces,
+    })
+}
+
+/// The same of a graph without a fault, with a little more than it needs.
+fn plain_small(n: usize, edges: &[(usize, usize)], active: &[usize]) -> Small {
     let (m, k) = (edges.len(), active.len());
     let from: Vec<u16> = edges.iter().map(|e| e.0 as u16).collect();
     let to: Vec<u16> = edges.iter().map(|e| e.1 as u16).collect();
     let entries: Vec<u16> = active.iter().map(|&v| v as u16).collect();
-    let (mut map, mut out_from, mut out_to) =
-        (vec![7; k + 1], vec![7; 2 * k + 1], vec![7; 2 * k + 1]);
-    let need = contraction::required(n, m);
-    let mut work = vec![77; need + 3];
-    let (nodes, count) = contraction::contract(
+    let words = contraction::required(n, m) + 3;
+    let lent = Lent {
         n,
         m,
         k,
-        &from,
-        &to,
-        &entries,
-        &mut map,
-        &mut out_from,
-        &mut out_to,
-        &mut work,
-    )
-    .unwrap();
-    assert!(work[..need].iter().all(|&w| w == 0) && work[need..].iter().all(|&w| w == 77));
-    assert!(
-        map[k] == 7
-            && out_from[count..].iter().all(|&v| v == 7)
-            && out_to[count..].iter().all(|&v| v == 7)
-    );
-    let edges = (0..count)
-        .map(|i| (out_from[i] as usize, out_to[i] as usize))
-        .collect();
-    Small {
-        nodes,
-        edges,
-        map: map[..k].iter().map(|&v| v as usize).collect(),
-    }
+        from: &from,
+        to: &to,
+        active: &entries,
+        lengths: [k + 1, 2 * k + 1, 2 * k + 1, k + 1, words],
+    };
+    plain_contract(&lent).unwrap()
 }
 
 /// The answers and the totals of the plain replay of the first t events, with the written tables of these lengths. It leaves what it is not to change.
@@ -253,6 +294,7 @@ fn plain_replay(
 #[test]
 fn contractions() {
     let mut random = Random::new(1);
+    let mut most = 0;
     for _ in 0..20_000 {
         let n = 1 + random.below(14);
         let m = random.below(2 * n + 1);
@@ -267,15 +309,11 @@ fn contractions() {
             edges.extend((0..m).map(|_| (random.below(n), random.below(n))));
         }
         let active: Vec<usize> = (0..k).map(|_| random.below(n)).collect();
-        let (slow, plain) = (
-            contract(n, &edges, &active),
-            plain_contract(n, &edges, &active),
-        );
-        assert_eq!(
-            (slow.nodes, slow.edges, slow.map),
-            (plain.nodes, plain.edges, plain.map)
-        );
+        let slow = contract(n, &edges, &active);
+        most = most.max(slow.pieces.iter().copied().max().unwrap_or(0));
+        assert_eq!(plain_small(n, &edges, &active), slow);
     }
+    assert!(most > 5, "{most} is the largest number of a piece");
 }
 
 #[test]
@@ -331,13 +369,45 @@ fn contraction_vectors() {
         let row = |name: &str| vector.numbers::<usize>(name);
         let pairs =
             |a: &str, b: &str| -> Vec<(usize, usize)> { row(a).into_iter().zip(row(b)).collect() };
-        let small = plain_contract(row("n")[0], &pairs("from", "to"), &row("active"));
+        let small = plain_small(row("n")[0], &pairs("from", "to"), &row("active"));
         assert_eq!(small.nodes, row("nodes")[0]);
         assert_eq!(small.edges, pairs("out-from", "out-to"));
         assert_eq!(small.map, row("map"));
         count += 1;
     }
     assert_eq!(count, 60);
+}
+
+/// Contractions with pieces, with tables that are longer than they must be, and refused ones.
+#[test]
+fn piece_vectors() {
+    let mut count = 0;
+    for vector in vectors(include_str!("vectors/pieces.txt")) {
+        let row = |name: &str| vector.numbers::<usize>(name);
+        let tables = ["from", "to", "active"].map(|name| vector.numbers::<u16>(name));
+        let sizes = row("sizes");
+        let small = plain_contract(&Lent {
+            n: sizes[0],
+            m: sizes[1],
+            k: sizes[2],
+            from: &tables[0],
+            to: &tables[1],
+            active: &tables[2],
+            lengths: row("lengths").try_into().unwrap(),
+        });
+        let expected = match vector.row("refused") {
+            Some(refused) => Err(Refusal::new(refused[0], refused[1])),
+            None => Ok(Small {
+                nodes: row("nodes")[0],
+                edges: row("out-from").into_iter().zip(row("out-to")).collect(),
+                map: row("map"),
+                pieces: row("pieces"),
+            }),
+        };
+        assert_eq!(small, expected);
+        count += 1;
+    }
+    assert_eq!(count, 50);
 }
 
 #[test]

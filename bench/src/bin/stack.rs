@@ -44,7 +44,8 @@ fn contract() -> impl FnOnce() + Send {
     let (n, m) = (4096, 8192);
     let g = graph(Shape::Random, n, &mut Random::new(1));
     let k = g.active.len();
-    let (mut map, mut from, mut to) = (vec![0; k], vec![0; 2 * k], vec![0; 2 * k]);
+    let (mut map, mut pieces) = (vec![0; k], vec![0; k]);
+    let (mut from, mut to) = (vec![0; 2 * k], vec![0; 2 * k]);
     let mut work = vec![0; tables::contract_work(n, m)];
     move || {
         let lent = ContractTables {
@@ -57,6 +58,7 @@ fn contract() -> impl FnOnce() + Send {
             map: &mut map,
             out_from: &mut from,
             out_to: &mut to,
+            pieces: &mut pieces,
             work: &mut work,
         };
         tables::contract(lent).expect("the graph is in order");

@@ -14,7 +14,7 @@ const ROUNDS: usize = 9;
 fn nanoseconds_a_node(graphs: &[Graph]) -> f64 {
     let n = graphs[0].n;
     let (m, k) = (2 * n, n / 4);
-    let mut map = vec![0; k];
+    let (mut map, mut pieces) = (vec![0; k], vec![0; k]);
     let (mut from, mut to) = (vec![0; 2 * k], vec![0; 2 * k]);
     let mut work = vec![0; contract_work(n, m)];
     let calls = (204_800 / n).div_ceil(graphs.len()) * graphs.len();
@@ -30,6 +30,7 @@ fn nanoseconds_a_node(graphs: &[Graph]) -> f64 {
             map: &mut map,
             out_from: &mut from,
             out_to: &mut to,
+            pieces: &mut pieces,
             work: &mut work,
         })
         .expect("the graph is in order");
