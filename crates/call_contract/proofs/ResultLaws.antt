@@ -10,8 +10,7 @@ use lib.ListN.{getD, length, length-replicate, replicate}
 use native.Mathlib.Omega.{arith}
 use borrow.Author.Tests.{eqb-false, eqb-true}
 use Rattle.theory_contraction.proofs.Acceptance.{Accepted, edges-below, entries-at, entries-below, entries-length, entries-table}
-use Rattle.theory_graph.proofs.ActiveLists.{in-firsts}
-use Rattle.theory_graph.proofs.ActiveLists.{canonical-repeats, small-repeats}
+use Rattle.theory_graph.proofs.ActiveLists.{canonical-repeats, in-firsts, small-repeats}
 use Rattle.theory_graph.proofs.Pieces.{numbered-map}
 use Rattle.theory_graph.proofs.TableLaws.{over-equal, over-length, table-map}
 use Rattle.theory_graph.proofs.Lists.{table-length, table-mem}
