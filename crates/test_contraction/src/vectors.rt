@@ -92,7 +92,7 @@ pub(crate) fn report() {
 vectors: #\n\
 accepted: #\n\
 wrong: #\n\
-wrong by the slow contraction: #\n\
+on which the slow contraction differs from the call: #\n\
 ",
         &t,
     );

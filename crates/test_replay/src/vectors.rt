@@ -90,7 +90,7 @@ pub(crate) fn report(work: &mut Work) {
         b"\
 vectors: #\n\
 wrong: #\n\
-wrong by the slow replay: #\n\
+on which the slow replay differs from the call: #\n\
 ",
         &t,
     );
