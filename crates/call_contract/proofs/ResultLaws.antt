@@ -1,25 +1,23 @@
 -- From the words to the outcome: the small graph that the words hold is the contraction that the definition gives, and the tables filled from them are
 -- those of the outcome.
 -- Assumes nothing.
-use Prim.Native.Nat.{_*_, _+_, _<_, _≤_, suc, zero, ℕ}
+use Prim.Native.Nat.{_*_, _<_, _≤_, zero, ℕ}
 use mathlib.Core.Bool.{true}
-use mathlib.Core.List.{List, List·Memᴰ, List·Memᴰ·head, List·Memᴰ·tail, [], _∷_, map}
-use mathlib.Core.Path.{_∙_, _≡_, ap, ap₂, refl, subst, sym}
+use mathlib.Core.List.{List, List·Memᴰ, map}
+use mathlib.Core.Path.{_∙_, _≡_, ap, refl, subst, sym}
 use lib.Dec.{eqb, ltb}
 use lib.ListN.{getD, length, length-replicate, replicate}
 use native.Mathlib.Omega.{arith}
-use borrow.Author.Tests.{eqb-false, eqb-true}
 use Rattle.theory_contraction.proofs.Acceptance.{Accepted, edges-below, entries-at, entries-below, entries-length, entries-table}
 use Rattle.theory_graph.proofs.ActiveLists.{canonical-repeats, in-firsts, small-repeats}
 use Rattle.theory_graph.proofs.Pieces.{numbered-map}
 use Rattle.theory_graph.proofs.TableLaws.{over-equal, over-length, table-map}
-use Rattle.theory_graph.proofs.Lists.{table-length, table-mem}
+use Rattle.theory_graph.proofs.Lists.{map-equal, table-in, table-length, table-mem}
 use Rattle.theory_contraction.specs.Contraction.{Lent, done, edges, entries, required}
 use Rattle.contraction_tables.specs.Transfer.{CanNumber, Loadable, Prepared, TreesNumbered, rootsOf}
 use Rattle.call_contract.specs.Reply.{outcome}
 use Rattle.call_contract.specs.declared.ContractReply.the-variants.{Done}
 use Rattle.core_reduce.specs.Core.{Reduced, activeIn, edgesIn, edgesOut}
-use Rattle.theory_graph.proofs.Booleans.{onBool}
 use Rattle.theory_graph.proofs.Canonical.{the-one}
 use Rattle.theory_graph.proofs.CanonicalContraction.{contract-canon}
 use Rattle.theory_graph.proofs.ContractionIsSmall.{contract-small}
@@ -51,17 +49,6 @@ module _ (n : ℕ) (E : List Edge) (S : List ℕ) (wE : endsIn (λ v. ltb v n) E
     where
       go : (x : ℕ) → x ≡ length (keptClasses n E S) → SmallGraph E S x H ρ σ → Canonical E S x ρ σ → H ≡ contract n E S .edges
       go x e g c = the-one E S (length (keptClasses n E S)) H ρ σ (rw e at g) (rw e at c) _ _ _ (contract-small n E S wE wS) (contract-canon n E S wE wS)
-
--- ---- lists of edges and entries below n
-map-equal : (f g : ℕ → ℕ) (xs : List ℕ) → ((a : ℕ) → List·Memᴰ a xs → f a ≡ g a) → map f xs ≡ map g xs
-map-equal f g [] e = refl
-map-equal f g (x ∷ xs) e = ap₂ _∷_ (e x (List·Memᴰ·head refl)) (map-equal f g xs (λ a m. e a (List·Memᴰ·tail m)))
-
-table-at : {A : Type 0} (f : ℕ → A) (i k j : ℕ) → i ≤ j → j < i + k → List·Memᴰ (f j) (table f i k)
-table-at f i zero j a b = absurd (omega arith)
-table-at f i (suc k) j a b = onBool (eqb j i)
-    (λ q. List·Memᴰ·head (ap f (eqb-true j i q)))
-    (λ q. let ne : ¬ (j ≡ i) = eqb-false j i q in List·Memᴰ·tail (table-at f (suc i) k j (omega arith) (omega arith)))
 
 -- ---- the call
 module _ (l : Lent) (s : Accepted l) where
@@ -115,7 +102,7 @@ module _ (l : Lent) (s : Accepted l) where
 
     pub ends-fit : (i : ℕ) → i < e → (node LOWER w₂ i < 65536) × (node UPPER w₂ i < 65536)
     ends-fit i j =
-        let q = small .edge (node LOWER w₂ i) (node UPPER w₂ i) (table-at (λ j. (node LOWER w₂ j, node UPPER w₂ j)) 0 e i (omega arith) (omega arith)) in
+        let q = small .edge (node LOWER w₂ i) (node UPPER w₂ i) (table-in (λ j. (node LOWER w₂ j, node UPPER w₂ j)) 0 e i (omega arith) (omega arith)) in
         (omega (arith, q .0, q .1, r .less, s .within .nodes), omega (arith, q .1, r .less, s .within .nodes))
 
     edges-length : length (edgesOut e w₂) ≡ e

@@ -1,7 +1,6 @@
 -- The fields of a struct by which a call is lent its tables, for the walks of `lum_contract` and `lum_replay`: each kind of field as a place of a signature
 -- of one lifetime, what is had of it at exit, the law for that, and its machine value. A call gives the tables that it may write up for good to the
--- function that it hands on to,
--- and has of each only what says its last list; of every other field it has nothing.
+-- function that it hands on to, and has of each only what says its last list; of every other field it has nothing.
 -- The laws take `Given`. The rest assumes nothing.
 use Prim.Native.Nat.{ℕ}
 use mathlib.Core.List.{List, [], _∷_}

@@ -14,13 +14,13 @@ use Rattle.core_reduce.specs.declared.Counts.{Counts}
 use Rattle.core_words.specs.Fields.{ACTIVE, LOWER, MAPPED, UPPER, node}
 use Rattle.theory_graph.proofs.ActiveLists.{in-firsts, small-repeats}
 use Rattle.theory_graph.proofs.EdgeCount.{firsts-most, mostNodes-double, small-edges-most}
-use Rattle.theory_graph.proofs.Lists.{table-length, table-mem}
+use Rattle.theory_graph.proofs.Lists.{map-equal, table-length, table-mem}
 use Rattle.theory_graph.proofs.SmallGraphDefinition.{definition-small, small-definition}
 use Rattle.theory_graph.proofs.SmallGraphs.{SmallGraph}
 use Rattle.theory_graph.proofs.Uniqueness.{small-bound}
 use Rattle.theory_graph.specs.Graph.{Edge}
 use Rattle.theory_graph.specs.Lists.{firsts, pairs, table}
-use Rattle.replay_step.proofs.WordLaws.{drop-back, drop-sets, front-get, map-ext, mid-before, mid-less, mid-sets, mid-take, take-less, take-sets, take-whole}
+use Rattle.replay_step.proofs.WordLaws.{drop-back, drop-sets, front-get, mid-before, mid-less, mid-sets, mid-take, take-less, take-sets, take-whole}
 use Rattle.replay_step.specs.Area.{areaEdges}
 use Rattle.replay_step.specs.Load.{AreaMade, MakeReady, scratch}
 use Rattle.replay_step.specs.declared.Graph.{Graph}
@@ -247,6 +247,6 @@ module _ {p : Part} {l : Graph} {w : List ℕ} (q : MakeReady p l w) where
         ρ = K .ρ;
         σ = K .σ;
         small = small-definition _ _ _ _ _ _ graph-z;
-        places = places ∙ map-ext (node MAPPED zs) (K .σ) T numbers;
+        places = places ∙ map-equal (node MAPPED zs) (K .σ) T numbers;
         words = words;
       }

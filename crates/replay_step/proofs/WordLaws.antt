@@ -108,10 +108,6 @@ module _ {l w : List ℕ} {s q range i : ℕ} (m : Mapped l s q range i w) where
         ∙ fill-more number l q i _ (field-after MAPPED s (getD l (range + i) 0) q (table number 0 i) l (omega (arith, table-length number 0 i)));
   }
 
-pub map-ext : (f g : ℕ → ℕ) (xs : List ℕ) → ((x : ℕ) → List·Memᴰ x xs → f x ≡ g x) → map f xs ≡ map g xs
-map-ext f g [] h = refl
-map-ext f g (x ∷ xs) h = ap₂ _∷_ (h x (List·Memᴰ·head refl)) (map-ext f g xs (λ y m. h y (List·Memᴰ·tail m)))
-
 pub take-less : (k s : ℕ) (w z : List ℕ) → k ≤ s → take s z ≡ take s w → take k z ≡ take k w
 take-less k s w z l e = sym (take-take k s z l) ∙ ap (take k) e ∙ take-take k s w l
 

@@ -1,7 +1,7 @@
 -- What holds where nothing is refused: sizes within their limits, tables long enough, ends and entries below n; and so of the edges and the entries that count.
 -- Assumes nothing.
 use Prim.Native.Nat.{_*_, _+_, _<_, _≤_, suc, zero, ℕ}
-use mathlib.Core.Bool.{Bool, _&&_, _||_, false, true}
+use mathlib.Core.Bool.{_&&_, true}
 use mathlib.Core.List.{List, List·Memᴰ, [], _++_, _∷_}
 use mathlib.Core.Path.{_∙_, _≡_, ap, ap₂, refl, subst, sym}
 use lib.Dec.{eqb, leb, ltb}
@@ -14,20 +14,11 @@ use Rattle.call_sizes.specs.Refusal.{Refusal, Row, badEnds, firstFault, row, se
 use Rattle.call_sizes.specs.Sizes.{sizeFaults}
 use Rattle.theory_contraction.specs.Contraction.{Faultless, Lent, Outcome, badEntry, contraction, done, edges, entries, fault, faults, refused, required}
 use Rattle.theory_contraction.specs.Contraction.{shortTables, tableLengths}
-use Rattle.theory_graph.proofs.Booleans.{contradict, onBool}
+use Rattle.theory_graph.proofs.Booleans.{contradict, onBool, or-neither}
 use Rattle.theory_graph.proofs.Lists.{table-in, table-mem}
 use Rattle.theory_graph.proofs.TableLaws.{pairs-table, take-table}
 use Rattle.theory_graph.specs.Lists.{table}
 use Rattle.theory_graph.specs.SmallGraph.{endsIn}
-
-or-left : (a b : Bool) → a || b ≡ false → a ≡ false
-or-left false b e = refl
-or-left true b e = e
-
-or-right : (a b : Bool) → a || b ≡ false → b ≡ false
-or-right false b e = e
-or-right true false e = refl
-or-right true true e = e
 
 -- ---- the rows of the call
 -- what the sizes' check leaves
@@ -96,10 +87,10 @@ module _ (l : Lent) where
         within = sizes-within (sym (silent-fault sizes (silent-left sizes (shortTables l ++ placed) s))) refl;
         long = lengths-long l (sym (silent-fault (shortTables l) (silent-left (shortTables l) placed t))) refl;
         ends = λ i j.
-            let q = seek-none (badEnds (l .n) (l .from) (l .to)) (l .m) i (u .0) j in
-            let a = leb (l .n) (getD (l .from) i 0) in
-            let b = leb (l .n) (getD (l .to) i 0) in
-            (leb-false (l .n) (getD (l .from) i 0) (or-left a b q), leb-false (l .n) (getD (l .to) i 0) (or-right a b q));
+            let x = getD (l .from) i 0 in
+            let y = getD (l .to) i 0 in
+            let (p, q) = or-neither (leb (l .n) x) (leb (l .n) y) (seek-none (badEnds (l .n) (l .from) (l .to)) (l .m) i (u .0) j) in
+            (leb-false (l .n) x p, leb-false (l .n) y q);
         entries = λ i j. leb-false (l .n) (getD (l .active) i 0) (seek-none (badEntry (l .n) (l .active)) (l .k) i (u .1 .0) j);
       }
 

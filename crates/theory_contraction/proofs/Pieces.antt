@@ -1,10 +1,11 @@
 -- Document 02, No. 2, of every accepted contraction: its pieces tell which entries have answer 0, in the graph given and, by the map, in the small one.
 -- Assumes nothing.
-use Prim.Native.Nat.{_+_, _<_, _≤_, suc, zero, ℕ}
+use Prim.Native.Nat.{_<_, _≤_, ℕ}
 use mathlib.Core.Bool.{true}
-use mathlib.Core.List.{List, [], _++_, _∷_, map}
+use mathlib.Core.List.{List, [], _∷_, map}
 use mathlib.Core.Path.{_∙_, _≡_, ap, ap₂, refl, subst, sym}
 use lib.ListN.{drop, getD, length, length-map, replicate, take}
+use lib.Seq.{take-append-seam}
 use native.Mathlib.Omega.{arith}
 use Rattle.theory_contraction.proofs.Acceptance.{Accepted, accepted-faultless, contraction-done, edges-below, entries-below, entries-length, entries-table, sound}
 use Rattle.theory_contraction.specs.Contraction.{Lent, contraction, done, edges, entries, fault, faults, lent, required}
@@ -13,16 +14,13 @@ use Rattle.theory_graph.proofs.Pieces.{contract-map-length, pieces-below, piece
 use Rattle.theory_graph.proofs.TableLaws.{over-front, over-length, over-past, table-getD}
 use Rattle.theory_graph.specs.Contraction.{Contracted, contract}
 use Rattle.theory_graph.specs.Graph.{Edge, joined, rep}
-use Rattle.theory_graph.specs.Lists.{pairs}
+use Rattle.theory_graph.specs.Lists.{over, pairs}
 use Rattle.theory_graph.specs.Pieces.{numbered, pieces}
 use Rattle.theory_graph.specs.SmallGraph.{inOrder}
 
 -- ---- lists
-take-front : (xs ys : List ℕ) (k : ℕ) → k ≡ length xs → take k (xs ++ ys) ≡ xs
-take-front [] ys zero e = refl
-take-front [] ys (suc k) e = absurd (omega arith)
-take-front (x ∷ xs) ys zero e = absurd (omega arith)
-take-front (x ∷ xs) ys (suc k) e = ap (λ (l : List ℕ). x ∷ l) (take-front xs ys k (omega arith))
+over-take : (xs table : List ℕ) (k : ℕ) → k ≡ length xs → take k (over xs table) ≡ xs
+over-take xs table k e = ap (λ (n : ℕ). take n (over xs table)) e ∙ take-append-seam xs (drop (length xs) table)
 
 pairs-ends : (E : List Edge) → pairs (map (λ (e : Edge). e .0) E) (map (λ (e : Edge). e .1) E) ≡ E
 pairs-ends [] = refl
@@ -50,8 +48,8 @@ module _ (l : Lent) where
   done-edges =
       let H = result .edges in
       ap₂ pairs
-      (take-front (map (λ (e : Edge). e .0) H) _ (length H) (sym (length-map H (λ (e : Edge). e .0))))
-      (take-front (map (λ (e : Edge). e .1) H) _ (length H) (sym (length-map H (λ (e : Edge). e .1))))
+      (over-take (map (λ (e : Edge). e .0) H) _ (length H) (sym (length-map H (λ (e : Edge). e .0))))
+      (over-take (map (λ (e : Edge). e .1) H) _ (length H) (sym (length-map H (λ (e : Edge). e .1))))
       ∙ pairs-ends H
 
   module _ (s : Accepted l) where
@@ -63,7 +61,7 @@ module _ (l : Lent) where
 
     done-order : inOrder 0 (take (l .k) (done l .pieces)) ≡ true
     unfolding done
-    done-order = ap (inOrder 0) (take-front numbers (drop (length numbers) (l .pieces)) (l .k) (sym numbers-count)) ∙ pieces-order (edges l) (entries l)
+    done-order = ap (inOrder 0) (over-take numbers (l .pieces) (l .k) (sym numbers-count)) ∙ pieces-order (edges l) (entries l)
 
     piece-at : (i : ℕ) → i < l .k → getD (done l .pieces) i 0 ≡ getD numbers i 0
     unfolding done

@@ -49,6 +49,10 @@ and-elim false b h f = absurd (true≢false (sym h))
 pub contradict : {A : Type 0} {b : Bool} → b ≡ true → b ≡ false → A
 contradict p q = absurd (true≢false (sym p ∙ q))
 
+pub or-neither : (a b : Bool) → (a || b) ≡ false → (a ≡ false) × (b ≡ false)
+or-neither true b h = contradict refl h
+or-neither false b h = (refl, h)
+
 abbrev pub majority : Bool → Bool → Bool → Bool
 majority a b c = a && (b || c) || b && c
 

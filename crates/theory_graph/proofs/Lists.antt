@@ -76,6 +76,10 @@ pub map-twice : (f k : ℕ → ℕ) (S : List ℕ) → map f (map k S) ≡ map (
 map-twice f k [] = refl
 map-twice f k (x ∷ S) = ap (λ l. f (k x) ∷ l) (map-twice f k S)
 
+pub map-equal : (f k : ℕ → ℕ) (S : List ℕ) → ((a : ℕ) → List·Memᴰ a S → f a ≡ k a) → map f S ≡ map k S
+map-equal f k [] e = refl
+map-equal f k (x ∷ S) e = ap₂ _∷_ (e x (List·Memᴰ·head refl)) (map-equal f k S (λ a m. e a (List·Memᴰ·tail m)))
+
 -- ---- lists
 pub filter-in : (f : ℕ → Bool) (a : ℕ) (xs : List ℕ) → List·Memᴰ a (filter f xs) → List·Memᴰ a xs × (f a ≡ true)
 filter-in f a [] m = absurd (elim m [ ])
@@ -283,7 +287,7 @@ pub table-all : (P : ℕ → Type 0) (ρ : ℕ → ℕ) (i n : ℕ) → ((j : �
 table-all P ρ i zero f = tt
 table-all P ρ i (suc n) f = (f i (omega arith) (omega arith), table-all P ρ (suc i) n (λ j a b. f j (omega arith) (omega arith)))
 
-pub table-in : (ρ : ℕ → ℕ) (i n k : ℕ) → i ≤ k → k < i + n → List·Memᴰ (ρ k) (table ρ i n)
+pub table-in : {A : Type 0} (ρ : ℕ → A) (i n k : ℕ) → i ≤ k → k < i + n → List·Memᴰ (ρ k) (table ρ i n)
 table-in ρ i zero k a b = absurd (omega arith)
 table-in ρ i (suc n) k a b = onBool (eqb k i) (λ t. List·Memᴰ·head (ap ρ (eqb-true k i t))) λ t. let e : ¬ (k ≡ i) = eqb-false k i t in List·Memᴰ·tail
     (table-in ρ (suc i) n k (omega arith) (omega arith))

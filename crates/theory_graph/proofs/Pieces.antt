@@ -2,13 +2,14 @@
 -- their nodes have answer 0, the numbers are those below the count of pieces, each is used, and they come in order; numbers where the entries are moved by a map
 -- that keeps the groups; and so the pieces are those of the places that a small graph, and the contraction, gives the entries.
 -- Assumes nothing.
-use Prim.Native.Nat.{_+_, _<_, suc, zero, ℕ}
+use Prim.Native.Nat.{_<_, suc, zero, ℕ}
 use mathlib.Core.Bool.{Bool, cond, false, not, true}
 use mathlib.Core.List.{List, List·Memᴰ, List·Memᴰ·head, List·Memᴰ·tail, [], _++_, _∷_, append-nil, map}
 use mathlib.Core.Logic.{_↔_}
 use mathlib.Core.Path.{_∙_, _≡_, ap, ap₂, refl, subst, sym}
 use lib.Dec.{eqb, ltb}
 use lib.ListN.{getD, length, length-map}
+use native.Mathlib.Nat.{zero-add}
 use native.Mathlib.Omega.{arith}
 use borrow.Author.Tests.{eq-eqb, eqb-true, lt-ltb, ltb-false, ltb-true}
 use Rattle.theory_graph.proofs.Booleans.{bool-iff, contradict, onBool}
@@ -16,7 +17,7 @@ use Rattle.theory_graph.proofs.ContractionIsSmall.{contract-small}
 use Rattle.theory_graph.proofs.Definitions.{joined-from, joined-to}
 use Rattle.theory_graph.proofs.Lifting.{small-cuts}
 use Rattle.theory_graph.proofs.Lists.{Nth, entry, entry-nth, filter-true, firsts-append, firsts-cover, firsts-in, firsts-pairwise, nth-entry, nth-in, nth-low}
-use Rattle.theory_graph.proofs.Lists.{pairwise-nth, position-append, position-nth}
+use Rattle.theory_graph.proofs.Lists.{map-equal, map-twice, pairwise-nth, position-append, position-nth}
 use Rattle.theory_graph.proofs.Numbering.{in-order}
 use Rattle.theory_graph.proofs.Published.{joined-refl, joined-sym, joined-trans}
 use Rattle.theory_graph.proofs.Separation.{insep-sym, insep-trans, twoEdge-connected}
@@ -42,9 +43,6 @@ getD-mem (x ∷ S) (suc i) l = List·Memᴰ·tail (getD-mem S i (omega arith))
 mem-getD : (S : List ℕ) (a : ℕ) → List·Memᴰ a S → (i : ℕ) × (i < length S) × (getD S i 0 ≡ a)
 mem-getD (x ∷ S) a (List·Memᴰ·head p) = (0, omega arith, sym p)
 mem-getD (x ∷ S) a (List·Memᴰ·tail m) = let (i, l, e) = mem-getD S a m in (suc i, omega arith, e)
-
-plus-none : (k : ℕ) → 0 + k ≡ k
-plus-none k = omega arith
 
 -- ---- the groups of an equivalence
 pub record Equivalence (R : ℕ → ℕ → Bool) : Type 0 where
@@ -72,7 +70,7 @@ module _ {R : ℕ → ℕ → Bool} (q : Equivalence R) (S : List ℕ) where
   group-first a m =
       let (c, n, e) = firsts-cover R (q .self) (q .join) a S m in
       let (d, o, f) = position-nth (λ c. R c a) 0 c (firsts R S) n e in
-      (d, subst (λ (v : ℕ). Nth d 0 (firsts R S) v) (plus-none (group R S a)) o, f)
+      (d, subst (λ (v : ℕ). Nth d 0 (firsts R S) v) (zero-add (group R S a)) o, f)
 
   -- first entries of one group have one number
   one-number : (c d i j : ℕ) → Nth c 0 (firsts R S) i → Nth d 0 (firsts R S) j → R c d ≡ true → i ≡ j
@@ -109,7 +107,7 @@ module _ {R : ℕ → ℕ → Bool} (q : Equivalence R) (S : List ℕ) where
   numbered-order : inOrder 0 (numbered R S) ≡ true
   unfolding numbered
   numbered-order = in-order R (q .self) (q .join) (group R S) [] S (λ x. true) 0 (λ x c p f. refl)
-      (λ a e. sym (plus-none (position (λ c. R c a) (filter (λ x. true) (firsts R (S ++ [])))) ∙ ap (position (λ c. R c a)) (filter-true (firsts R (S ++ [])) ∙ ap (firsts R) (append-nil S))))
+      (λ a e. sym (zero-add (position (λ c. R c a) (filter (λ x. true) (firsts R (S ++ [])))) ∙ ap (position (λ c. R c a)) (filter-true (firsts R (S ++ [])) ∙ ap (firsts R) (append-nil S))))
       (λ a e. contradict refl e)
 
   -- in a longer list its group has the same number
@@ -196,15 +194,12 @@ module _ (σ : ℕ → ℕ) where
       ∙ filter-map (λ y. not (R x y)) (λ y. not (Q (σ x) y)) (firsts R xs) (λ a m. ap not (e x a (List·Memᴰ·head refl) (List·Memᴰ·tail (firsts-in R a xs m))))
       )
 
-  numbers-map : (f k : ℕ → ℕ) (xs : List ℕ) → ((a : ℕ) → List·Memᴰ a xs → f a ≡ k (σ a)) → map f xs ≡ map k (map σ xs)
-  numbers-map f k [] e = refl
-  numbers-map f k (x ∷ xs) e = ap₂ _∷_ (e x (List·Memᴰ·head refl)) (numbers-map f k xs (λ a m. e a (List·Memᴰ·tail m)))
-
   pub numbered-map : (R Q : ℕ → ℕ → Bool) (S : List ℕ) → ((a b : ℕ) → List·Memᴰ a S → List·Memᴰ b S → R a b ≡ Q (σ a) (σ b)) → numbered R S ≡ numbered Q (map σ S)
   unfolding numbered
   numbered-map R Q S e =
-      numbers-map (group R S) (group Q (map σ S)) S λ a m.
-      sym (ap (position (λ c. Q c (σ a))) (firsts-map R Q S e) ∙ position-map (λ c. R c a) (λ c. Q c (σ a)) (firsts R S) (λ c n. e c a (firsts-in R c S n) m))
+      map-equal (group R S) (λ a. group Q (map σ S) (σ a)) S
+      (λ a m. sym (ap (position (λ c. Q c (σ a))) (firsts-map R Q S e) ∙ position-map (λ c. R c a) (λ c. Q c (σ a)) (firsts R S) (λ c n. e c a (firsts-in R c S n) m)))
+      ∙ sym (map-twice (group Q (map σ S)) σ S)
 
 -- ---- the small graph
 module _ (E : List Edge) (S : List ℕ) (h : ℕ) (H : List Edge) (ρ σ : ℕ → ℕ) (g : SmallGraph E S h H ρ σ) where

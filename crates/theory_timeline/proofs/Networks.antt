@@ -3,14 +3,14 @@
 -- In order: for lists of events, a window before ++ part ++ behind; for windows of a list; the start; down the tree of windows.
 -- Assumes nothing.
 use Prim.Native.Nat.{_+_, _-_, _≤_, suc, zero, ℕ}
-use mathlib.Core.Bool.{Bool, _&&_, _||_, false, not, true}
+use mathlib.Core.Bool.{Bool, _&&_, false, not, true}
 use mathlib.Core.List.{List, List·Memᴰ, [], _++_, _∷_, map}
 use mathlib.Core.Logic.{_⊎_, inl, inr}
 use mathlib.Core.Path.{_∙_, _≡_, ap, ap₂, refl, subst, subst₂, sym}
 use lib.ListN.{drop, getD, take, take-append-drop}
 use lib.Seq.{drop-drop, take-add, take-length, take-nil, take-take}
 use native.Mathlib.Omega.{arith}
-use Rattle.theory_graph.proofs.Booleans.{and-elim, contradict, onBool}
+use Rattle.theory_graph.proofs.Booleans.{and-elim, onBool, or-neither}
 use Rattle.theory_graph.proofs.Composition.{compose}
 use Rattle.theory_graph.proofs.CutEquivalence.{small-cuts-equal}
 use Rattle.theory_graph.proofs.Cuts.{cut-append}
@@ -50,17 +50,13 @@ module _ (segs : List Edge) (pre mid post : List Event) (o : SegmentSet) where
           onBool (named whole s)
           (λ w. inr (ap (λ b. o s && not b) w ∙ off (o s), ap (λ b. afterAll pre o s && (b && not (named mid s))) w))
           (λ w.
-          let (np, r) = or-false (named pre s) (named (mid ++ post) s) (sym (named-append pre (mid ++ post) s) ∙ w) in
-          let (nm, _) = or-false (named mid s) (named post s) (sym (named-append mid post s) ∙ r) in
+          let (np, r) = or-neither (named pre s) (named (mid ++ post) s) (sym (named-append pre (mid ++ post) s) ∙ w) in
+          let (nm, _) = or-neither (named mid s) (named post s) (sym (named-append mid post s) ∙ r) in
           inl (ap₂ (λ a b. a && not b) (sym (after-stays pre o s np)) (w ∙ sym nm), ap (λ b. afterAll pre o s && (b && not (named mid s))) w ∙ off (afterAll pre o s)))
         where
           off : (a : Bool) → (a && false) ≡ false
           off true = refl
           off false = refl
-
-          or-false : (a b : Bool) → (a || b) ≡ false → (a ≡ false) × (b ≡ false)
-          or-false true b h = contradict refl h
-          or-false false b h = (refl, h)
 
   pub addedOf-within : endsIn (member (activeOf segs whole)) addedOf ≡ true
   unfolding addedOf

@@ -1,8 +1,7 @@
 -- `lum_replay` meets its contract: a walk of its MIR by hand, for the borrow checker covers no function over a struct that holds references. The struct is
 -- taken apart, and `replay_tables` is called on its fields in their order; of that call the proof knows only that it meets its contract. The borrows go to
--- it for good, so nothing comes back
--- but what says each last list. A new field is a new entry of `slots`, `fields`, `held-goes`, `values`, `rows`, `passed`, `Lasts` and `had`, and its lines
--- in `exits` and `walk`.
+-- it for good, so nothing comes back but what says each last list. A new field is a new entry of `slots`, `fields`, `held-goes`, `values`, `rows`, `passed`,
+-- `Lasts` and `had`, and its lines in `exits` and `walk`.
 -- Assumes nothing.
 use Prim.Native.Nat.{ℕ}
 use mathlib.Core.List.{List, [], _∷_}
