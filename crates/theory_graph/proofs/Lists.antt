@@ -81,7 +81,7 @@ map-equal f k [] e = refl
 map-equal f k (x ∷ S) e = ap₂ _∷_ (e x (List·Memᴰ·head refl)) (map-equal f k S (λ a m. e a (List·Memᴰ·tail m)))
 
 -- ---- lists
-pub filter-in : (f : ℕ → Bool) (a : ℕ) (xs : List ℕ) → List·Memᴰ a (filter f xs) → List·Memᴰ a xs × (f a ≡ true)
+pub filter-in : {A : Type 0} (f : A → Bool) (a : A) (xs : List A) → List·Memᴰ a (filter f xs) → List·Memᴰ a xs × (f a ≡ true)
 filter-in f a [] m = absurd (elim m [ ])
 filter-in f a (x ∷ xs) m = go (f x) refl m (filter-in f a xs)
   where
@@ -90,7 +90,7 @@ filter-in f a (x ∷ xs) m = go (f x) refl m (filter-in f a xs)
     go true e (List·Memᴰ·tail m) ih = let (n, q) = ih m in (List·Memᴰ·tail n, q)
     go false e m ih = let (n, q) = ih m in (List·Memᴰ·tail n, q)
 
-pub in-filter : (f : ℕ → Bool) (a : ℕ) (xs : List ℕ) → List·Memᴰ a xs → f a ≡ true → List·Memᴰ a (filter f xs)
+pub in-filter : {A : Type 0} (f : A → Bool) (a : A) (xs : List A) → List·Memᴰ a xs → f a ≡ true → List·Memᴰ a (filter f xs)
 in-filter f a (x ∷ xs) (List·Memᴰ·head p) q = subst (λ (b : Bool). List·Memᴰ a (cond b (x ∷ filter f xs) (filter f xs))) (sym (ap f (sym p) ∙ q)) (List·Memᴰ·head p)
 in-filter f a (x ∷ xs) (List·Memᴰ·tail m) q = go (f x) (in-filter f a xs m q)
   where

@@ -2,7 +2,7 @@
 -- Assumes nothing.
 use Prim.Native.Nat.{suc, zero, ℕ}
 use mathlib.Core.Bool.{Bool, _&&_, false, true}
-use mathlib.Core.List.{List, List·Memᴰ·head, List·Memᴰ·tail, [], _++_, _∷_, map}
+use mathlib.Core.List.{List, List·Memᴰ, List·Memᴰ·head, List·Memᴰ·tail, [], _++_, _∷_, map}
 use mathlib.Core.Logic.{_↔_}
 use mathlib.Core.Path.{_∙_, _≡_, ap, ap₂, refl, subst, sym}
 use lib.Dec.{eqb, ltb}
@@ -18,14 +18,17 @@ use Rattle.theory_graph.proofs.SmallGraphs.{SmallGraph}
 use Rattle.theory_graph.proofs.Transfer.{answer-transfer, small-carries}
 use Rattle.theory_graph.proofs.Uniqueness.{small-bound}
 use Rattle.theory_graph.specs.Contraction.{contract, keptClasses, number}
-use Rattle.theory_graph.specs.Graph.{Edge}
+use Rattle.theory_graph.specs.Graph.{Edge, answer}
 use Rattle.theory_graph.specs.Lists.{member, pairs, range, sum}
 use Rattle.theory_graph.specs.SmallGraph.{endsIn, image}
 use Rattle.call_sizes.specs.Refusal.{Refusal}
 use Rattle.theory_timeline.proofs.Acceptance.{Accepted, Good, accepted-from, accepted-good, events-length, fault-share, pick-inside}
-use Rattle.theory_timeline.specs.DemandThree.{Alike, Allowed, Among, Demand-3, Demand-3-of-calls, Demand3, Faithful, outcomeOf}
+use Rattle.theory_timeline.proofs.Networks.{network-different}
+use Rattle.theory_timeline.proofs.RoadLaws.{different-answer, different-append}
+use Rattle.theory_timeline.specs.DemandThree.{Alike, Allowed, Among, Demand-3, Demand-3-of-calls, Demand3, Faithful, NewRoads, outcomeOf}
 use Rattle.theory_timeline.specs.Events.{networkOf}
 use Rattle.theory_timeline.specs.Replay.{Lent, Outcome, bytes, done, fault, given, openAtEnd, queries, refused, replay}
+use Rattle.theory_timeline.specs.Roads.{DifferentRoads}
 use Rattle.theory_timeline.specs.Windows.{Timeline, Window, active, atStart, kept, network, size, small, stands, windows}
 
 -- ---- one window
@@ -44,20 +47,28 @@ module _ (g : Timeline) (good : Good g) (w : Window) where
   unfolding small contract stands number
   small-is = contract-small (g .junctions) (network g w) (active g w) network-inside (good .active w)
 
+  -- each entry by itself, whatever is added
+  pub faithful-entries : (F : List Edge) → Among (active g w) F → (x y : ℕ) → List·Memᴰ x (active g w) → List·Memᴰ y (active g w)
+      → answer (network g w ++ F) x y ≡ answer ((small g w) .edges ++ image (stands g w) F) (stands g w x) (stands g w y)
+  faithful-entries F h x y mx my =
+      let E = network g w ++ F in
+      let H = (small g w) .edges ++ image (stands g w) F in
+      answer-is E x y
+      ∙ answer-unique H (stands g w x) (stands g w y) (answerByCuts E x y) (answerByCuts H (stands g w x) (stands g w y))
+      (answer-transfer (network g w) (active g w) ((small g w) .nodes) ((small g w) .edges) _ (stands g w) (small-carries _ _ _ _ _ _ small-is) F
+      (within-among (active g w) F h) x y (answerByCuts E x y) mx my .0 (answerByCuts-is E x y))
+      (answerByCuts-is H (stands g w x) (stands g w y))
+      ∙ sym (answer-is H (stands g w x) (stands g w y))
+
+  -- the network with new roads has one edge for each road: the loss of a road is the removal of an entry
+  pub added-different : (F : List Edge) → NewRoads (network g w) F → DifferentRoads (network g w ++ F)
+  added-different F n = different-append (network g w) F (network-different g w) (n .different) (n .fresh)
+
   pub faithful : Faithful g w
-  faithful =
-      record {
-        answers = λ F h x y mx my.
-            let E = network g w ++ F in
-            let H = (small g w) .edges ++ image (stands g w) F in
-            answer-is E x y
-            ∙ answer-unique H (stands g w x) (stands g w y) (answerByCuts E x y) (answerByCuts H (stands g w x) (stands g w y))
-            (answer-transfer (network g w) (active g w) ((small g w) .nodes) ((small g w) .edges) _ (stands g w) (small-carries _ _ _ _ _ _ small-is) F
-            (within-among (active g w) F h) x y (answerByCuts E x y) mx my .0 (answerByCuts-is E x y))
-            (answerByCuts-is H (stands g w x) (stands g w y))
-            ∙ sym (answer-is H (stands g w x) (stands g w y));
-        nodes = small-bound (network g w) (active g w) ((small g w) .nodes) ((small g w) .edges) _ (stands g w) small-is;
-      }
+  faithful = record {
+    answers = λ F h n x y mx my. different-answer (network g w ++ F) (added-different F n) x y ∙ faithful-entries F h x y mx my;
+    nodes = small-bound (network g w) (active g w) ((small g w) .nodes) ((small g w) .edges) _ (stands g w) small-is;
+  }
 
 -- ---- two replays
 pub replay-done : (l : Lent) (p : ℕ) → (replay l p) .code ≡ 0 → (replay l p ≡ done l p) × Accepted l p

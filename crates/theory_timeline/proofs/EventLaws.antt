@@ -1,30 +1,24 @@
--- Laws of lists of events: what they name, what is open after them, the edges of sets of segments, and active junctions.
+-- Laws of lists of events: what they name, what is open after them, the edges of sets of segments, active junctions, and the roads that they name.
 -- Assumes nothing.
 use Prim.Native.Nat.{_+_, suc, ℕ}
-use mathlib.Core.Bool.{Bool, _&&_, _||_, cond, false, true}
+use mathlib.Core.Bool.{Bool, _&&_, _||_, and-false, cond, false, or-assoc, or-true, true}
 use mathlib.Core.List.{List, List·Memᴰ, List·Memᴰ·head, List·Memᴰ·tail, [], _++_, _∷_}
 use mathlib.Core.Logic.{_⊎_, inl, inr}
-use mathlib.Core.Path.{_∙_, _≡_, ap, ap₂, refl, sym}
+use mathlib.Core.Path.{_∙_, _≡_, ap, ap₂, fun-ext, refl, subst, sym}
 use lib.Dec.{eqb}
-use lib.ListN.{getD}
+use lib.ListN.{getD, length}
 use native.Mathlib.Omega.{arith}
-use borrow.Author.Tests.{eqb-true}
-use Rattle.theory_graph.proofs.Booleans.{and-elim, contradict, or-elim}
+use borrow.Author.Tests.{eq-eqb, eqb-true}
+use Rattle.theory_graph.proofs.Booleans.{and-elim, contradict, onBool, or-elim}
 use Rattle.theory_graph.proofs.Lists.{here}
 use Rattle.theory_graph.specs.Cut.{cut}
 use Rattle.theory_graph.specs.Graph.{Edge, NodeSet}
+use Rattle.theory_graph.specs.Lists.{any, range}
 use Rattle.theory_graph.specs.SmallGraph.{endsIn}
-use Rattle.theory_timeline.specs.Events.{Event, activeOf, after, afterAll, closes, ends, named, names, opens, pick}
+use Rattle.theory_timeline.specs.Events.{Event, SegmentSet, activeOf, after, afterAll, closes, ends, named, namedRoads, names, namesRoad, openRoads, opens, pick}
+use Rattle.theory_timeline.specs.Roads.{road}
 
 -- ---- laws
-pub named-append : (a b : List Event) (s : ℕ) → named (a ++ b) s ≡ (named a s || named b s)
-named-append [] b s = refl
-named-append (e ∷ a) b s = ap (λ x. names e s || x) (named-append a b s) ∙ assoc (names e s) (named a s) (named b s)
-  where
-    assoc : (x y z : Bool) → (x || (y || z)) ≡ ((x || y) || z)
-    assoc true y z = refl
-    assoc false y z = refl
-
 -- what is not named stays as it is
 pub after-stays : (evs : List Event) (o : NodeSet) (s : ℕ) → named evs s ≡ false → afterAll evs o s ≡ o s
 after-stays [] o s h = refl
@@ -95,3 +89,35 @@ active-right segs (e ∷ a) b v m = List·Memᴰ·tail (List·Memᴰ·tail (acti
 pub pick-ext : (t u : NodeSet) → ((s : ℕ) → t s ≡ u s) → (i : ℕ) (es : List Edge) → pick t i es ≡ pick u i es
 pick-ext t u h i [] = refl
 pick-ext t u h i (e ∷ es) = ap₂ (λ b l. cond b (e ∷ l) l) (h i) (pick-ext t u h (suc i) es)
+
+-- ---- roads
+module _ (segs : List Edge) where
+  pub named-roads-append : (a b : List Event) (r : ℕ) → namedRoads segs (a ++ b) r ≡ (namedRoads segs a r || namedRoads segs b r)
+  named-roads-append [] b r = refl
+  named-roads-append (e ∷ a) b r = ap (λ x. namesRoad segs e r || x) (named-roads-append a b r) ∙ sym (or-assoc (namesRoad segs e r) (namedRoads segs a r) (namedRoads segs b r))
+
+  -- a road is named where a segment of it is
+  pub road-named : (evs : List Event) (r : ℕ) → namedRoads segs evs r ≡ true → (s : ℕ) × (named evs s ≡ true) × (r ≡ road segs s)
+  road-named [] r h = contradict h refl
+  road-named (e ∷ evs) r h =
+      or-elim (namesRoad segs e r) (namedRoads segs evs r) h
+      (λ p. and-elim (opens e || closes e) (eqb r (road segs (e .1))) p λ a b.
+      (e .1, ap₂ (λ x y. x && y || named evs (e .1)) a (eq-eqb (e .1) (e .1) refl), eqb-true r (road segs (e .1)) b))
+      (λ p. let (s, q, k) = road-named evs r p in (s, ap (λ x. names e s || x) q ∙ or-true (names e s), k))
+
+  pub named-road : (evs : List Event) (s : ℕ) → named evs s ≡ true → namedRoads segs evs (road segs s) ≡ true
+  named-road [] s h = contradict h refl
+  named-road (e ∷ evs) s h =
+      or-elim (names e s) (named evs s) h
+      (λ p. and-elim (opens e || closes e) (eqb s (e .1)) p λ a b.
+      ap₂ (λ x y. x && y || namedRoads segs evs (road segs s)) a (eq-eqb (road segs s) (road segs (e .1)) (ap (road segs) (eqb-true s (e .1) b))))
+      (λ p. ap (λ x. namesRoad segs e (road segs s) || x) (named-road evs s p) ∙ or-true (namesRoad segs e (road segs s)))
+
+  -- a road that is not named stays as it is
+  pub roads-stay : (evs : List Event) (o : SegmentSet) (r : ℕ) → namedRoads segs evs r ≡ false → openRoads segs (afterAll evs o) r ≡ openRoads segs o r
+  unfolding openRoads
+  roads-stay evs o r h = ap (λ f. any f (range 0 (length segs))) (fun-ext λ s. onBool (eqb r (road segs s))
+      (λ t. ap (λ b. b && eqb r (road segs s)) (after-stays evs o s (onBool (named evs s)
+      (λ n. contradict (named-road evs s n) (subst (λ (k : ℕ). namedRoads segs evs k ≡ false) (eqb-true r (road segs s) t) h))
+      (λ n. n))))
+      (λ t. ap (λ b. afterAll evs o s && b) t ∙ and-false (afterAll evs o s) ∙ sym (ap (λ b. o s && b) t ∙ and-false (o s))))

@@ -23,22 +23,23 @@ use Rattle.theory_timeline.proofs.DemandThree.{answers-first, replay-do
 use Rattle.theory_timeline.proofs.EventLaws.{pick-ext}
 use Rattle.theory_timeline.proofs.WindowLaws.{windows-leaf}
 use Rattle.theory_timeline.specs.DemandTwo.{Demand2}
-use Rattle.theory_timeline.specs.Events.{Event, activeOf, asks, closes, ends, named, networkOf, opens, pick}
+use Rattle.theory_timeline.specs.Events.{Event, activeOf, asks, closes, ends, namedRoads, networkOf, openRoads, opens, pick}
 use Rattle.theory_timeline.specs.Replay.{Lent, Outcome, byte, bytes, given, replay}
-use Rattle.theory_timeline.specs.Windows.{Timeline, active, during, edgesOf, event, network, openBefore, size, small}
+use Rattle.theory_timeline.specs.Roads.{road}
+use Rattle.theory_timeline.specs.Windows.{Timeline, active, during, event, network, openBefore, openGraph, size, small}
 
 pub query-read : (segs : List Edge) (q : Event) (o : NodeSet) → (opens q || closes q) ≡ false → (h : ℕ) (H : List Edge) (ρ σ : ℕ → ℕ)
     → SmallGraph (networkOf segs (q ∷ []) o) (activeOf segs (q ∷ [])) h H ρ σ
-    → answerByCuts (pick o 0 segs) (q .0) (q .1) ≡ cond (eqb (σ (q .0)) (σ (q .1))) 2 (cond (reach H (σ (q .0)) (σ (q .1))) 1 0)
+    → answerByCuts (pick (openRoads segs o) 0 segs) (q .0) (q .1) ≡ cond (eqb (σ (q .0)) (σ (q .1))) 2 (cond (reach H (σ (q .0)) (σ (q .1))) 1 0)
 unfolding networkOf activeOf
 query-read segs q o n h H ρ σ g =
     let e : ends segs q ≡ q = ap (λ c. cond c (getD segs (q .1) (0, 0)) q) n in
-    ap (λ E. answerByCuts E (q .0) (q .1)) (pick-ext o (λ s. o s && not (named (q ∷ []) s)) same 0 segs)
+    ap (λ E. answerByCuts E (q .0) (q .1)) (pick-ext (openRoads segs o) (λ r. openRoads segs o r && not (namedRoads segs (q ∷ []) r)) same 0 segs)
     ∙ answer-read (networkOf segs (q ∷ []) o) (activeOf segs (q ∷ [])) h H ρ σ g (q .0) (q .1) (List·Memᴰ·head (ap (λ (e : Edge). e .0) (sym e)))
     (List·Memᴰ·tail (List·Memᴰ·head (ap (λ (e : Edge). e .1) (sym e))))
   where
-    same : (s : ℕ) → o s ≡ (o s && not (((opens q || closes q) && eqb s (q .1)) || false))
-    same s = go (o s) (eqb s (q .1))
+    same : (r : ℕ) → openRoads segs o r ≡ (openRoads segs o r && not (((opens q || closes q) && eqb r (road segs (q .1))) || false))
+    same r = go (openRoads segs o r) (eqb r (road segs (q .1)))
       where
         go : (a c : Bool) → a ≡ (a && not (((opens q || closes q) && c) || false))
         go true c = sym (ap (λ b. not ((b && c) || false)) n)
@@ -51,26 +52,26 @@ during-one g i l = ap (take 1) (drop-cons (g .events) i (0, 0) l)
 
 -- a query by itself, with the segments of o open
 pub alone : (segs : List Edge) (q : Event) (o : NodeSet) → asks q ≡ true → (k : List Event) → k ≡ q ∷ [] → (h : ℕ) (H : List Edge) (ρ σ : ℕ → ℕ)
-    → SmallGraph (networkOf segs k o) (activeOf segs k) h H ρ σ → answer (pick o 0 segs) (q .0) (q .1) ≡ readOff h H
+    → SmallGraph (networkOf segs k o) (activeOf segs k) h H ρ σ → answer (pick (openRoads segs o) 0 segs) (q .0) (q .1) ≡ readOff h H
 unfolding activeOf
 alone segs q o a k e h H ρ σ s =
     let b : (opens q || closes q) ≡ false = not-true (opens q || closes q) a in
     let t : SmallGraph (networkOf segs (q ∷ []) o) (activeOf segs (q ∷ [])) h H ρ σ = subst (λ (k : List Event). SmallGraph (networkOf segs k o) (activeOf segs k) h H ρ σ) e s in
     let f : ends segs q ≡ q = ap (λ (c : Bool). cond c (getD segs (q .1) (0, 0)) q) b in
-    answer-is (pick o 0 segs) (q .0) (q .1)
+    answer-is (pick (openRoads segs o) 0 segs) (q .0) (q .1)
     ∙ query-read segs q o b h H ρ σ t
     ∙ read-off (networkOf segs (q ∷ []) o) (q .0) (q .1) h H ρ σ (subst (λ (v : Event). SmallGraph (networkOf segs (q ∷ []) o) (v .0 ∷ v .1 ∷ []) h H ρ σ) f t)
 
 -- the answer of a query is read off the small graph of its window
 pub leaf : (g : Timeline) → Good g → (i : ℕ) → i < size g → asks (event g i) ≡ true
-    → answer (edgesOf g (openBefore g i)) (event g i .0) (event g i .1) ≡ readOff ((small g (i, 1)) .nodes) ((small g (i, 1)) .edges)
+    → answer (openGraph g i) (event g i .0) (event g i .1) ≡ readOff ((small g (i, 1)) .nodes) ((small g (i, 1)) .edges)
 unfolding network active
 leaf g good i l a = alone (g .segments) (event g i) (openBefore g i) a (during g (i, 1)) (during-one g i l) ((small g (i, 1)) .nodes) ((small g (i, 1)) .edges) _ _ (small-is g good (i, 1))
 
 -- a byte is 3 just where its event is no query
 pub byte-asks : (g : Timeline) (i : ℕ) → not (eqb (byte g i) 3) ≡ asks (event g i)
 unfolding byte answer
-byte-asks g i = go (asks (event g i)) (joined (edgesOf g (openBefore g i)) (event g i .0) (event g i .1)) (twoEdge (edgesOf g (openBefore g i)) (event g i .0) (event g i .1))
+byte-asks g i = go (asks (event g i)) (joined (openGraph g i) (event g i .0) (event g i .1)) (twoEdge (openGraph g i) (event g i .0) (event g i .1))
   where
     go : (a j t : Bool) → not (eqb (cond a (cond j (cond t 2 1) 0) 3) 3) ≡ a
     go true true true = refl
@@ -99,7 +100,7 @@ demand-2 l p r e h =
           ∙ at i u
           ∙ onBool (asks (event (given l) i))
           (λ q. ap (λ (b : ℕ). cond (asks (event (given l) i)) b 3) (leaf (given l) good i u q))
-          (λ q. ap (λ (b : Bool). cond b (answer (edgesOf (given l) (openBefore (given l) i)) (event (given l) i .0) (event (given l) i .1)) 3) q
+          (λ q. ap (λ (b : Bool). cond b (answer (openGraph (given l) i) (event (given l) i .0) (event (given l) i .1)) 3) q
           ∙ sym (ap (λ (b : Bool). cond b (readOff ((small (given l) (i, 1)) .nodes) ((small (given l) (i, 1)) .edges)) 3) q));
     }
   where

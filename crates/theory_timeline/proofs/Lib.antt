@@ -1,3 +1,4 @@
+pub mod RoadLaws
 pub mod EventLaws
 pub mod WindowLaws
 pub mod Networks

@@ -1,16 +1,17 @@
--- The network of a part of a window is the window's with the segments that the window names, the part does not, and that are open before the part.
+-- The network of a part of a window is the window's with the roads that the window names, the part does not, and that are open before the part.
 -- So graphs that are made step by step down the windows are small graphs of the windows' own networks.
--- In order: for lists of events, a window before ++ part ++ behind; for windows of a list; the start; down the tree of windows.
+-- In order: for lists of events, a window before ++ part ++ behind; for windows of a list; one edge for each road; the start; down the tree of windows.
 -- Assumes nothing.
 use Prim.Native.Nat.{_+_, _-_, _≤_, suc, zero, ℕ}
-use mathlib.Core.Bool.{Bool, _&&_, false, not, true}
+use mathlib.Core.Bool.{_&&_, and-false, false, not, true}
 use mathlib.Core.List.{List, List·Memᴰ, [], _++_, _∷_, map}
 use mathlib.Core.Logic.{_⊎_, inl, inr}
 use mathlib.Core.Path.{_∙_, _≡_, ap, ap₂, refl, subst, subst₂, sym}
 use lib.ListN.{drop, getD, take, take-append-drop}
 use lib.Seq.{drop-drop, take-add, take-length, take-nil, take-take}
 use native.Mathlib.Omega.{arith}
-use Rattle.theory_graph.proofs.Booleans.{and-elim, onBool, or-neither}
+use borrow.Author.Tests.{not-true}
+use Rattle.theory_graph.proofs.Booleans.{and-elim, contradict, onBool, or-neither}
 use Rattle.theory_graph.proofs.Composition.{compose}
 use Rattle.theory_graph.proofs.CutEquivalence.{small-cuts-equal}
 use Rattle.theory_graph.proofs.Cuts.{cut-append}
@@ -22,10 +23,12 @@ use Rattle.theory_graph.specs.Cut.{cut}
 use Rattle.theory_graph.specs.Graph.{Edge, NodeSet}
 use Rattle.theory_graph.specs.Lists.{member}
 use Rattle.theory_graph.specs.SmallGraph.{Carries, endsIn, image}
-use Rattle.theory_timeline.proofs.EventLaws.{active-left, active-named, active-right, after-stays, named-append, pick-sum, pick-within}
+use Rattle.theory_timeline.proofs.EventLaws.{active-left, active-named, active-right, named-roads-append, pick-sum, pick-within, road-named, roads-stay}
+use Rattle.theory_timeline.proofs.RoadLaws.{ends-in, ends-sym, names-apart, names-different, open-name, road-same}
 use Rattle.theory_timeline.proofs.WindowLaws.{first-part}
-use Rattle.theory_timeline.specs.DemandThree.{Allowed}
-use Rattle.theory_timeline.specs.Events.{Event, SegmentSet, activeOf, after, afterAll, named, networkOf, pick}
+use Rattle.theory_timeline.specs.DemandThree.{Allowed, NewRoads}
+use Rattle.theory_timeline.specs.Events.{Event, SegmentSet, activeOf, after, afterAll, namedRoads, networkOf, openRoads, pick}
+use Rattle.theory_timeline.specs.Roads.{DifferentRoads, road, sameEnds}
 use Rattle.theory_timeline.specs.Steps.{Made, Part, added, down, top}
 use Rattle.theory_timeline.specs.Windows.{Timeline, Window, active, during, firstPart, network, openBefore, size}
 
@@ -34,37 +37,43 @@ module _ (segs : List Edge) (pre mid post : List Event) (o : SegmentSet) where
   abbrev whole : List Event
   whole = pre ++ (mid ++ post)
 
-  -- the segments that are added
+  abbrev before : SegmentSet
+  before = openRoads segs (afterAll pre o)
+
+  abbrev naming : List Event → SegmentSet
+  naming = namedRoads segs
+
+  -- the roads that are added
   unfoldable pub addedOf : List Edge
-  addedOf = pick (λ s. afterAll pre o s && (named whole s && not (named mid s))) 0 segs
+  addedOf = pick (λ r. before r && (naming whole r && not (naming mid r))) 0 segs
 
   pub networkOf-part : (U : NodeSet) → cut U (networkOf segs whole o ++ addedOf) ≡ cut U (networkOf segs mid (afterAll pre o))
   unfolding networkOf addedOf
   networkOf-part U =
       cut-append U (networkOf segs whole o) addedOf
-      ∙ sym (pick-sum U (λ s. afterAll pre o s && not (named mid s)) (λ s. o s && not (named whole s)) (λ s. afterAll pre o s && (named whole s && not (named mid s))) one 0 segs)
+      ∙ sym (pick-sum U (λ r. before r && not (naming mid r)) (λ r. openRoads segs o r && not (naming whole r)) (λ r. before r && (naming whole r && not (naming mid r))) one 0 segs)
     where
-      one : (s : ℕ) → (((o s && not (named whole s)) ≡ (afterAll pre o s && not (named mid s))) × ((afterAll pre o s && (named whole s && not (named mid s))) ≡ false))
-          ⊎ (((o s && not (named whole s)) ≡ false) × ((afterAll pre o s && (named whole s && not (named mid s))) ≡ (afterAll pre o s && not (named mid s))))
-      one s =
-          onBool (named whole s)
-          (λ w. inr (ap (λ b. o s && not b) w ∙ off (o s), ap (λ b. afterAll pre o s && (b && not (named mid s))) w))
+      one : (r : ℕ) → (((openRoads segs o r && not (naming whole r)) ≡ (before r && not (naming mid r))) × ((before r && (naming whole r && not (naming mid r))) ≡ false))
+          ⊎ (((openRoads segs o r && not (naming whole r)) ≡ false) × ((before r && (naming whole r && not (naming mid r))) ≡ (before r && not (naming mid r))))
+      one r =
+          onBool (naming whole r)
+          (λ w. inr (ap (λ b. openRoads segs o r && not b) w ∙ and-false (openRoads segs o r), ap (λ b. before r && (b && not (naming mid r))) w))
           (λ w.
-          let (np, r) = or-neither (named pre s) (named (mid ++ post) s) (sym (named-append pre (mid ++ post) s) ∙ w) in
-          let (nm, _) = or-neither (named mid s) (named post s) (sym (named-append mid post s) ∙ r) in
-          inl (ap₂ (λ a b. a && not b) (sym (after-stays pre o s np)) (w ∙ sym nm), ap (λ b. afterAll pre o s && (b && not (named mid s))) w ∙ off (afterAll pre o s)))
-        where
-          off : (a : Bool) → (a && false) ≡ false
-          off true = refl
-          off false = refl
+          let (np, q) = or-neither (naming pre r) (naming (mid ++ post) r) (sym (named-roads-append segs pre (mid ++ post) r) ∙ w) in
+          let (nm, _) = or-neither (naming mid r) (naming post r) (sym (named-roads-append segs mid post r) ∙ q) in
+          inl (ap₂ (λ a b. a && not b) (sym (roads-stay segs pre o r np)) (w ∙ sym nm), ap (λ b. before r && (b && not (naming mid r))) w ∙ and-false (before r)))
 
+  -- both ends of an added road are active: it has the ends of the segment that is named
   pub addedOf-within : endsIn (member (activeOf segs whole)) addedOf ≡ true
   unfolding addedOf
   addedOf-within =
-      pick-within (member (activeOf segs whole)) (λ s. afterAll pre o s && (named whole s && not (named mid s))) (λ k. getD segs k (0, 0)) 0 segs
-      (λ k. ap (λ n. getD segs n (0, 0)) (plus k)) λ s t.
-      and-elim (afterAll pre o s) (named whole s && not (named mid s)) t λ a b. and-elim (named whole s) (not (named mid s)) b λ w u.
-      let (p, q) = active-named segs whole s w in (mem-member _ (activeOf segs whole) p, mem-member _ (activeOf segs whole) q)
+      pick-within (member (activeOf segs whole)) (λ r. before r && (naming whole r && not (naming mid r))) (λ k. getD segs k (0, 0)) 0 segs (λ k. ap (λ n. getD segs n (0, 0)) (plus k)) λ r t.
+      and-elim (before r) (naming whole r && not (naming mid r)) t λ a b. and-elim (naming whole r) (not (naming mid r)) b λ w u.
+      let (s, n, e) = road-named segs whole r w in
+      let (p, q) = active-named segs whole s n in
+      ends-in (member (activeOf segs whole)) (getD segs r (0, 0)) (getD segs s (0, 0))
+      (subst (λ (k : ℕ). sameEnds (getD segs k (0, 0)) (getD segs s (0, 0)) ≡ true) (sym e) (ends-sym (getD segs s (0, 0)) (getD segs (road segs s) (0, 0)) (road-same segs s)))
+      (mem-member _ (activeOf segs whole) p, mem-member _ (activeOf segs whole) q)
     where
       plus : (k : ℕ) → k ≡ 0 + k
       plus k = omega arith
@@ -131,14 +140,13 @@ module _ (g : Timeline) (w c : Window) (h : Part w c) where
   pub network-part : (U : NodeSet) → cut U (network g w ++ added g w c) ≡ cut U (network g c)
   unfolding network added addedOf
   network-part U =
-      subst₂ (λ (l : List Event) (o : SegmentSet). cut U
-      (networkOf (g .segments) l (openBefore g (w .0)) ++ pick (λ s. o s && (named l s && not (named (during g c) s))) 0 (g .segments)) ≡ cut U (networkOf (g .segments) (during g c) o))
+      subst₂ (λ (l : List Event) (o : SegmentSet). cut U (networkOf (g .segments) l (openBefore g (w .0)) ++ pick (λ r. openRoads (g .segments) o r && (namedRoads (g .segments) l r && not (namedRoads (g .segments) (during g c) r))) 0 (g .segments)) ≡ cut U (networkOf (g .segments) (during g c) o))
       split opened (networkOf-part (g .segments) pre (during g c) post (openBefore g (w .0)) U)
 
   pub added-active : endsIn (member (active g w)) (added g w c) ≡ true
   unfolding active added addedOf
   added-active =
-      subst₂ (λ (l : List Event) (o : SegmentSet). endsIn (member (activeOf (g .segments) l)) (pick (λ s. o s && (named l s && not (named (during g c) s))) 0 (g .segments)) ≡ true)
+      subst₂ (λ (l : List Event) (o : SegmentSet). endsIn (member (activeOf (g .segments) l)) (pick (λ r. openRoads (g .segments) o r && (namedRoads (g .segments) l r && not (namedRoads (g .segments) (during g c) r))) 0 (g .segments)) ≡ true)
       split opened (addedOf-within (g .segments) pre (during g c) post (openBefore g (w .0)))
 
   pub active-part : (v : ℕ) → List·Memᴰ v (active g c) → List·Memᴰ v (active g w)
@@ -154,7 +162,37 @@ module _ (g : Timeline) (w c : Window) (h : Part w c) where
       small-cuts-equal _ _ network-part (active g c) n′ H′ _ _
       (compose (network g w) (active g w) n H ρ σ k (added g w c) added-active (active g c) active-part n′ H′ ρ′ σ′ s)
 
--- the whole list's network: the segments that are open at the start and that no event names
+-- ---- one edge for each road
+module _ (g : Timeline) (w : Window) where
+  abbrev around : SegmentSet
+  around r = openRoads (g .segments) (openBefore g (w .0)) r && not (namedRoads (g .segments) (during g w) r)
+
+  around-name : (r : ℕ) → around r ≡ true → (road (g .segments) r ≡ r) × (namedRoads (g .segments) (during g w) r ≡ false)
+  around-name r h = and-elim (openRoads (g .segments) (openBefore g (w .0)) r) (not (namedRoads (g .segments) (during g w) r)) h λ p q.
+      (open-name (g .segments) (openBefore g (w .0)) r p .0, not-true (namedRoads (g .segments) (during g w) r) q)
+
+  pub network-different : DifferentRoads (network g w)
+  unfolding network networkOf
+  network-different = names-different (g .segments) around (λ r h. around-name r h .0)
+
+  -- what a step adds are new roads, as demand 3 adds them
+  pub added-new : (c : Window) → NewRoads (network g w) (added g w c)
+  unfolding network networkOf added
+  added-new c =
+      record {
+        different = names-different (g .segments) more (λ r h. more-name r h .0);
+        fresh = names-apart (g .segments) around more (λ r h. around-name r h .0) (λ r h. more-name r h .0)
+            (λ r h. onBool (more r) (λ t. contradict (more-name r t .1) (around-name r h .1)) (λ t. t));
+      }
+    where
+      more : SegmentSet
+      more r = openRoads (g .segments) (openBefore g (c .0)) r && (namedRoads (g .segments) (during g w) r && not (namedRoads (g .segments) (during g c) r))
+
+      more-name : (r : ℕ) → more r ≡ true → (road (g .segments) r ≡ r) × (namedRoads (g .segments) (during g w) r ≡ true)
+      more-name r h = and-elim (openRoads (g .segments) (openBefore g (c .0)) r) (namedRoads (g .segments) (during g w) r && not (namedRoads (g .segments) (during g c) r)) h λ p q.
+          (open-name (g .segments) (openBefore g (c .0)) r p .0, and-elim (namedRoads (g .segments) (during g w) r) (not (namedRoads (g .segments) (during g c) r)) q λ a b. a)
+
+-- the whole list's network: the roads that are open at the start and that no event names
 pub network-start : (g : Timeline) → network g (0, size g) ≡ networkOf (g .segments) (g .events) (g .start)
 unfolding network during openBefore
 network-start g = ap (λ (l : List Event). networkOf (g .segments) l (g .start)) (take-length (g .events))

@@ -1,4 +1,4 @@
--- The words of events: what a tag says, which segments the events beside a part add, and the words of a part of a list.
+-- The words of events: what a tag says, which roads the events beside a part add, and the words of a part of a list.
 -- In order: seeking; what a tag says; a key between two events; one key alone; in front of the part, behind it, both; lists of words.
 -- Assumes nothing.
 use Prim.Native.Nat.{_%_, _*_, _+_, _-_, _/_, _<_, _≤_, suc, zero, ℕ}
@@ -20,12 +20,13 @@ use Rattle.theory_graph.specs.Cut.{crosses, cut}
 use Rattle.theory_graph.specs.Graph.{Edge, NodeSet}
 use Rattle.theory_graph.specs.Lists.{any, range}
 use Rattle.theory_graph.specs.SmallGraph.{image}
-use Rattle.theory_timeline.proofs.EventLaws.{after-stays, pick-ext, pick-sum}
+use Rattle.theory_timeline.proofs.EventLaws.{pick-ext, pick-sum, roads-stay}
 use Rattle.theory_timeline.proofs.Networks.{after-append}
-use Rattle.theory_timeline.specs.Events.{Event, SegmentSet, after, afterAll, asks, closes, named, opens, pick}
+use Rattle.theory_timeline.proofs.RoadLaws.{ends-cross, road-most, road-same}
+use Rattle.theory_timeline.specs.Events.{Event, SegmentSet, after, afterAll, asks, closes, namedRoads, openRoads, opens, pick}
 use Rattle.theory_timeline.specs.Steps.{Part, added}
 use Rattle.theory_timeline.specs.Tags.{adds, addsEvent, bit, endsAt, eventWords, isOpenAfter, key, last, namesKey, next, pickEvents, seekLast, tag, wasOpen, word}
-use Rattle.theory_timeline.specs.Windows.{Timeline, Window, during, event, openBefore, size}
+use Rattle.theory_timeline.specs.Windows.{Timeline, Window, during, event, openBefore, roadsBefore, size}
 
 -- ---- seeking
 module _ (f : ℕ → Bool) where
@@ -84,9 +85,9 @@ says t k a b e =
     most false = omega arith
 
 module _ (g : Timeline) (i : ℕ) where
-  pub tag-says : Says (tag g i) (key g i) (openBefore g i (key g i)) (openBefore g (i + 1) (key g i))
+  pub tag-says : Says (tag g i) (key g i) (roadsBefore g i (key g i)) (roadsBefore g (i + 1) (key g i))
   unfolding tag
-  tag-says = says _ (key g i) (openBefore g i (key g i)) (openBefore g (i + 1) (key g i)) refl
+  tag-says = says _ (key g i) (roadsBefore g i (key g i)) (roadsBefore g (i + 1) (key g i)) refl
 
   -- the words of a query, and of an event that opens or closes
   pub word-query : (k : ℕ) → asks (event g i) ≡ true → word g k i ≡ 0
@@ -143,29 +144,29 @@ module _ (g : Timeline) where
   abbrev pub namesIn : ℕ → ℕ → SegmentSet
   namesIn a n r = any (namesKey g r) (range a n)
 
-  named-range : (a n r : ℕ) → a + n ≤ size g → named (take n (drop a (g .events))) r ≡ namesIn a n r
+  named-range : (a n r : ℕ) → a + n ≤ size g → namedRoads (g .segments) (take n (drop a (g .events))) r ≡ namesIn a n r
   named-range a zero r l = refl
   named-range a (suc n) r l =
-      ap (λ (e : List Event). named (take (suc n) e) r) (drop-cons (g .events) a (0, 0) (omega arith))
+      ap (λ (e : List Event). namedRoads (g .segments) (take (suc n) e) r) (drop-cons (g .events) a (0, 0) (omega arith))
       ∙ ap (λ b. namesKey g r a || b) (named-range (suc a) n r (omega arith))
 
-  pub named-during : (w : Window) (r : ℕ) → w .0 + w .1 ≤ size g → named (during g w) r ≡ namesIn (w .0) (w .1) r
+  pub named-during : (w : Window) (r : ℕ) → w .0 + w .1 ≤ size g → namedRoads (g .segments) (during g w) r ≡ namesIn (w .0) (w .1) r
   unfolding during
   named-during w r l = named-range (w .0) (w .1) r l
 
   -- a key that none of n events from a on names stays as it is
-  quiet : (a n r : ℕ) → a + n ≤ size g → namesIn a n r ≡ false → openBefore g (a + n) r ≡ openBefore g a r
+  quiet : (a n r : ℕ) → a + n ≤ size g → namesIn a n r ≡ false → roadsBefore g (a + n) r ≡ roadsBefore g a r
   unfolding openBefore
   quiet a n r l h =
-      ap (λ (o : SegmentSet). o r)
+      ap (λ (o : SegmentSet). openRoads (g .segments) o r)
       (ap (λ (e : List Event). afterAll e (g .start)) (take-add a n (g .events)) ∙ sym (after-append (take a (g .events)) (take n (drop a (g .events))) (g .start)))
-      ∙ after-stays (take n (drop a (g .events))) (afterAll (take a (g .events)) (g .start)) r (named-range a n r l ∙ h)
+      ∙ roads-stay (g .segments) (take n (drop a (g .events))) (afterAll (take a (g .events)) (g .start)) r (named-range a n r l ∙ h)
 
   -- from event a to event b
-  pub quiet-to : (a b r : ℕ) → a ≤ b → b ≤ size g → ((j : ℕ) → a ≤ j → j < b → namesKey g r j ≡ false) → openBefore g b r ≡ openBefore g a r
+  pub quiet-to : (a b r : ℕ) → a ≤ b → b ≤ size g → ((j : ℕ) → a ≤ j → j < b → namesKey g r j ≡ false) → roadsBefore g b r ≡ roadsBefore g a r
   quiet-to a b r l m h =
       let z : a + (b - a) ≡ b = omega arith in
-      ap (λ (j : ℕ). openBefore g j r) (sym z) ∙ quiet a (b - a) r (omega arith) (any-none (namesKey g r) a (b - a) (λ j p q. h j p (omega arith)))
+      ap (λ (j : ℕ). roadsBefore g j r) (sym z) ∙ quiet a (b - a) r (omega arith) (any-none (namesKey g r) a (b - a) (λ j p q. h j p (omega arith)))
 
   -- after one event more
   pub open-next : (i : ℕ) → i < size g → openBefore g (i + 1) ≡ after (event g i) (openBefore g i)
@@ -255,12 +256,12 @@ named-snoc g a k r =
     let e : suc k ≡ k + 1 = omega arith in
     ap (λ (n : ℕ). namesIn g a n r) e ∙ any-add (namesKey g r) a k 1 ∙ ap (λ (x : Bool). namesIn g a k r || x) (or-false (namesKey g r (a + k)))
 
-module _ (g : Timeline) (w c : Window) (h : Part w c) (fit : w .0 + w .1 ≤ size g) (fine : (i : ℕ) → i < size g → asks (event g i) ≡ false → key g i < length (g .segments)) where
+module _ (g : Timeline) (w c : Window) (h : Part w c) (fit : w .0 + w .1 ≤ size g) (fine : (i : ℕ) → i < size g → asks (event g i) ≡ false → event g i .1 < length (g .segments)) where
   abbrev segs : List Edge
   segs = g .segments
 
   abbrev O : SegmentSet
-  O = openBefore g (c .0)
+  O = roadsBefore g (c .0)
 
   abbrev f : ℕ → Bool
   f = addsEvent g w c
@@ -270,7 +271,7 @@ module _ (g : Timeline) (w c : Window) (h : Part w c) (fit : w .0 + w .1 ≤ siz
   unfolding adds
   query-not i q = ap (λ (t : ℕ). ltb 0 t && cond (ltb i (c .0)) (leb (c .0 + c .1) (word g 1 i) && isOpenAfter t) (leb (word g 2 i) (w .0) && wasOpen t)) (word-query g i 0 q)
 
-  front-adds : (i : ℕ) → asks (event g i) ≡ false → i < c .0 → f i ≡ (leb (c .0 + c .1) (next g i) && openBefore g (i + 1) (key g i))
+  front-adds : (i : ℕ) → asks (event g i) ≡ false → i < c .0 → f i ≡ (leb (c .0 + c .1) (next g i) && roadsBefore g (i + 1) (key g i))
   unfolding adds
   front-adds i q l =
       let (a, b, _) = word-change g i q in
@@ -279,7 +280,7 @@ module _ (g : Timeline) (w c : Window) (h : Part w c) (fit : w .0 + w .1 ≤ siz
       ∙ ap₂ (λ (t x : ℕ). ltb 0 t && (leb (c .0 + c .1) x && isOpenAfter t)) a b
       ∙ ap₂ (λ (t u : Bool). t && (leb (c .0 + c .1) (next g i) && u)) (s .change) (s .is)
 
-  back-adds : (i : ℕ) → asks (event g i) ≡ false → c .0 ≤ i → f i ≡ (leb (last g i) (w .0) && openBefore g i (key g i))
+  back-adds : (i : ℕ) → asks (event g i) ≡ false → c .0 ≤ i → f i ≡ (leb (last g i) (w .0) && roadsBefore g i (key g i))
   unfolding adds
   back-adds i q l =
       let (a, _, b) = word-change g i q in
@@ -292,7 +293,8 @@ module _ (g : Timeline) (w c : Window) (h : Part w c) (fit : w .0 + w .1 ≤ siz
   edge-is : (U : NodeSet) (i : ℕ) → asks (event g i) ≡ false
       → crosses (U (endsAt g i .0)) (U (endsAt g i .1)) ≡ crosses (U (getD segs (key g i) (0, 0) .0)) (U (getD segs (key g i) (0, 0) .1))
   edge-is U i q = ap (λ (e : Edge). crosses (U (e .0)) (U (e .1)))
-      (ap (λ (b : Bool). cond b (getD segs (key g i) (0, 0)) (event g i)) (not-false (opens (event g i) || closes (event g i)) q))
+      (ap (λ (b : Bool). cond b (getD segs (event g i .1) (0, 0)) (event g i)) (not-false (opens (event g i) || closes (event g i)) q))
+      ∙ ends-cross U (getD segs (event g i .1) (0, 0)) (getD segs (key g i) (0, 0)) (road-same segs (event g i .1))
 
   -- one event: the set with it and the set without it differ at most in its key
   module _ (U : NodeSet) (i : ℕ) (li : i < size g) (t s : SegmentSet) where
@@ -306,7 +308,7 @@ module _ (g : Timeline) (w c : Window) (h : Part w c) (fit : w .0 + w .1 ≤ siz
         go : asks (event g i) ≡ false → ((f i ≡ true) × (t (key g i) ≡ true) × (s (key g i) ≡ false)) ⊎ ((f i ≡ false) × (t (key g i) ≡ s (key g i)))
             → cut U (pick t 0 segs) ≡ cut U (pickEvents f (endsAt g) i 1) + cut U (pick s 0 segs)
         go q (inl (a, b, d)) =
-            let one = one-more U segs t s (key g i) same (fine i li q) b d in
+            let one = one-more U segs t s (key g i) same (omega (arith, fine i li q, road-most segs (event g i .1))) b d in
             let e : cut U (cond (f i) (endsAt g i ∷ []) []) ≡ crosses (U (endsAt g i .0)) (U (endsAt g i .1)) + 0 = ap (λ (b : Bool). cut U (cond b (endsAt g i ∷ []) [])) a in
             omega (arith, one, e, edge-is U i q)
         go q (inr (a, b)) =
@@ -326,8 +328,8 @@ module _ (g : Timeline) (w c : Window) (h : Part w c) (fit : w .0 + w .1 ≤ siz
       let gap : (j : ℕ) → i + 1 ≤ j → j < c .0 + c .1 → namesKey g (key g i) j ≡ false = λ j p l. next-before g i j p (omega arith) in
       let n1 : namesIn g (suc i) k (key g i) ≡ false = any-none (namesKey g (key g i)) (suc i) k (λ j p l. gap j (omega arith) (omega arith)) in
       let n2 : namesIn g (c .0) (c .1) (key g i) ≡ false = any-none (namesKey g (key g i)) (c .0) (c .1) (λ j p l. gap j (omega arith) l) in
-      let o : O (key g i) ≡ openBefore g (i + 1) (key g i) = quiet-to g (i + 1) (c .0) (key g i) (omega arith) (omega arith) (λ j p l. gap j p (omega arith)) in
-      onBool (openBefore g (i + 1) (key g i))
+      let o : O (key g i) ≡ roadsBefore g (i + 1) (key g i) = quiet-to g (i + 1) (c .0) (key g i) (omega arith) (omega arith) (λ j p l. gap j p (omega arith)) in
+      onBool (roadsBefore g (i + 1) (key g i))
       (λ z. inl (
         front-adds i q (omega arith) ∙ ap₂ _&&_ y z,
         ap₂ (λ (a b : Bool). a && b) (o ∙ z) (ap₂ (λ (a b : Bool). a && not b) (ap (λ (b : Bool). b || namesIn g (suc i) k (key g i)) (names-own g i q)) n2),
@@ -342,7 +344,7 @@ module _ (g : Timeline) (w c : Window) (h : Part w c) (fit : w .0 + w .1 ≤ siz
       let a = next-low g i in
       let t = next-named g i (omega arith) in
       inr (
-        front-adds i q (omega arith) ∙ ap (λ (b : Bool). b && openBefore g (i + 1) (key g i)) y,
+        front-adds i q (omega arith) ∙ ap (λ (b : Bool). b && roadsBefore g (i + 1) (key g i)) y,
         onBool (ltb (next g i) (c .0))
             (λ u. let v = ltb-true (next g i) (c .0) u in
             let n : namesIn g (suc i) k (key g i) ≡ true = any-in (namesKey g (key g i)) (range-mem (next g i) (suc i) k (omega arith) (omega arith)) t in
@@ -384,8 +386,8 @@ module _ (g : Timeline) (w c : Window) (h : Part w c) (fit : w .0 + w .1 ≤ siz
       let gap : (j : ℕ) → w .0 ≤ j → j < i → namesKey g r j ≡ false = λ j p l. last-before g i j (omega arith) l in
       let n1 : namesIn g b k r ≡ false = any-none (namesKey g r) b k (λ j p l. gap j (omega arith) l) in
       let n2 : namesIn g (w .0) (b - w .0) r ≡ false = any-none (namesKey g r) (w .0) (b - w .0) (λ j p l. gap j p (omega arith)) in
-      let o : O r ≡ openBefore g i r = sym (quiet-to g (c .0) i r (omega arith) (omega arith) (λ j p l. gap j (omega arith) l)) in
-      onBool (openBefore g i r)
+      let o : O r ≡ roadsBefore g i r = sym (quiet-to g (c .0) i r (omega arith) (omega arith) (λ j p l. gap j (omega arith) l)) in
+      onBool (roadsBefore g i r)
       (λ z. inl (
         back-adds i q (omega arith) ∙ ap₂ _&&_ y z,
         ap₂ (λ (x y : Bool). x && y) (o ∙ z) (ap₂ (λ (x y : Bool). x && not y) (ap (λ (x : Bool). x) (more ∙ ap₂ _||_ n1 (names-own g i q))) n2),
@@ -399,7 +401,7 @@ module _ (g : Timeline) (w c : Window) (h : Part w c) (fit : w .0 + w .1 ≤ siz
       let v = last-low g i in
       let t = last-named g i (omega arith) in
       inr (
-        back-adds i q (omega arith) ∙ ap (λ (x : Bool). x && openBefore g i r) y,
+        back-adds i q (omega arith) ∙ ap (λ (x : Bool). x && roadsBefore g i r) y,
         onBool (ltb (last g i - 1) b)
             (λ u. let z = ltb-true (last g i - 1) b u in
             let n : namesIn g (w .0) (b - w .0) r ≡ true = any-in (namesKey g r) (range-mem (last g i - 1) (w .0) (b - w .0) (omega arith) (omega arith)) t in
@@ -433,7 +435,7 @@ module _ (g : Timeline) (w c : Window) (h : Part w c) (fit : w .0 + w .1 ≤ siz
       omega (arith, pick-snoc U f (endsAt g) (c .0 + c .1) k)
 
   -- ---- both
-  -- the events that pass have the edges of the added segments
+  -- the events that pass have the edges of the added roads
   pub events-added : (U : NodeSet)
       → cut U (pickEvents f (endsAt g) (w .0) (c .0 - w .0)) + cut U (pickEvents f (endsAt g) (c .0 + c .1) (w .0 + w .1 - (c .0 + c .1))) ≡ cut U (added g w c)
   unfolding added
@@ -442,7 +444,7 @@ module _ (g : Timeline) (w c : Window) (h : Part w c) (fit : w .0 + w .1 ≤ siz
       let b = h .before in
       let one = front-cut U (c .0 - w .0) (w .0) (omega arith) (omega arith) in
       let two = back-cut U (w .0 + w .1 - (c .0 + c .1)) (omega arith) in
-      let sum = pick-sum U (keys O (named (during g w)) (named (during g c))) (ahead (w .0) (c .0 - w .0)) (behind (w .0 + w .1 - (c .0 + c .1))) both 0 segs in
+      let sum = pick-sum U (keys O (namedRoads segs (during g w)) (namedRoads segs (during g c))) (ahead (w .0) (c .0 - w .0)) (behind (w .0 + w .1 - (c .0 + c .1))) both 0 segs in
       omega arith
     where
       x : ℕ
@@ -451,16 +453,16 @@ module _ (g : Timeline) (w c : Window) (h : Part w c) (fit : w .0 + w .1 ≤ siz
       y : ℕ
       y = w .0 + w .1 - (c .0 + c .1)
 
-      both : (r : ℕ) → ((ahead (w .0) (c .0 - w .0) r ≡ keys O (named (during g w)) (named (during g c)) r) × (behind (w .0 + w .1 - (c .0 + c .1)) r ≡ false))
-          ⊎ ((ahead (w .0) (c .0 - w .0) r ≡ false) × (behind (w .0 + w .1 - (c .0 + c .1)) r ≡ keys O (named (during g w)) (named (during g c)) r))
+      both : (r : ℕ) → ((ahead (w .0) (c .0 - w .0) r ≡ keys O (namedRoads segs (during g w)) (namedRoads segs (during g c)) r) × (behind (w .0 + w .1 - (c .0 + c .1)) r ≡ false))
+          ⊎ ((ahead (w .0) (c .0 - w .0) r ≡ false) × (behind (w .0 + w .1 - (c .0 + c .1)) r ≡ keys O (namedRoads segs (during g w)) (namedRoads segs (during g c)) r))
       both r =
           let a = h .after in
           let b = h .before in
           let e1 : w .1 ≡ x + (c .1 + y) = omega arith in
           let e2 : w .0 + x ≡ c .0 = omega arith in
           let e3 : c .0 + c .1 - w .0 ≡ x + c .1 = omega arith in
-          let nc : named (during g c) r ≡ namesIn g (c .0) (c .1) r = named-during g c r (omega arith) in
-          let nw : named (during g w) r ≡ (namesIn g (w .0) x r || (namesIn g (c .0) (c .1) r || namesIn g (c .0 + c .1) y r)) =
+          let nc : namedRoads segs (during g c) r ≡ namesIn g (c .0) (c .1) r = named-during g c r (omega arith) in
+          let nw : namedRoads segs (during g w) r ≡ (namesIn g (w .0) x r || (namesIn g (c .0) (c .1) r || namesIn g (c .0 + c .1) y r)) =
           named-during g w r fit ∙ ap (λ (n : ℕ). namesIn g (w .0) n r) e1 ∙ any-add (namesKey g r) (w .0) x (c .1 + y)
           ∙ ap (λ (z : Bool). namesIn g (w .0) x r || z) (ap (λ (n : ℕ). namesIn g n (c .1 + y) r) e2 ∙ any-add (namesKey g r) (c .0) (c .1) y) in
           let nb : namesIn g (w .0) (c .0 + c .1 - w .0) r ≡ (namesIn g (w .0) x r || namesIn g (c .0) (c .1) r) =

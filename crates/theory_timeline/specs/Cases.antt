@@ -1,4 +1,4 @@
--- The cases that document 01 marks P and those of document 02, Nos. 1 and 2, as one table: what the definitions of the calls give, and what the documents say.
+-- The cases that document 01 marks P and those of document 02, Nos. 1 to 3, as one table: what the definitions of the calls give, and what the documents say.
 -- proofs/Cases proves every row.
 -- A replay is seen by its whole outcome but for the work table, a contraction by its outcome but for the work table, the program by the bytes that it writes.
 -- Assumes nothing: these are definitions.
@@ -98,9 +98,9 @@ table =
     ∷ (replayOf 2 [] [] (1 ∷ []) (1 ∷ []) 8, replayed (0, 0, 1, 0, 1, 2 ∷ []))
     -- 0 and 1, nothing open: 0
     ∷ (replayOf 2 [] [] (0 ∷ []) (1 ∷ []) 8, replayed (0, 0, 1, 0, 2, 0 ∷ []))
-    -- one segment 0-1 open: 1; two such: 2
+    -- one segment 0-1 open: 1; two such, which are one road: 1
     ∷ (replayOf 2 (0 ∷ []) (1 ∷ []) (65535 ∷ 0 ∷ []) (0 ∷ 1 ∷ []) 8, replayed (0, 0, 1, 1, 6, 3 ∷ 1 ∷ []))
-    ∷ (replayOf 2 (0 ∷ 0 ∷ []) (1 ∷ 1 ∷ []) (65535 ∷ 65535 ∷ 0 ∷ []) (0 ∷ 1 ∷ 1 ∷ []) 8, replayed (0, 0, 1, 2, 9, 3 ∷ 3 ∷ 2 ∷ []))
+    ∷ (replayOf 2 (0 ∷ 0 ∷ []) (1 ∷ 1 ∷ []) (65535 ∷ 65535 ∷ 0 ∷ []) (0 ∷ 1 ∷ 1 ∷ []) 8, replayed (0, 0, 1, 2, 10, 3 ∷ 3 ∷ 1 ∷ []))
     -- segment 0-0 open, N = 2: query of 0 and 1 gives 0
     ∷ (replayOf 2 (0 ∷ []) (0 ∷ []) (65535 ∷ 0 ∷ []) (0 ∷ 1 ∷ []) 8, replayed (0, 0, 1, 1, 5, 3 ∷ 0 ∷ []))
     -- path 0-1-2 to 0, 2: two nodes, edge 0 1

@@ -1,7 +1,7 @@
 -- Demand 3: one statement about two replays, with its parts (a) to (e). Its proof is proofs/DemandThree.
--- It cites, of Replay: Lent, given, Outcome, replay; of Call: outcome; of Windows: windows, network, active, small, stands; of the crate theory_graph:
--- answer, the answer of two nodes, image, the edges of a list with their ends moved, different, the number of different entries, and mostNodes, the bound
--- 2k - 2 (k where k is below 2).
+-- It cites, of Replay: Lent, given, Outcome, replay; of Call: outcome; of Windows: windows, network, active, small, stands; of Roads: roadAnswer, the
+-- answer of two junctions by the loss of roads, DifferentRoads, Apart; of the crate theory_graph: answer, the answer of two nodes by the loss of edges, image,
+-- the edges of a list with their ends moved, different, the number of different entries, and mostNodes, the bound 2k - 2 (k where k is below 2).
 -- Assumes nothing: these are definitions.
 use Prim.Native.Nat.{_≤_, ℕ}
 use mathlib.Core.List.{List, List·Memᴰ, _++_, map}
@@ -13,6 +13,7 @@ use Rattle.theory_graph.specs.Lists.{sum}
 use Rattle.theory_graph.specs.SmallGraph.{different, image, mostNodes}
 use Rattle.theory_timeline.specs.Call.{outcome}
 use Rattle.theory_timeline.specs.Replay.{Lent, Outcome, given, replay}
+use Rattle.theory_timeline.specs.Roads.{Apart, DifferentRoads, roadAnswer}
 use Rattle.theory_timeline.specs.Windows.{Timeline, Window, active, kept, network, small, stands, windows}
 use Rattle.theory_timeline.specs.declared.ReplayReply.{ReplayReply}
 
@@ -25,10 +26,16 @@ Allowed p = (4 ≤ p) × (p ≤ 12)
 abbrev pub Among : List ℕ → List Edge → Type 0
 Among S F = (e : Edge) → List·Memᴰ e F → List·Memᴰ (e .0) S × List·Memᴰ (e .1) S
 
--- (a), (b): a window's small graph answers as its network does, whatever is added between its active junctions, and it is small
+-- "Edges that demand 3 adds are then of different roads, none in the window's network": F repeats no pair of ends, and has none of a road of E
+pub record NewRoads (E F : List Edge) : Type 0 where
+  pub different : DifferentRoads F
+  pub fresh : (e : Edge) → List·Memᴰ e E → Apart e F
+
+-- (a), (b): a window's small graph answers as its network does, whatever roads are added between its active junctions, and it is small.
+-- In the network the answer is by the loss of roads; "in the small graph each edge, an added one too, counts as a road of its own".
 pub record Faithful (g : Timeline) (w : Window) : Type 0 where
-  pub answers : (F : List Edge) → Among (active g w) F → (x y : ℕ) → List·Memᴰ x (active g w) → List·Memᴰ y (active g w)
-      → answer (network g w ++ F) x y ≡ answer ((small g w) .edges ++ image (stands g w) F) (stands g w x) (stands g w y)
+  pub answers : (F : List Edge) → Among (active g w) F → NewRoads (network g w) F → (x y : ℕ) → List·Memᴰ x (active g w) → List·Memᴰ y (active g w)
+      → roadAnswer (network g w ++ F) x y ≡ answer ((small g w) .edges ++ image (stands g w) F) (stands g w x) (stands g w y)
   pub nodes : (small g w) .nodes ≤ mostNodes (different (active g w))
 
 -- lent alike but for ignored entries, the answer table and the work table (that M is the same follows where both are accepted)

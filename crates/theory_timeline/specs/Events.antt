@@ -1,11 +1,13 @@
--- Document 01, "Network and list": the events, which segments are open, and what an event or a list of events names.
+-- Document 01, "Network and list": the events, which segments are open, and what an event or a list of events names; and of document 02, No. 3, which roads.
 -- An event is its X and its Y. Assumes nothing: these are definitions.
 use Prim.Native.Nat.{suc, ℕ}
 use mathlib.Core.Bool.{Bool, _&&_, _||_, cond, false, not}
 use mathlib.Core.List.{List, [], _∷_}
 use lib.Dec.{eqb, ltb}
-use lib.ListN.{getD}
+use lib.ListN.{getD, length}
 use Rattle.theory_graph.specs.Graph.{Edge}
+use Rattle.theory_graph.specs.Lists.{any, range}
+use Rattle.theory_timeline.specs.Roads.{road}
 use Rattle.theory_timeline.specs.declared.Kind.{Kind}
 use Rattle.theory_timeline.specs.declared.Kind.the-variants.{Closes, Nothing, Opens, Query}
 
@@ -27,7 +29,7 @@ abbrev pub asks : Event → Bool
 asks e = not (opens e || closes e)
 
 -- ---- segments
--- a set of segments, by their numbers
+-- a set of segments by their numbers, or of roads by their names
 abbrev pub SegmentSet : Type 0
 SegmentSet = ℕ → Bool
 
@@ -48,7 +50,21 @@ abbrev pub afterAll : List Event → SegmentSet → SegmentSet
 afterAll [] o = o
 afterAll (e ∷ evs) o = afterAll evs (after e o)
 
--- the edges of the segments of a set, in ascending order; the first of the list has the number i
+-- ---- roads, by their names
+-- the open roads, where the segments of o are open: "open while any of its segments is"
+unfoldable pub openRoads : List Edge → SegmentSet → SegmentSet
+openRoads segs o r = any (λ s. o s && eqb r (road segs s)) (range 0 (length segs))
+
+-- the event opens or closes a segment of road r
+abbrev pub namesRoad : List Edge → Event → ℕ → Bool
+namesRoad segs e r = (opens e || closes e) && eqb r (road segs (e .1))
+
+-- some event of the list does
+abbrev pub namedRoads : List Edge → List Event → SegmentSet
+namedRoads segs [] r = false
+namedRoads segs (e ∷ evs) r = namesRoad segs e r || namedRoads segs evs r
+
+-- the edges of the segments of a set, or of the roads of a set of names, in ascending order; the first of the list has the number i
 abbrev pub pick : SegmentSet → ℕ → List Edge → List Edge
 pick t i [] = []
 pick t i (e ∷ es) = cond (t i) (e ∷ pick t (suc i) es) (pick t (suc i) es)
@@ -58,9 +74,9 @@ abbrev pub ends : List Edge → Event → ℕ × ℕ
 ends segs e = cond (opens e || closes e) (getD segs (e .1) (0, 0)) e
 
 -- ---- a list of events, where the segments of o are open before it
--- its network: the segments that are open before it and that none of its events names
+-- its network: "one edge for each road that is open before it and that has no segment named in it"
 unfoldable pub networkOf : List Edge → List Event → SegmentSet → List Edge
-networkOf segs evs o = pick (λ s. o s && not (named evs s)) 0 segs
+networkOf segs evs o = pick (λ r. openRoads segs o r && not (namedRoads segs evs r)) 0 segs
 
 -- its active junctions, in the order of its events
 unfoldable pub activeOf : List Edge → List Event → List ℕ

@@ -11,13 +11,13 @@ use Rattle.theory_graph.specs.Lists.{filter, over, pairs, range}
 use Rattle.call_sizes.specs.Refusal.{Refusal, Row, firstFault, row, seek, shortRows, badEnds, badStart}
 use Rattle.call_sizes.specs.Sizes.{sizeFaults}
 use Rattle.theory_timeline.specs.Events.{Event, SegmentSet, asks, kindOf}
-use Rattle.theory_timeline.specs.Windows.{Timeline, atStart, edgesOf, event, kept, openBefore, size}
+use Rattle.theory_timeline.specs.Windows.{Timeline, atStart, event, kept, openBefore, openGraph, size}
 use Rattle.theory_timeline.specs.declared.Kind.the-variants.{Closes, Nothing, Opens, Query}
 
 -- ---- what a replay finds
--- the answer byte of event i: 3 where it opens or closes, else the answer over the segments open before it
+-- the answer byte of event i: 3 where it opens or closes, else the answer over the roads open before it, each of them one edge
 unfoldable pub byte : Timeline → ℕ → ℕ
-byte g i = cond (asks (event g i)) (answer (edgesOf g (openBefore g i)) (event g i .0) (event g i .1)) 3
+byte g i = cond (asks (event g i)) (answer (openGraph g i) (event g i .0) (event g i .1)) 3
 
 unfoldable pub bytes : Timeline → List ℕ
 bytes g = map (byte g) (range 0 (size g))

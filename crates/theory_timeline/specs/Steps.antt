@@ -8,9 +8,9 @@ use lib.Dec.{ltb}
 use lib.ListN.{length}
 use Rattle.theory_graph.specs.Graph.{Edge}
 use Rattle.theory_graph.specs.SmallGraph.{IsSmallGraph, endsIn, image}
-use Rattle.theory_timeline.specs.Events.{after, named}
+use Rattle.theory_timeline.specs.Events.{after, namedRoads}
 use Rattle.theory_timeline.specs.Replay.{eventFault}
-use Rattle.theory_timeline.specs.Windows.{Timeline, Window, active, during, edgesOf, event, network, openBefore, size}
+use Rattle.theory_timeline.specs.Windows.{Timeline, Window, active, during, edgesOf, event, network, openBefore, roadsBefore, size}
 
 -- a list without a fault
 pub record Sound (g : Timeline) : Type 0 where
@@ -24,12 +24,12 @@ pub record Part (w c : Window) : Type 0 where
   pub after : w .0 ≤ c .0
   pub before : c .0 + c .1 ≤ w .0 + w .1
 
--- the segments that w names, c does not, and that are open before c
+-- the roads that w names a segment of, c does not, and that are open before c: one edge each
 unfoldable pub added : Timeline → Window → Window → List Edge
-added g w c = edgesOf g (λ s. openBefore g (c .0) s && (named (during g w) s && not (named (during g c) s)))
+added g w c = edgesOf g (λ r. roadsBefore g (c .0) r && (namedRoads (g .segments) (during g w) r && not (namedRoads (g .segments) (during g c) r)))
 
 -- A graph of n nodes with the edges H, in which junction a stands at σ a, is made for a window:
--- for the whole list out of its network, for a part out of the graph above it and the added segments.
+-- for the whole list out of its network, for a part out of the graph above it and the added roads.
 pub data Made (g : Timeline) : Window → ℕ → List Edge → (ℕ → ℕ) → Type 0 where
   top : {n : ℕ} {H : List Edge} {σ : ℕ → ℕ} (ρ : ℕ → ℕ) → IsSmallGraph (network g (0, size g)) (active g (0, size g)) n H ρ σ → Made g (0, size g) n H σ
   down : {w : Window} {n : ℕ} {H : List Edge} {σ : ℕ → ℕ} {c : Window} {n′ : ℕ} {H′ : List Edge} {σ′ : ℕ → ℕ} → Made g w n H σ → Part w c

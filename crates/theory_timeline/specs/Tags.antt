@@ -1,31 +1,38 @@
--- What a step reads of an event, in three words: its tag, and which events behind and before it name the same key. With them the segments that a part adds
+-- What a step reads of an event, in three words: its tag, and which events behind and before it name the same key. With them the roads that a part adds
 -- are told event by event, and neither the tables of the events nor a set of open segments goes down the windows.
--- A key is what opens and closes as one: here a segment.
+-- A key is the name of the road of the segment that an event names. The tags come from one pass over the events with a count of open segments for each road.
 -- Assumes nothing: these are definitions.
 use Prim.Native.Nat.{_%_, _*_, _+_, _-_, _/_, suc, zero, ℕ}
 use mathlib.Core.Bool.{Bool, _&&_, cond}
 use mathlib.Core.List.{List, [], _∷_}
 use lib.Dec.{eqb, leb, ltb}
+use lib.ListN.{length}
 use Rattle.call_sizes.specs.Refusal.{seek}
 use Rattle.theory_graph.specs.Graph.{Edge}
-use Rattle.theory_timeline.specs.Events.{asks, ends, names}
-use Rattle.theory_timeline.specs.Windows.{Timeline, Window, event, openBefore, size}
+use Rattle.theory_graph.specs.Lists.{filter, range}
+use Rattle.theory_timeline.specs.Events.{asks, ends, namesRoad}
+use Rattle.theory_timeline.specs.Roads.{road}
+use Rattle.theory_timeline.specs.Windows.{Timeline, Window, event, openBefore, roadsBefore, size}
 
 -- ---- the words of an event
--- the key that an event names
+-- the key that an event names: the road of its segment
 abbrev pub key : Timeline → ℕ → ℕ
-key g i = event g i .1
+key g i = road (g .segments) (event g i .1)
 
--- event i opens or closes the key k
+-- event i opens or closes a segment of the road k
 abbrev pub namesKey : Timeline → ℕ → ℕ → Bool
-namesKey g k i = names (event g i) k
+namesKey g k i = namesRoad (g .segments) (event g i) k
+
+-- the open segments of road r before event i: the road is open where there are some
+unfoldable pub openCount : Timeline → ℕ → ℕ → ℕ
+openCount g i r = length (filter (λ s. openBefore g i s && eqb r (road (g .segments) s)) (range 0 (length (g .segments))))
 
 abbrev pub bit : Bool → ℕ
 bit b = cond b 1 0
 
 -- 1 + 4 · key + 2 · (open just before) + (open just after)
 unfoldable pub tag : Timeline → ℕ → ℕ
-tag g i = 1 + 4 * key g i + 2 * bit (openBefore g i (key g i)) + bit (openBefore g (i + 1) (key g i))
+tag g i = 1 + 4 * key g i + 2 * bit (roadsBefore g i (key g i)) + bit (roadsBefore g (i + 1) (key g i))
 
 -- the next event that names the key of event i; the number of events where there is none
 unfoldable pub next : Timeline → ℕ → ℕ

@@ -8,7 +8,7 @@ use lib.ListN.{drop, getD, length, take}
 use Rattle.theory_graph.specs.Contraction.{Contracted, contract, number}
 use Rattle.theory_graph.specs.Graph.{Edge}
 use Rattle.theory_graph.specs.Lists.{sum}
-use Rattle.theory_timeline.specs.Events.{Event, SegmentSet, activeOf, afterAll, networkOf, pick}
+use Rattle.theory_timeline.specs.Events.{Event, SegmentSet, activeOf, afterAll, networkOf, openRoads, pick}
 
 -- a network, the segments open at the start, and the list of events
 pub record Timeline : Type 0 where
@@ -31,9 +31,16 @@ atStart start s = eqb (getD start s 0) 1
 unfoldable pub openBefore : Timeline → ℕ → SegmentSet
 openBefore g i = afterAll (take i (g .events)) (g .start)
 
--- the edges of a set of segments: of those open at a query for its reply, and of a window's network
+-- the edges of a set of segments, or of roads by their names
 abbrev pub edgesOf : Timeline → SegmentSet → List Edge
 edgesOf g o = pick o 0 (g .segments)
+
+-- the roads open before event i, and the graph of what is open then: one edge for each open road, in ascending order of their names
+abbrev pub roadsBefore : Timeline → ℕ → SegmentSet
+roadsBefore g i = openRoads (g .segments) (openBefore g i)
+
+abbrev pub openGraph : Timeline → ℕ → List Edge
+openGraph g i = edgesOf g (roadsBefore g i)
 
 -- ---- windows
 -- a window is its first event and its number of events
