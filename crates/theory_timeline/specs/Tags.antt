@@ -10,7 +10,7 @@ use lib.ListN.{length}
 use Rattle.call_sizes.specs.Refusal.{seek}
 use Rattle.theory_graph.specs.Graph.{Edge}
 use Rattle.theory_graph.specs.Lists.{filter, range}
-use Rattle.theory_timeline.specs.Events.{asks, ends, namesRoad}
+use Rattle.theory_timeline.specs.Events.{SegmentSet, asks, ends, namesRoad}
 use Rattle.theory_timeline.specs.Roads.{road}
 use Rattle.theory_timeline.specs.Windows.{Timeline, Window, event, openBefore, roadsBefore, size}
 
@@ -23,9 +23,12 @@ key g i = road (g .segments) (event g i .1)
 abbrev pub namesKey : Timeline → ℕ → ℕ → Bool
 namesKey g k i = namesRoad (g .segments) (event g i) k
 
--- the open segments of road r before event i: the road is open where there are some
-unfoldable pub openCount : Timeline → ℕ → ℕ → ℕ
-openCount g i r = length (filter (λ s. openBefore g i s && eqb r (road (g .segments) s)) (range 0 (length (g .segments))))
+-- how many segments of road r are open, where the segments of o are; the road is open where this is not 0. And before event i of a list.
+unfoldable pub openSegments : List Edge → SegmentSet → ℕ → ℕ
+openSegments segs o r = length (filter (λ s. o s && eqb r (road segs s)) (range 0 (length segs)))
+
+abbrev pub openCount : Timeline → ℕ → ℕ → ℕ
+openCount g i r = openSegments (g .segments) (openBefore g i) r
 
 abbrev pub bit : Bool → ℕ
 bit b = cond b 1 0
