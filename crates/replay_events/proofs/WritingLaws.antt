@@ -1,5 +1,5 @@
--- The passes over the events: kinds and tags of a list without a fault, words written one after another, the links, and all of it together.
--- In order: kinds; the queries; the tags' names; words one after another; the junctions; the links to the last event and to the next; the whole.
+-- The passes over the events: words written one after another, the junctions, the links, and all of it together.
+-- In order: the tags' names; words one after another; the junctions; the links to the last event and to the next; the whole.
 -- Assumes nothing.
 use Prim.Native.Nat.{_%_, _*_, _+_, _-_, _/_, _<_, _≤_, min, suc, zero, ℕ}
 use mathlib.Core.Bool.{Bool, _&&_, _||_, cond, false, not, true}
@@ -14,107 +14,28 @@ use borrow.Author.Tests.{eq-eqb, eqb-false, eqb-true, ltb-false, ltb-true, ne-eq
 use Rattle.call_sizes.proofs.RefusalLaws.{seek-here, seek-more, seek-past}
 use Rattle.call_sizes.specs.Refusal.{seek}
 use Rattle.theory_graph.proofs.Booleans.{onBool}
+use Rattle.theory_graph.proofs.Ends.{endsIn-at}
 use Rattle.theory_graph.proofs.TableLaws.{pairs-at, pairs-length, sets-append}
 use Rattle.theory_graph.specs.Graph.{Edge}
 use Rattle.theory_graph.specs.Lists.{pairs}
-use Rattle.theory_timeline.proofs.Acceptance.{sound-fine, sound-segment}
-use Rattle.theory_timeline.proofs.TagLaws.{names-none, names-own, open-next, tag-says, word-change, word-query, words-at, words-length}
-use Rattle.theory_timeline.specs.Events.{Event, SegmentSet, activeOf, asks, closes, ends, kindOf, opens}
-use Rattle.theory_timeline.specs.Replay.{eventFault}
+use Rattle.theory_timeline.proofs.Acceptance.{sound-segment}
+use Rattle.theory_timeline.proofs.CountLaws.{open-most}
+use Rattle.theory_timeline.proofs.RoadLaws.{road-most}
+use Rattle.theory_timeline.proofs.TagLaws.{names-none, tag-says, word-change, word-query, words-at, words-length}
+use Rattle.theory_timeline.specs.Events.{Event, activeOf, asks, closes, ends, kindOf, opens}
+use Rattle.theory_timeline.specs.Roads.{road}
 use Rattle.theory_timeline.specs.Steps.{Sound}
 use Rattle.theory_timeline.specs.Tags.{bit, eventWords, key, last, namesKey, next, seekLast, tag, word}
-use Rattle.theory_timeline.specs.Windows.{Timeline, active, during, event, openBefore, size}
-use Rattle.theory_timeline.specs.declared.Kind.{Kind}
-use Rattle.theory_timeline.specs.declared.Kind.the-variants.{Closes, Nothing, Opens, Query}
+use Rattle.theory_timeline.specs.Windows.{Timeline, active, during, event, openBefore, roadsBefore, size}
 use Rattle.replay_step.proofs.WordLaws.{map-self, mid-sets}
 use Rattle.replay_step.specs.Area.{EventsIn}
-use Rattle.replay_events.specs.Writing.{CanWriteEvents, EventsWritten, LinkRoom, LinkedEvent, TagsFit, Written, endsBy, isQuery, junctionsBy}
-use Rattle.replay_events.specs.Writing.{keyOf, lastBy, listOf, namesTag, nextBy, queriesBy, tagBy, tagsBy, tagsIn}
-
--- ---- kinds
--- what the kind of an event without a fault says of it
-module _ (n m : ℕ) (o : SegmentSet) (e : Event) (few : n ≤ 4096) where
-  value : Kind → ℕ
-  value k = elim k [
-    | Query ↦ cond (ltb (e .1) n) 0 5
-    | Opens ↦ cond (ltb (e .1) m) (cond (o (e .1)) 6 0) 5
-    | Closes ↦ cond (ltb (e .1) m) (cond (o (e .1)) 0 7) 5
-    | Nothing ↦ 5
-  ]
-
-  tags-by : eventFault n m o e ≡ 0 → (isQuery (kindOf n (e .0)) ≡ asks e) × (tagBy (kindOf n (e .0)) (e .1) ≡ cond (asks e) 0 (1 + 4 * e .1 + 2 * bit (closes e) + bit (opens e)))
-  unfolding eventFault isQuery tagBy value
-  tags-by h = go (ltb (e .0) n) (eqb (e .0) 65535) (eqb (e .0) 65534) refl refl refl h
-    where
-      Tells : Kind → Bool → Bool → Type 0
-      Tells k a c = (isQuery k ≡ not (a || c)) × (tagBy k (e .1) ≡ cond (not (a || c)) 0 (1 + 4 * e .1 + 2 * bit c + bit a))
-
-      told : (k : Kind) (a c : Bool) → eqb (e .0) 65535 ≡ a → eqb (e .0) 65534 ≡ c → Tells k a c → Tells k (eqb (e .0) 65535) (eqb (e .0) 65534)
-      told k a c p q r = rw (p, q) r
-
-      go : (q a c : Bool) → ltb (e .0) n ≡ q → eqb (e .0) 65535 ≡ a → eqb (e .0) 65534 ≡ c → value (cond q Query (cond a Opens (cond c Closes Nothing))) ≡ 0
-          → Tells (cond q Query (cond a Opens (cond c Closes Nothing))) (eqb (e .0) 65535) (eqb (e .0) 65534)
-      go true a c eq ea ec h =
-          let l = ltb-true (e .0) n eq in
-          told Query false false (ne-eqb (e .0) 65535 (λ x. omega arith)) (ne-eqb (e .0) 65534 (λ x. omega arith)) (refl, refl)
-      go false true c eq ea ec h =
-          let x = eqb-true (e .0) 65535 ea in
-          told Opens true false ea (ne-eqb (e .0) 65534 (λ y. omega arith)) (refl, omega arith)
-      go false false true eq ea ec h = told Closes false true ea ec (refl, omega arith)
-      go false false false eq ea ec h = absurd (omega arith)
-
-module _ (g : Timeline) (sound : Sound g) (i : ℕ) (l : i < size g) where
-  kinds : (isQuery (kindOf (g .junctions) (event g i .0)) ≡ asks (event g i))
-      × (tagBy (kindOf (g .junctions) (event g i .0)) (event g i .1) ≡ cond (asks (event g i)) 0 (1 + 4 * key g i + 2 * bit (closes (event g i)) + bit (opens (event g i))))
-  kinds = tags-by (g .junctions) (length (g .segments)) (openBefore g i) (event g i) (sound .few) (sound .events i l)
-
-  pub query-asks : isQuery (kindOf (g .junctions) (event g i .0)) ≡ asks (event g i)
-  query-asks = kinds .0
-
-  -- what opens was closed before, and what closes was open
-  was-open : asks (event g i) ≡ false → openBefore g i (key g i) ≡ closes (event g i)
-  was-open q =
-      let f = sound-fine g sound i l in
-      onBool (opens (event g i))
-      (λ t. f .fresh t ∙ sym (let e = eqb-true (event g i .0) 65535 t in ne-eqb (event g i .0) 65534 (λ x. omega arith)))
-      (λ t. let c : closes (event g i) ≡ true = sym (ap (λ (b : Bool). b || closes (event g i)) t) ∙ not-false (opens (event g i) || closes (event g i)) q in f .stale c ∙ sym c)
-
-  is-open : asks (event g i) ≡ false → openBefore g (i + 1) (key g i) ≡ opens (event g i)
-  is-open q =
-      ap (λ (o : SegmentSet). o (key g i)) (open-next g i l)
-      ∙ ap (λ (b : Bool). cond b (opens (event g i)) (openBefore g i (key g i))) (names-own g i q)
-
-  pub tag-word : tagBy (kindOf (g .junctions) (event g i .0)) (event g i .1) ≡ word g 0 i
-  unfolding word tag
-  tag-word = kinds .1 ∙ onBool (asks (event g i))
-      (λ q. ap (λ (b : Bool). cond b 0 (1 + 4 * key g i + 2 * bit (closes (event g i)) + bit (opens (event g i)))) q
-      ∙ sym (ap (λ (b : Bool). cond b 0 (1 + 4 * key g i + 2 * bit (openBefore g i (key g i)) + bit (openBefore g (i + 1) (key g i)))) q))
-      (λ q. ap₂ (λ (x y : Bool). cond (asks (event g i)) 0 (1 + 4 * key g i + 2 * bit x + bit y)) (sym (was-open q)) (sym (is-open q)))
-
-  pub ends-word : endsBy (g .junctions) (g .segments) (event g i) ≡ ends (g .segments) (event g i)
-  ends-word = ap (λ (b : Bool). cond b (event g i) (getD (g .segments) (event g i .1) (0, 0))) (kinds .0) ∙ turn (opens (event g i) || closes (event g i))
-    where
-      turn : (b : Bool) → cond (not b) (event g i) (getD (g .segments) (event g i .1) (0, 0)) ≡ cond b (getD (g .segments) (event g i .1) (0, 0)) (event g i)
-      turn true = refl
-      turn false = refl
-
--- ---- the queries
-pub queries-none : (n : ℕ) (x : List ℕ) → 0 ≡ queriesBy n x 0
-unfolding queriesBy
-queries-none n x = refl
-
-pub queries-more : (n : ℕ) (x : List ℕ) (i k r : ℕ) → k ≡ queriesBy n x i → r ≡ cond (isQuery (kindOf n (getD x i 0))) 1 0 → k + r ≡ queriesBy n x (i + 1)
-unfolding queriesBy
-queries-more n x i k r e h = ap₂ (λ (a b : ℕ). a + b) e h ∙ sym (ap (queriesBy n x) (add-one i))
-
-pub query-most : (b : Bool) (r : ℕ) → r ≡ cond b 1 0 → r ≤ 1
-query-most true r e = omega arith
-query-most false r e = omega arith
-
-pub queries-most : (n : ℕ) (x : List ℕ) (i : ℕ) → queriesBy n x i ≤ i
-unfolding queriesBy
-queries-most n x zero = omega arith
-queries-most n x (suc i) = omega (arith, queries-most n x i, query-most (isQuery (kindOf n (getD x i 0))) _ refl)
+use Rattle.replay_roads.specs.Counting.{RoadTables, RoadsCounted}
+use Rattle.replay_events.proofs.KindLaws.{ends-word, query-asks}
+use Rattle.replay_events.proofs.TaggingLaws.{Listed, closing-open, counts-are, tags-are}
+use Rattle.replay_events.specs.Kinds.{endsBy, isQuery, junctionsBy, kindAt}
+use Rattle.replay_events.specs.Tagging.{Tagged, TagsReady, from}
+use Rattle.replay_events.specs.Writing.{CanPlace, CanWriteEvents, EventsWritten, LinkRoom, LinkedEvent, TagsFit, Written}
+use Rattle.replay_events.specs.Writing.{keyOf, lastBy, listOf, namesTag, nextBy, tagsIn}
 
 -- ---- the tags' names
 seek-last-same : (f h : ℕ → Bool) (k : ℕ) → ((j : ℕ) → j < k → f j ≡ h j) → seekLast f k ≡ seekLast h k
@@ -252,13 +173,6 @@ module _ (n : ℕ) (a b : List ℕ) (x y : ℕ) where
 
 pub ends-put : (w : List ℕ) (i u v : ℕ) (e : Event) → e ≡ (u, v) → set (set w (2 * i) u) (2 * i + 1) v ≡ set (set w (2 * i) (e .0)) (2 * i + 1) (e .1)
 ends-put w i u v e q = ap (λ (e : Event). set (set w (2 * i) (e .0)) (2 * i + 1) (e .1)) (sym q)
-
--- one tag more
-pub tag-more : (n : ℕ) (x y : List ℕ) {t i x′ : ℕ} {w z : List ℕ} → Written t 0 (tagsBy n x y) 0 i w z → x′ ≡ tagsBy n x y i → 2 * t + 3 * i < length z
-    → Written t 0 (tagsBy n x y) 0 (i + 1) w (set z (2 * t + 3 * i) x′)
-tag-more n x y {t} {i} {x′} {w} {z} q e l =
-    let s : 2 * t + 3 * i + 0 ≡ 2 * t + 3 * i = omega arith in
-    subst (λ (k : ℕ). Written t 0 (tagsBy n x y) 0 (i + 1) w (set z k x′)) s (written-up q x′ e (omega arith))
 
 -- ---- the links
 -- one event
@@ -422,116 +336,190 @@ bit-most false = omega arith
 
 tag-most : (g : Timeline) (j : ℕ) → tag g j ≤ 4 * key g j + 4
 unfolding tag
-tag-most g j = omega (arith, bit-most (openBefore g j (key g j)), bit-most (openBefore g (j + 1) (key g j)))
+tag-most g j = omega (arith, bit-most (roadsBefore g j (key g j)), bit-most (roadsBefore g (j + 1) (key g j)))
 
 -- a tag has a key below 8,192
 pub word-most : (g : Timeline) → Sound g → (j : ℕ) → j < size g → word g 0 j ≤ 32768
 word-most g sound j l = onBool (asks (event g j))
     (λ h. omega (arith, word-query g j 0 h))
-    (λ h. omega (arith, word-change g j h .0, tag-most g j, sound-segment g sound j l h, sound .segments-few))
+    (λ h. omega (arith, word-change g j h .0, tag-most g j, sound-segment g sound j l h, road-most (g .segments) (event g j .1), sound .segments-few))
 
 same-front : (k : ℕ) (w z : List ℕ) → length z ≡ length w → ((d : ℕ) → d < k → getD z d 0 ≡ getD w d 0) → take k z ≡ take k w
 same-front k w z l h = ext-getD 0 (take k z) (take k w) (length-take k z ∙ ap (λ (n : ℕ). min k n) l ∙ sym (length-take k w)) λ i u.
     let b : i < k = omega (arith, length-take k z) in
     getD-take k z i 0 b ∙ h i b ∙ sym (getD-take k w i 0 b)
 
-module _ {n : ℕ} {a b x y w : List ℕ} (q : CanWriteEvents n a b x y w) where
+-- words behind those that are set
+sets-past : (vs l : List ℕ) (i d : ℕ) → i + length vs ≤ d → getD (sets l i vs) d 0 ≡ getD l d 0
+sets-past [] l i d h = refl
+sets-past (v ∷ vs) l i d h = sets-past vs (set l i v) (suc i) d (omega arith) ∙ getD-set-other l i d v 0 (λ z. omega arith)
+
+module _ {n : ℕ} {a b start x y w : List ℕ} (c : CanWriteEvents n a b start x y w) where
   abbrev g : Timeline
-  g = listOf n a b (q .start) x y
+  g = listOf n a b start x y
 
   abbrev t : ℕ
   t = length x
 
+  abbrev m : ℕ
+  m = length a
+
+  -- the names of the roads stand from here on, and behind them the counts
+  abbrev q : ℕ
+  q = 5 * length x
+
   pub size-is : size g ≡ t
-  size-is = pairs-equal x y (q .events)
+  size-is = pairs-equal x y (c .events)
+
+  segments-are : length (pairs a b) ≡ m
+  segments-are = pairs-equal a b (c .segments)
 
   event-is : (i : ℕ) → i < t → event g i ≡ (getD x i 0, getD y i 0)
-  event-is i l = pairs-at x y i l (omega (arith, q .events))
+  event-is i l = pairs-at x y i l (omega (arith, c .events))
 
-  -- an event that is no query names a segment of both tables
-  pub ends-need : (i : ℕ) → i < t → isQuery (kindOf n (getD x i 0)) ≡ false → (getD y i 0 < length a) × (getD y i 0 < length b)
-  ends-need i l h =
-      let s : i < size g = omega (arith, size-is) in
-      let e = event-is i l in
-      let k : asks (event g i) ≡ false = sym (kinds g (q .sound) i s .0) ∙ ap (λ (e : Event). isQuery (kindOf n (e .0))) e ∙ h in
-      let m = sound-segment g (q .sound) i s k in
-      let y1 = ap (λ (e : Event). e .1) e in
-      (omega (arith, pairs-most a b (length a) (omega arith), m, y1), omega (arith, pairs-most a b (length a) (omega arith), m, y1, q .segments))
+  -- both ends of each segment are junctions
+  ends-low : (s : ℕ) → s < m → (getD a s 0 < n) × (getD b s 0 < n)
+  ends-low s l =
+      let (u, v) = endsIn-at (λ v. ltb v n) (pairs a b) s (omega (arith, segments-are)) (c .sound .ends) in
+      let e = pairs-at a b s l (omega (arith, c .segments)) in
+      (subst (λ (k : ℕ). k < n) (ap (λ (k : Edge). k .0) e) (ltb-true _ _ u), subst (λ (k : ℕ). k < n) (ap (λ (k : Edge). k .1) e) (ltb-true _ _ v))
+
+  pub roads-need : RoadTables n a b start
+  roads-need = record { much = omega (arith, c .sound .segments-few, segments-are); b-long = c .segments; start-long = c .start-long; ends = ends-low }
 
   abbrev J : List ℕ
   J = junctionsBy n (pairs a b) (pairs x y)
 
-  module _ {w₁ w₂ : List ℕ} (e₁ : w₁ ≡ sets w 0 J) (P₀ : Written t 0 (tagsBy n x y) 0 t w₁ w₂) where
-    length-1 : length w₁ ≡ length w
-    length-1 = ap length e₁ ∙ length-sets w 0 J
+  J-length : length J ≡ 2 * t
+  J-length = junctions-length n (pairs a b) (pairs x y) ∙ ap (λ (k : ℕ). 2 * k) size-is
 
-    tags-2 : (j : ℕ) → j < size g → tagsIn t w₂ j ≡ word g 0 j
-    tags-2 j l =
-        let z : 2 * t + 3 * j ≡ 2 * t + 3 * j + 0 = omega arith in
-        let u : j < t = omega (arith, size-is) in
-        ap (λ (k : ℕ). getD w₂ k 0) z ∙ P₀ .here j (omega arith) u ∙ ap (λ (e : Event). tagBy (kindOf n (e .0)) (e .1)) (sym (event-is j u)) ∙ tag-word g (q .sound) j l
+  -- an event that is no query names a segment of both tables
+  named-in : (i : ℕ) → i < t → isQuery (kindAt n x i) ≡ false → getD y i 0 < m
+  named-in i l h =
+      let s : i < size g = omega (arith, size-is) in
+      let e = event-is i l in
+      let k : asks (event g i) ≡ false = sym (query-asks g (c .sound) i s) ∙ ap (λ (e : Event). isQuery (kindOf n (e .0))) e ∙ h in
+      omega (arith, sound-segment g (c .sound) i s k, ap (λ (e : Event). e .1) e, segments-are)
 
-    pub tags-fit : TagsFit t w₂
-    tags-fit = record {
-      much = q .much;
-      room = omega (arith, q .room, P₀ .long, length-1);
-      keys = λ j l. let s : j < size g = omega (arith, size-is) in omega (arith, tags-2 j s, word-most g (q .sound) j s);
+  -- the roads are counted (w₀)
+  module _ {w₀ : List ℕ} (r : RoadsCounted a b start q w w₀) where
+    pub place-need : CanPlace n a b x y w₀
+    place-need = record {
+      events = c .events;
+      room = omega (arith, c .room, r .long);
+      named = λ i l h. let s = named-in i l h in (s, omega (arith, c .segments));
     }
 
-    module _ {w₃ : List ℕ} (P₂ : Written t 2 (lastBy (tagsIn t w₂)) 0 t w₂ w₃) where
-      tags-3 : (j : ℕ) → tagsIn t w₃ j ≡ tagsIn t w₂ j
-      tags-3 = tags-stay P₂ (omega arith) (omega arith)
+    -- the junctions are written (w₁)
+    module _ {w₁ : List ℕ} (e₁ : w₁ ≡ sets w₀ 0 J) where
+      length-1 : length w₁ ≡ length w
+      length-1 = ap length e₁ ∙ length-sets w₀ 0 J ∙ r .long
 
-      pub tags-fit-3 : TagsFit t w₃
-      tags-fit-3 = record { much = q .much; room = omega (arith, tags-fit .room, P₂ .long); keys = λ j l. omega (arith, tags-fit .keys j l, tags-3 j) }
+      behind-1 : (d : ℕ) → 2 * t ≤ d → getD w₁ d 0 ≡ getD w₀ d 0
+      behind-1 d l = ap (λ (l : List ℕ). getD l d 0) e₁ ∙ sets-past J w₀ 0 d (omega (arith, J-length))
 
-      module _ {w₄ : List ℕ} (P₁ : Written t 1 (nextBy (tagsIn t w₃) t) 0 t w₃ w₄) where
-        length-4 : length w₄ ≡ length w
-        length-4 = P₁ .long ∙ P₂ .long ∙ P₀ .long ∙ length-1
+      names-1 : (s : ℕ) → s < m → from q w₁ s ≡ road (pairs a b) s
+      names-1 s l = behind-1 (q + s) (omega arith) ∙ r .names s l
 
-        front-4 : (d : ℕ) → d < 2 * t → getD w₄ d 0 ≡ getD w₁ d 0
-        front-4 d l = P₁ .else d (λ j c u r. omega arith) ∙ P₂ .else d (λ j c u r. omega arith) ∙ P₀ .else d (λ j c u r. omega arith)
+      listed : Listed g x y (from q w₁) (from (q + m) w₁)
+      unfolding openBefore
+      listed = record {
+        sound = c .sound;
+        events = λ i l. event-is i (omega (arith, size-is));
+        named = λ s l. names-1 s (omega (arith, segments-are));
+        counted = λ s l. behind-1 (q + m + s) (omega arith) ∙ r .counts s (omega (arith, segments-are));
+      }
 
-        junctions : J ≡ active g (0, t)
-        unfolding active during
-        junctions =
-            junctions-same n (pairs a b) (pairs x y) (λ i l. let s : i < size g = l in ends-word g (q .sound) i s)
-            ∙ ap (activeOf (pairs a b)) (sym (take-all t (pairs x y) (pairs-most x y t (omega arith))))
+      counts-most : (s : ℕ) → s < m → from (q + m) w₁ s ≤ 8192
+      counts-most s l =
+          omega (arith, listed .counted s (omega (arith, segments-are)), open-most (pairs a b) (openBefore g 0) s, segments-are, c .sound .segments-few)
 
-        word-4 : (j k : ℕ) → j < t → k < 3 → getD w₄ (2 * t + 3 * j + k) 0 ≡ word g k j
-        word-4 j zero l u =
-            let z : 2 * t + 3 * j + 0 ≡ 2 * t + 3 * j = omega arith in
-            ap (λ (d : ℕ). getD w₄ d 0) z ∙ P₁ .else (2 * t + 3 * j) (λ i c v r. omega arith) ∙ tags-3 j ∙ tags-2 j (omega (arith, size-is))
-        word-4 j (suc zero) l u =
-            P₁ .here j (omega arith) l ∙ ap (λ (m : ℕ). nextBy (tagsIn t w₃) m j) (sym size-is) ∙ next-word g (tagsIn t w₃) (λ i s. tags-3 i ∙ tags-2 i s) j (omega (arith, size-is))
-        word-4 j (suc (suc zero)) l u =
-            P₁ .else (2 * t + 3 * j + 2) (λ i c v r. omega arith) ∙ P₂ .here j (omega arith) l ∙ last-word g (tagsIn t w₂) tags-2 j (omega (arith, size-is))
-        word-4 j (suc (suc (suc k))) l u = absurd (omega arith)
+      pub tags-need : TagsReady n x y q (q + m) w₁
+      tags-need = record {
+        much = c .much;
+        y-long = c .events;
+        apart = (omega arith, omega arith, omega (arith, c .room, length-1));
+        named = λ i l h.
+            let s = named-in i l h in
+            let e = names-1 (getD y i 0) s in
+            let k : from q w₁ (getD y i 0) < m = omega (arith, road-most (pairs a b) (getD y i 0)) in (
+              omega arith,
+              omega (arith, c .sound .segments-few, segments-are),
+              omega (arith, c .room, length-1),
+              counts-most (from q w₁ (getD y i 0)) k,
+            );
+        some = λ i l h. closing-open listed i (omega (arith, size-is)) h;
+      }
 
-        events-stand : EventsIn (listOf n a b (q .start) x y) (0, length x) (λ u. u) (take (5 * length x) w₄)
-        events-stand = record {
-          places =
-              let lj : length J ≡ 2 * t = junctions-length n (pairs a b) (pairs x y) ∙ ap (λ (k : ℕ). 2 * k) size-is in
-              take-take (2 * t) (5 * t) w₄ (omega arith)
-              ∙ same-front (2 * t) w₁ w₄ (length-4 ∙ sym length-1) front-4
-              ∙ ap (take (2 * t)) e₁ ∙ ap (λ (k : ℕ). take k (sets w 0 J)) (sym lj) ∙ mid-sets J w 0 (omega (arith, lj, q .room))
-              ∙ junctions ∙ sym (map-self (active g (0, t)));
-          words =
-              let lw : length (take (3 * t) (drop (2 * t) (take (5 * t) w₄))) ≡ 3 * t = rw (length-take, length-drop, length-take) (omega (arith, length-4, q .room)) in
-              ext-getD 0 (take (3 * t) (drop (2 * t) (take (5 * t) w₄))) (eventWords g 0 t) (lw ∙ sym (words-length g 0 t)) λ i u.
-              let l : i < 3 * t = omega arith in
-              let z : i ≡ 3 * (i / 3) + i % 3 = omega arith in
-              let s : 2 * t + i ≡ 2 * t + 3 * (i / 3) + i % 3 = omega arith in
-              let d : 0 + i / 3 ≡ i / 3 = omega arith in
-              getD-take (3 * t) (drop (2 * t) (take (5 * t) w₄)) i 0 l ∙ getD-drop (2 * t) (take (5 * t) w₄) i 0 ∙ getD-take (5 * t) w₄ (2 * t + i) 0 (omega arith)
-              ∙ ap (λ (k : ℕ). getD w₄ k 0) s ∙ word-4 (i / 3) (i % 3) (omega arith) (omega arith)
-              ∙ sym (ap (λ (k : ℕ). getD (eventWords g 0 t) k 0) z ∙ words-at g 0 t (i / 3) (i % 3) (omega arith) (omega arith) ∙ ap (word g (i % 3)) d);
+      -- the tags are written (w₂)
+      module _ {w₂ : List ℕ} (P₀ : Tagged n x y q (q + m) w₁ w₂ (length x)) where
+        tags-2 : (j : ℕ) → j < size g → tagsIn t w₂ j ≡ word g 0 j
+        tags-2 j l = P₀ .tags j (omega (arith, size-is)) ∙ tags-are listed j l
+
+        pub tags-fit : TagsFit t w₂
+        tags-fit = record {
+          much = c .much;
+          room = omega (arith, c .room, P₀ .long, length-1);
+          keys = λ j l. let s : j < size g = omega (arith, size-is) in omega (arith, tags-2 j s, word-most g (c .sound) j s);
         }
 
--- the words are the same whatever is open at the start
-pub events-written : {n : ℕ} {a b x y w : List ℕ} (q : CanWriteEvents n a b x y w) {w₁ w₂ w₃ w₄ : List ℕ} → w₁ ≡ sets w 0 (junctionsBy n (pairs a b) (pairs x y))
-    → Written (length x) 0 (tagsBy n x y) 0 (length x) w₁ w₂ → Written (length x) 2 (lastBy (tagsIn (length x) w₂)) 0 (length x) w₂ w₃
-    → Written (length x) 1 (nextBy (tagsIn (length x) w₃) (length x)) 0 (length x) w₃ w₄ → EventsWritten n a b x y w₄
-events-written {n} {a} {b} {x} {y} {w} q e₁ P₀ P₂ P₁ o sound =
-    let r : CanWriteEvents n a b x y w = record { start = o; sound = sound; segments = q .segments; events = q .events; much = q .much; room = q .room } in
-    events-stand r e₁ P₀ P₂ P₁
+        -- and the links to the last event (w₃)
+        module _ {w₃ : List ℕ} (P₂ : Written t 2 (lastBy (tagsIn t w₂)) 0 t w₂ w₃) where
+          tags-3 : (j : ℕ) → tagsIn t w₃ j ≡ tagsIn t w₂ j
+          tags-3 = tags-stay P₂ (omega arith) (omega arith)
+
+          pub tags-fit-3 : TagsFit t w₃
+          tags-fit-3 = record { much = c .much; room = omega (arith, tags-fit .room, P₂ .long); keys = λ j l. omega (arith, tags-fit .keys j l, tags-3 j) }
+
+          -- and to the next (w₄)
+          module _ {w₄ : List ℕ} (P₁ : Written t 1 (nextBy (tagsIn t w₃) t) 0 t w₃ w₄) where
+            length-4 : length w₄ ≡ length w
+            length-4 = P₁ .long ∙ P₂ .long ∙ P₀ .long ∙ length-1
+
+            front-4 : (d : ℕ) → d < 2 * t → getD w₄ d 0 ≡ getD w₁ d 0
+            front-4 d l = P₁ .else d (λ j c u r. omega arith) ∙ P₂ .else d (λ j c u r. omega arith) ∙ P₀ .else d (omega arith) (λ j u r. omega arith)
+
+            junctions : J ≡ active g (0, t)
+            unfolding active during
+            junctions =
+                junctions-same n (pairs a b) (pairs x y) (λ i l. let s : i < size g = l in ends-word g (c .sound) i s)
+                ∙ ap (activeOf (pairs a b)) (sym (take-all t (pairs x y) (pairs-most x y t (omega arith))))
+
+            word-4 : (j k : ℕ) → j < t → k < 3 → getD w₄ (2 * t + 3 * j + k) 0 ≡ word g k j
+            word-4 j zero l u =
+                let z : 2 * t + 3 * j + 0 ≡ 2 * t + 3 * j = omega arith in
+                ap (λ (d : ℕ). getD w₄ d 0) z ∙ P₁ .else (2 * t + 3 * j) (λ i c v r. omega arith) ∙ tags-3 j ∙ tags-2 j (omega (arith, size-is))
+            word-4 j (suc zero) l u =
+                P₁ .here j (omega arith) l ∙ ap (λ (m : ℕ). nextBy (tagsIn t w₃) m j) (sym size-is)
+                ∙ next-word g (tagsIn t w₃) (λ i s. tags-3 i ∙ tags-2 i s) j (omega (arith, size-is))
+            word-4 j (suc (suc zero)) l u =
+                P₁ .else (2 * t + 3 * j + 2) (λ i c v r. omega arith) ∙ P₂ .here j (omega arith) l ∙ last-word g (tagsIn t w₂) tags-2 j (omega (arith, size-is))
+            word-4 j (suc (suc (suc k))) l u = absurd (omega arith)
+
+            events-stand : EventsIn g (0, t) (λ u. u) (take (5 * t) w₄)
+            events-stand = record {
+              places =
+                  take-take (2 * t) (5 * t) w₄ (omega arith)
+                  ∙ same-front (2 * t) w₁ w₄ (length-4 ∙ sym length-1) front-4
+                  ∙ ap (take (2 * t)) e₁ ∙ ap (λ (k : ℕ). take k (sets w₀ 0 J)) (sym J-length) ∙ mid-sets J w₀ 0 (omega (arith, J-length, c .room, r .long))
+                  ∙ junctions ∙ sym (map-self (active g (0, t)));
+              words =
+                  let lw : length (take (3 * t) (drop (2 * t) (take (5 * t) w₄))) ≡ 3 * t =
+                  rw (length-take, length-drop, length-take) (omega (arith, length-4, c .room)) in
+                  ext-getD 0 (take (3 * t) (drop (2 * t) (take (5 * t) w₄))) (eventWords g 0 t) (lw ∙ sym (words-length g 0 t)) λ i u.
+                  let l : i < 3 * t = omega arith in
+                  let z : i ≡ 3 * (i / 3) + i % 3 = omega arith in
+                  let s : 2 * t + i ≡ 2 * t + 3 * (i / 3) + i % 3 = omega arith in
+                  let d : 0 + i / 3 ≡ i / 3 = omega arith in
+                  getD-take (3 * t) (drop (2 * t) (take (5 * t) w₄)) i 0 l ∙ getD-drop (2 * t) (take (5 * t) w₄) i 0 ∙ getD-take (5 * t) w₄ (2 * t + i) 0 (omega arith)
+                  ∙ ap (λ (k : ℕ). getD w₄ k 0) s ∙ word-4 (i / 3) (i % 3) (omega arith) (omega arith)
+                  ∙ sym (ap (λ (k : ℕ). getD (eventWords g 0 t) k 0) z ∙ words-at g 0 t (i / 3) (i % 3) (omega arith) (omega arith) ∙ ap (word g (i % 3)) d);
+            }
+
+            pub events-written : EventsWritten n a b start x y w₄
+            events-written = record {
+              events = events-stand;
+              counts = λ s l.
+                  P₁ .else (q + m + s) (λ j u v e. omega arith) ∙ P₂ .else (q + m + s) (λ j u v e. omega arith)
+                  ∙ P₀ .counted s (omega (arith, c .room, length-1)) ∙ counts-are listed t (omega (arith, size-is)) s (omega (arith, segments-are));
+            }

@@ -1,1 +1,3 @@
+pub mod Kinds
+pub mod Tagging
 pub mod Writing

@@ -1,45 +1,18 @@
--- What the passes over the events write: word k of event j stands at 2 t + 3 j + k, behind the 2 t junctions. First the tags by kinds, then the links by tags.
+-- What the passes over the events write: word k of event j stands at 2 t + 3 j + k, behind the 2 t junctions. The links by the tags, and the whole.
 -- Assumes nothing: these are definitions.
-use Prim.Native.Nat.{_*_, _+_, _-_, _/_, _<_, _≤_, suc, zero, ℕ}
+use Prim.Native.Nat.{_*_, _+_, _-_, _/_, _<_, _≤_, ℕ}
 use mathlib.Core.Bool.{Bool, _&&_, cond, false, true}
-use mathlib.Core.List.{List, [], _∷_}
+use mathlib.Core.List.{List}
 use mathlib.Core.Path.{_≡_}
 use lib.Dec.{eqb, ltb}
 use lib.ListN.{getD, length, set, take}
 use Rattle.call_sizes.specs.Refusal.{seek}
-use Rattle.theory_graph.specs.Graph.{Edge}
 use Rattle.theory_graph.specs.Lists.{pairs}
+use Rattle.replay_events.specs.Kinds.{isQuery, kindAt}
 use Rattle.replay_step.specs.Area.{EventsIn}
-use Rattle.theory_timeline.specs.Events.{Event, SegmentSet, kindOf}
 use Rattle.theory_timeline.specs.Steps.{Sound}
-use Rattle.theory_timeline.specs.Tags.{seekLast}
-use Rattle.theory_timeline.specs.Windows.{Timeline}
-use Rattle.theory_timeline.specs.declared.Kind.{Kind}
-use Rattle.theory_timeline.specs.declared.Kind.the-variants.{Closes, Nothing, Opens, Query}
-
--- ---- by kinds
-unfoldable pub isQuery : Kind → Bool
-isQuery k = elim k [ Query ↦ true | Opens ↦ false | Closes ↦ false | Nothing ↦ false ]
-
--- the two junctions of an event
-abbrev pub endsBy : ℕ → List Edge → Event → ℕ × ℕ
-endsBy n segs e = cond (isQuery (kindOf n (e .0))) e (getD segs (e .1) (0, 0))
-
-unfoldable pub junctionsBy : ℕ → List Edge → List Event → List ℕ
-junctionsBy n segs [] = []
-junctionsBy n segs (e ∷ evs) = endsBy n segs e .0 ∷ endsBy n segs e .1 ∷ junctionsBy n segs evs
-
--- how many of the first t events are queries
-unfoldable pub queriesBy : ℕ → List ℕ → ℕ → ℕ
-queriesBy n x zero = 0
-queriesBy n x (suc t) = queriesBy n x t + cond (isQuery (kindOf n (getD x t 0))) 1 0
-
--- the tag of an event without a fault: what opens was closed, what closes was open
-unfoldable pub tagBy : Kind → ℕ → ℕ
-tagBy k s = elim k [ Query ↦ 0 | Opens ↦ 4 * s + 2 | Closes ↦ 4 * s + 3 | Nothing ↦ 0 ]
-
-abbrev pub tagsBy : ℕ → List ℕ → List ℕ → ℕ → ℕ
-tagsBy n x y i = tagBy (kindOf n (getD x i 0)) (getD y i 0)
+use Rattle.theory_timeline.specs.Tags.{openCount, seekLast}
+use Rattle.theory_timeline.specs.Windows.{Timeline, atStart}
 
 -- ---- by tags
 -- the tags that stand in the words
@@ -60,6 +33,12 @@ unfoldable pub nextBy : (ℕ → ℕ) → ℕ → ℕ → ℕ
 nextBy T t j = cond (ltb 0 (T j)) (seek (namesTag T (keyOf (T j))) (j + 1) (t - (j + 1))) 0
 
 -- ---- in the words
+-- room for two junctions an event, and each event that is no query names a segment
+pub record CanPlace (n : ℕ) (a b x y w : List ℕ) : Type 0 where
+  pub events : length y ≡ length x
+  pub room : 2 * length x ≤ length w
+  pub named : (i : ℕ) → i < length x → isQuery (kindAt n x i) ≡ false → (getD y i 0 < length a) × (getD y i 0 < length b)
+
 -- from w to z word k of the events from a up to b becomes f, and nothing else changes
 pub record Written (t k : ℕ) (f : ℕ → ℕ) (a b : ℕ) (w z : List ℕ) : Type 0 where
   pub long : length z ≡ length w
@@ -87,19 +66,20 @@ pub record LinkedEvent (t i k v : ℕ) (heads w heads′ w′ : List ℕ) : Type
   pub query : ltb 0 (tagsIn t w i) ≡ false → (w′ ≡ set w (2 * t + 3 * i + k) 0) × (heads′ ≡ heads)
 
 -- ---- the whole
--- the list of these tables, where the segments of o are open at the start
-abbrev pub listOf : ℕ → List ℕ → List ℕ → SegmentSet → List ℕ → List ℕ → Timeline
-listOf n a b o x y = record { junctions = n; segments = pairs a b; start = o; events = pairs x y }
+-- the list of these tables
+abbrev pub listOf : ℕ → List ℕ → List ℕ → List ℕ → List ℕ → List ℕ → Timeline
+listOf n a b start x y = record { junctions = n; segments = pairs a b; start = atStart start; events = pairs x y }
 
--- a list without a fault, and room for what is written
-pub record CanWriteEvents (n : ℕ) (a b x y w : List ℕ) : Type 0 where
-  pub start : SegmentSet
+-- a list without a fault, and room for what is written: 5 t words at the front, and behind them the names of the roads, their counts, and scratch
+pub record CanWriteEvents (n : ℕ) (a b start x y w : List ℕ) : Type 0 where
   pub sound : Sound (listOf n a b start x y)
   pub segments : length b ≡ length a
+  pub start-long : length start ≡ length a
   pub events : length y ≡ length x
   pub much : length x ≤ 4096
-  pub room : 5 * length x ≤ length w
+  pub room : 5 * length x + 2 * length a + 2 * n ≤ length w
 
--- the events stand in the words, whatever is open at the start of a list without a fault
-abbrev pub EventsWritten : ℕ → List ℕ → List ℕ → List ℕ → List ℕ → List ℕ → Type 0
-EventsWritten n a b x y z = (o : SegmentSet) → Sound (listOf n a b o x y) → EventsIn (listOf n a b o x y) (0, length x) (λ u. u) (take (5 * length x) z)
+-- the events stand in the words, and behind the names how many segments of each road are open at the end
+pub record EventsWritten (n : ℕ) (a b start x y z : List ℕ) : Type 0 where
+  pub events : EventsIn (listOf n a b start x y) (0, length x) (λ u. u) (take (5 * length x) z)
+  pub counts : (r : ℕ) → r < length a → getD z (5 * length x + length a + r) 0 ≡ openCount (listOf n a b start x y) (length x) r

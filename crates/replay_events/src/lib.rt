@@ -1,5 +1,7 @@
 // What the recursion needs of the events, at the front of the work table: the two junctions of each event, and its three words (theory_timeline's Tags).
 // Here alone the tables of the events are read, and kinds are told by `kind_of`.
+mod tags;
+
 use theory_timeline::Kind;
 ghost use mathlib.Core.Path.{_≡_};
 ghost use mathlib.Core.Bool.{cond, false};
@@ -8,11 +10,11 @@ ghost use lib.ListN.{length, set};
 ghost use lib.Seq.{sets};
 ghost use Rattle.theory_graph.specs.Lists.{pairs};
 ghost use Rattle.theory_timeline.specs.Events.{kindOf};
-ghost use Rattle.replay_events.specs.Writing.{CanWriteEvents, EventsWritten, LinkRoom, LinkedEvent, TagsFit, Written};
-ghost use Rattle.replay_events.specs.Writing.{endsBy, isQuery, junctionsBy, lastBy, nextBy, queriesBy, tagBy, tagsBy, tagsIn};
+ghost use Rattle.replay_events.specs.Kinds.{endsBy, isQuery, junctionsBy, queriesBy};
+ghost use Rattle.replay_events.specs.Writing.{CanPlace, CanWriteEvents, EventsWritten, LinkRoom, LinkedEvent, TagsFit, Written, lastBy, nextBy, tagsIn};
 
 // Whether an event with this X is a query.
-fn is_query(x: u16, n: usize) -> bool
+pub(crate) fn is_query(x: u16, n: usize) -> bool
     ensures { λ r. ⌜ r ≡ isQuery (kindOf n x) ⌝ }
 {
     let kind = theory_timeline::kind_of(x, n);
@@ -44,7 +46,7 @@ fn put_ends(n: usize, a: &[u16], b: &[u16], x: u16, y: u16, i: usize, work: &mut
 
 // Those of all events.
 fn put_junctions(n: usize, a: &[u16], b: &[u16], x: &[u16], y: &[u16], work: &mut [u32])
-    requires { ⌜ CanWriteEvents n (now a) (now b) (now x) (now y) (now work) ⌝ }
+    requires { ⌜ CanPlace n (now a) (now b) (now x) (now y) (now work) ⌝ }
     ensures { λ _. ⌜ now (work .exit) ≡
         sets (now (work .entry)) 0 (junctionsBy n (pairs (now (a .entry)) (now (b .entry))) (pairs (now (x .entry)) (now (y .entry)))) ⌝ }
 {
@@ -54,38 +56,6 @@ fn put_junctions(n: usize, a: &[u16], b: &[u16], x: &[u16], y: &[u16], work: &mu
         let kind = x[i];
         let other = y[i];
         put_ends(n, a, b, kind, other, i, work);
-        i += 1;
-    }
-}
-
-// The tag of an event.
-fn tag_of(x: u16, y: usize, n: usize) -> usize
-    requires { ⌜ y < 65536 ⌝ }
-    ensures { λ r. ⌜ (r ≡ tagBy (kindOf n x) y) × (r < 4294967296) ⌝ }
-{
-    let kind = theory_timeline::kind_of(x, n);
-    match kind {
-        Kind::Query => 0,
-        Kind::Opens => 4 * y + 2,
-        Kind::Closes => 4 * y + 3,
-        Kind::Nothing => 0,
-    }
-}
-
-// The tags of all events.
-fn put_tags(n: usize, x: &[u16], y: &[u16], work: &mut [u32])
-    requires { ⌜ (length (now y) ≡ length (now x)) × (5 * length (now x) ≤ length (now work)) × (length (now x) ≤ 4096) ⌝ }
-    ensures { λ _. ⌜ Written (length (now (x .entry))) 0 (tagsBy n (now (x .entry)) (now (y .entry))) 0
-        (length (now (x .entry))) (now (work .entry)) (now (work .exit)) ⌝ }
-{
-    let t = x.len();
-    let mut i: usize = 0;
-    // The tags of the first i events are written.
-    while i < t {
-        let kind = x[i];
-        let s = y[i] as usize;
-        let tag = tag_of(kind, s, n);
-        work[2 * t + 3 * i] = tag as u32;
         i += 1;
     }
 }
@@ -138,14 +108,25 @@ fn link_nexts(work: &mut [u32], t: usize)
     }
 }
 
-// Internal: the junctions of all events, 2 t words, and behind them their words, 3 t.
-pub fn write_events(n: usize, a: &[u16], b: &[u16], x: &[u16], y: &[u16], work: &mut [u32])
-    requires { ⌜ CanWriteEvents n (now a) (now b) (now x) (now y) (now work) ⌝ }
-    ensures { λ _. ⌜ EventsWritten n (now (a .entry)) (now (b .entry)) (now (x .entry)) (now (y .entry)) (now (work .exit)) ⌝ }
+// Internal: the junctions of all events, 2 t words, and behind them their words, 3 t; then the names of the m segments' roads, and how many segments of each
+// road are open at the end, m words each.
+pub fn write_events(
+    n: usize,
+    a: &[u16],
+    b: &[u16],
+    start: &[u16],
+    x: &[u16],
+    y: &[u16],
+    work: &mut [u32],
+)
+    requires { ⌜ CanWriteEvents n (now a) (now b) (now start) (now x) (now y) (now work) ⌝ }
+    ensures { λ _. ⌜ EventsWritten n (now (a .entry)) (now (b .entry)) (now (start .entry)) (now (x .entry)) (now (y .entry)) (now (work .exit)) ⌝ }
 {
     let t = x.len();
+    let names = 5 * t;
+    replay_roads::count_roads(n, a, b, start, work, names);
     put_junctions(n, a, b, x, y, work);
-    put_tags(n, x, y, work);
+    tags::put_tags(n, x, y, names, names + a.len(), work);
     link_lasts(work, t);
     link_nexts(work, t);
 }

@@ -1,14 +1,14 @@
--- What is loaded for the whole list, piece by piece: the keys that its events name are marked, and then the segments that are open at the start and not
--- marked are loaded as edges.
+-- What is loaded for the whole list, piece by piece: the counts of the roads that its events name become 0, and then the roads that still have a count are
+-- loaded as edges. The count of a road stands, by its name, from place `counts` on, behind the words of the events.
 -- Assumes nothing: these are definitions.
 use Prim.Native.Nat.{_*_, _+_, _-_, _<_, _≤_, ℕ}
-use mathlib.Core.Bool.{Bool, _&&_, not}
+use mathlib.Core.Bool.{Bool, cond}
 use mathlib.Core.List.{List}
 use mathlib.Core.Path.{_≡_}
-use lib.Dec.{eqb}
+use lib.Dec.{ltb}
 use lib.ListN.{drop, getD, length}
 use Rattle.core_words.specs.Fields.{TO, half}
-use Rattle.replay_events.specs.Writing.{namesTag}
+use Rattle.replay_events.specs.Writing.{keyOf, namesTag}
 use Rattle.theory_graph.specs.Graph.{Edge}
 use Rattle.theory_graph.specs.Lists.{any, range}
 
@@ -21,29 +21,31 @@ tagsFrom from w j = getD w (from + 3 * j) 0
 abbrev pub namedBy : ℕ → ℕ → ℕ → List ℕ → ℕ → Bool
 namedBy from i j w s = any (namesTag (tagsFrom from w) s) (range i (j - i))
 
--- t events, each tag of which has a key below 8,192
-pub record NamedReady (from t : ℕ) (w : List ℕ) : Type 0 where
+-- t events, and a count for the key of each
+pub record ClearReady (from t counts : ℕ) (w : List ℕ) : Type 0 where
   pub much : t ≤ 4096
-  pub room : from + 3 * t ≤ length w
-  pub keys : (j : ℕ) → j < t → tagsFrom from w j ≤ 32768
+  pub apart : from + 3 * t ≤ counts
+  pub room : counts ≤ length w
+  pub keys : (j : ℕ) → j < t → 0 < tagsFrom from w j → counts + keyOf (tagsFrom from w j) < length w
 
--- the keys of the events from i up to j are marked, and no other mark changes
-pub record Marking (from i j : ℕ) (w before after : List ℕ) : Type 0 where
-  pub long : length after ≡ length before
-  pub marks : (s : ℕ) → s < 8192 → eqb (getD after s 0) 0 ≡ (eqb (getD before s 0) 0 && not (namedBy from i j w s))
+-- the counts of the keys of the events from i up to j are 0, and nothing else changes
+pub record Cleared (from i j counts : ℕ) (w z : List ℕ) : Type 0 where
+  pub long : length z ≡ length w
+  pub front : (d : ℕ) → d < counts → getD z d 0 ≡ getD w d 0
+  pub left : (r : ℕ) → counts + r < length w → getD z (counts + r) 0 ≡ cond (namedBy from i j w r) 0 (getD w (counts + r) 0)
 
--- ---- the segments that are loaded
--- segment j is open at the start, and not marked
-abbrev pub fixed : List ℕ → List ℕ → ℕ → Bool
-fixed start named j = eqb (getD start j 0) 1 && eqb (getD named j 0) 0
+-- ---- the roads that are loaded
+-- road j has a count
+abbrev pub fixed : ℕ → List ℕ → ℕ → Bool
+fixed counts w j = ltb 0 (getD w (counts + j) 0)
 
 abbrev pub segment : List ℕ → List ℕ → ℕ → Edge
 segment a b j = (getD a j 0, getD b j 0)
 
--- k edges are loaded of a graph that has n nodes and whose words stand from s on; the segments from i up to j are to be loaded
-pub record LoadReady (n s : ℕ) (a b start : List ℕ) (i j k : ℕ) (v : List ℕ) : Type 0 where
+-- k edges are loaded of a graph that has n nodes and whose words stand from s on, behind the counts; the roads from i up to j are to be loaded
+pub record LoadReady (n s : ℕ) (a b : List ℕ) (counts i j k : ℕ) (v : List ℕ) : Type 0 where
   pub b-long : length b ≡ length a
-  pub start-long : length start ≡ length a
+  pub apart : counts + length a ≤ s
   pub order : i ≤ j
   pub inside : j ≤ length a
   pub much : length a ≤ 8192

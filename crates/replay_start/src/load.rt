@@ -1,56 +1,52 @@
-// The segments that are open at the start and that no event names, loaded as edges in one pass over the segments.
+// The roads that are open at the start and of which no event names a segment, loaded as edges in one pass over the roads' names.
 ghost use Prim.Native.Nat.{_+_};
-ghost use mathlib.Core.Path.{_≡_};
 ghost use lib.ListN.{length};
 ghost use Rattle.replay_step.specs.Load.{AddedBy};
-ghost use Rattle.replay_start.specs.Start.{LoadReady, Marking, NamedReady, fixed, segment};
+ghost use Rattle.replay_start.specs.Start.{ClearReady, Cleared, LoadReady, fixed, segment};
 
-// Marks the key of event i by its tag, where it has one.
-pub(crate) fn mark_event(named: &mut [u8; 8192], from: usize, i: usize, work: &[u32])
-    requires { ⌜ NamedReady from (i + 1) (now work) × (length (now named) ≡ 8192) ⌝ }
-    ensures { λ _. ⌜ Marking from i (i + 1) (now (work .entry)) (now (named .entry)) (now (named .exit)) ⌝ }
+// Event i: the count of the road that it names becomes 0.
+pub(crate) fn clear_event(from: usize, i: usize, counts: usize, work: &mut [u32])
+    requires { ⌜ ClearReady from (i + 1) counts (now work) ⌝ }
+    ensures { λ _. ⌜ Cleared from i (i + 1) counts (now (work .entry)) (now (work .exit)) ⌝ }
 {
     let tag = work[from + 3 * i] as usize;
     if tag == 0 {
         return;
     }
     let key = (tag - 1) / 4;
-    named[key] = 1;
+    work[counts + key] = 0;
 }
 
-// Marks the keys of the t events whose words stand from `from` on.
-pub(crate) fn mark_named(named: &mut [u8; 8192], from: usize, t: usize, work: &[u32])
-    requires { ⌜ NamedReady from t (now work) × (length (now named) ≡ 8192) ⌝ }
-    ensures { λ _. ⌜ Marking from 0 t (now (work .entry)) (now (named .entry)) (now (named .exit)) ⌝ }
+// The counts of the roads that the t events name, whose words stand from `from` on, become 0. A road that none of them names has as many open segments at the
+// end as at the start, so that what is left tells the roads that are open at the start and not named.
+pub(crate) fn clear_named(from: usize, t: usize, counts: usize, work: &mut [u32])
+    requires { ⌜ ClearReady from t counts (now work) ⌝ }
+    ensures { λ _. ⌜ Cleared from 0 t counts (now (work .entry)) (now (work .exit)) ⌝ }
 {
     let mut i: usize = 0;
-    // The keys of the first i events are marked.
+    // The roads of the first i events have no count.
     while i < t {
-        mark_event(named, from, i, work);
+        clear_event(from, i, counts, work);
         i += 1;
     }
 }
 
-// Segment j: where it is open at the start and no event names it, its edge is loaded as the k-th. The edges then.
-pub(crate) fn load_segment(
+// Road j: where its count is not 0, its edge is loaded as the k-th. The edges then.
+pub(crate) fn load_road(
     n: usize,
     s: usize,
     a: &[u16],
     b: &[u16],
-    start: &[u16],
-    named: &[u8; 8192],
+    counts: usize,
     work: &mut [u32],
     j: usize,
     k: usize,
 ) -> usize
-    requires { ⌜ LoadReady n s (now a) (now b) (now start) j (j + 1) k (now work) × (length (now named) ≡ 8192) ⌝ }
-    ensures { λ r. ⌜ AddedBy s n (fixed (now (start .entry)) (now (named .entry))) (segment (now (a .entry)) (now (b .entry))) j (j + 1) k
+    requires { ⌜ LoadReady n s (now a) (now b) counts j (j + 1) k (now work) ⌝ }
+    ensures { λ r. ⌜ AddedBy s n (fixed counts (now (work .entry))) (segment (now (a .entry)) (now (b .entry))) j (j + 1) k
         (now (work .entry)) (now (work .exit)) r ⌝ }
 {
-    if start[j] != 1 {
-        return k;
-    }
-    if named[j] != 0 {
+    if work[counts + j] == 0 {
         return k;
     }
     let x = a[j] as usize;
@@ -59,26 +55,25 @@ pub(crate) fn load_segment(
     k + 1
 }
 
-// All segments, where no edge is loaded yet.
-pub(crate) fn load_segments(
+// All roads, where no edge is loaded yet. The number of a segment that is not the name of its road has no count.
+pub(crate) fn load_roads(
     n: usize,
     s: usize,
     a: &[u16],
     b: &[u16],
-    start: &[u16],
-    named: &[u8; 8192],
+    counts: usize,
     work: &mut [u32],
 ) -> usize
-    requires { ⌜ LoadReady n s (now a) (now b) (now start) 0 (length (now a)) 0 (now work) × (length (now named) ≡ 8192) ⌝ }
-    ensures { λ r. ⌜ AddedBy s n (fixed (now (start .entry)) (now (named .entry))) (segment (now (a .entry)) (now (b .entry))) 0
-        (length (now (a .entry))) 0 (now (work .entry)) (now (work .exit)) r ⌝ }
+    requires { ⌜ LoadReady n s (now a) (now b) counts 0 (length (now a)) 0 (now work) ⌝ }
+    ensures { λ r. ⌜ AddedBy s n (fixed counts (now (work .entry))) (segment (now (a .entry)) (now (b .entry))) 0 (length (now (a .entry))) 0
+        (now (work .entry)) (now (work .exit)) r ⌝ }
 {
     let m = a.len();
     let mut k: usize = 0;
     let mut j: usize = 0;
-    // Of the segments before j those that are fixed are loaded.
+    // Of the roads with a name before j those that have a count are loaded.
     while j < m {
-        k = load_segment(n, s, a, b, start, named, work, j, k);
+        k = load_road(n, s, a, b, counts, work, j, k);
         j += 1;
     }
     k

@@ -230,6 +230,10 @@ range-high z i zero m = absurd (elim m [ ])
 range-high z i (suc n) (List·Memᴰ·head p) = omega arith
 range-high z i (suc n) (List·Memᴰ·tail m) = omega (arith, range-high z (suc i) n m)
 
+pub range-length : (i n : ℕ) → length (range i n) ≡ n
+range-length i zero = refl
+range-length i (suc n) = ap suc (range-length (suc i) n)
+
 -- ---- open roads
 module _ (segs : List Edge) (o : SegmentSet) where
   -- the road of an open segment is open

@@ -5,8 +5,8 @@ use mathlib.Core.Path.{_≡_}
 use lib.ListN.{getD}
 use native.Mathlib.Omega.{arith}
 use Rattle.theory_timeline.specs.Events.{kindOf}
-use Rattle.replay_events.proofs.WritingLaws.{queries-more, queries-most, queries-none, query-most}
-use Rattle.replay_events.specs.Writing.{isQuery, queriesBy}
+use Rattle.replay_events.proofs.KindLaws.{queries-more, queries-most, queries-none, query-most}
+use Rattle.replay_events.specs.Kinds.{isQuery, queriesBy}
 use Rattle.replay_events.proofs.count_queries.Statement.{statement}
 use Rattle.replay_events.proofs.count_queries.Tie as tie
 

@@ -1,6 +1,6 @@
 -- By the kind.
 use mathlib.Core.Path.{_∙_, ap, sym}
-use Rattle.replay_events.specs.Writing.{isQuery}
+use Rattle.replay_events.specs.Kinds.{isQuery}
 use borrow.Author.Needs.{needs}
 use Rattle.replay_events.proofs.is_query.Statement.{statement}
 use Rattle.replay_events.proofs.is_query.Tie as tie

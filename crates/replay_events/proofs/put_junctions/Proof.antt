@@ -3,7 +3,7 @@ use borrow.Author.Needs.{needs}
 use Prim.Native.Nat.{_-_}
 use lib.ListN.{length}
 use native.Mathlib.Omega.{arith}
-use Rattle.replay_events.proofs.WritingLaws.{Placed, ends-need, placed-all, placed-length, placed-more, placed-none}
+use Rattle.replay_events.proofs.WritingLaws.{Placed, placed-all, placed-length, placed-more, placed-none}
 use Rattle.replay_events.proofs.put_junctions.Statement.{statement}
 use Rattle.replay_events.proofs.put_junctions.Tie as tie
 
@@ -27,7 +27,7 @@ put-ends-requires c κs =
     let start = at-loop .before .before .before .before .before .before in
     let q = start .pre in
     let l = at-loop .loop in
-    (omega (arith, q .room, placed-length (l .inv)), ends-need q (l .i) (omega arith))
+    (omega (arith, q .room, placed-length (l .inv)), q .named (l .i) (omega arith))
 
 loop-again : tie.Need-loop-again Inv-loop μ-loop
 loop-again c =

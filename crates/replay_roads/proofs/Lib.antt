@@ -1,0 +1,4 @@
+pub mod RunLaws
+pub mod NamingLaws
+pub mod RoadWordLaws
+pub mod CountingLaws

@@ -1,0 +1,51 @@
+-- The link, then the head.
+use native.Mathlib.Omega.{arith}
+use borrow.Author.Needs.{needs}
+use Rattle.replay_roads.proofs.RoadWordLaws.{thread-fits, thread-more}
+use Rattle.replay_roads.proofs.thread_segment.Statement.{statement}
+use Rattle.replay_roads.proofs.thread_segment.Tie as tie
+
+add-get : tie.Need-add-get-2
+add-get c =
+    let start = c .before .before .before .before .before in
+    omega (arith, thread-fits (start .pre .0) (start .pre .1) (c .before .ends-of .ensures .0), start .pre .0 .room)
+
+get-requires : tie.Need-get-requires
+get-requires c κs =
+    let start = c .before .before .before .before .before in
+    omega (arith, thread-fits (start .pre .0) (start .pre .1) (c .before .ends-of .ensures .0), start .pre .0 .room)
+
+add-put : tie.Need-add-put-5
+add-put c =
+    let start = c .before .before .before .before .before .before .before .before .before .before .before in
+    omega (arith, thread-fits (start .pre .0) (start .pre .1) (c .before .before .before .before .before .before .before .ends-of .ensures .0), start .pre .0 .room)
+
+put-requires : tie.Need-put-requires-2
+put-requires c κs =
+    let start = c .before .before .before .before .before .before .before .before .before .before .before in
+    let l = thread-fits (start .pre .0) (start .pre .1) (c .before .before .before .before .before .before .before .ends-of .ensures .0) in
+    (omega (arith, start .pre .0 .room), omega (arith, start .pre .0 .tables .much))
+
+returns : tie.Need-returns
+returns c =
+    let start = c .before .before .before .before .before .before .before .before .before .before .before .before .before .before in
+    thread-more (start .pre .0) (start .pre .1) (c .before .before .before .before .before .before .before .before .before .before .ends-of .ensures .0) (c .before .before .before .before .before .before .before .before .get .ensures .0) (c .before .before .before .before .before .before .put .ensures) (c .before .before .put2 .ensures)
+
+pub thread-segment-spec : {M : Type 1} → statement M
+thread-segment-spec =
+    tie.close
+    (tie.spec
+    (λ c κs. search needs)
+    (λ c. search needs)
+    add-get
+    get-requires
+    (λ c. search needs)
+    (λ c. search needs)
+    (λ c. search needs)
+    (λ c. search needs)
+    (λ c κs. search needs)
+    (λ c. search needs)
+    add-put
+    put-requires
+    (λ c. search needs)
+    returns)
