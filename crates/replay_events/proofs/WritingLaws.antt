@@ -18,6 +18,7 @@ use Rattle.theory_graph.proofs.Ends.{endsIn-at}
 use Rattle.theory_graph.proofs.TableLaws.{pairs-at, pairs-length, sets-append}
 use Rattle.theory_graph.specs.Graph.{Edge}
 use Rattle.theory_graph.specs.Lists.{pairs}
+use Rattle.theory_graph.specs.SmallGraph.{endsIn}
 use Rattle.theory_timeline.proofs.Acceptance.{sound-segment}
 use Rattle.theory_timeline.proofs.CountLaws.{open-most}
 use Rattle.theory_timeline.proofs.RoadLaws.{road-most}
@@ -344,10 +345,23 @@ word-most g sound j l = onBool (asks (event g j))
     (λ h. omega (arith, word-query g j 0 h))
     (λ h. omega (arith, word-change g j h .0, tag-most g j, sound-segment g sound j l h, road-most (g .segments) (event g j .1), sound .segments-few))
 
-same-front : (k : ℕ) (w z : List ℕ) → length z ≡ length w → ((d : ℕ) → d < k → getD z d 0 ≡ getD w d 0) → take k z ≡ take k w
+pub same-front : (k : ℕ) (w z : List ℕ) → length z ≡ length w → ((d : ℕ) → d < k → getD z d 0 ≡ getD w d 0) → take k z ≡ take k w
 same-front k w z l h = ext-getD 0 (take k z) (take k w) (length-take k z ∙ ap (λ (n : ℕ). min k n) l ∙ sym (length-take k w)) λ i u.
     let b : i < k = omega (arith, length-take k z) in
     getD-take k z i 0 b ∙ h i b ∙ sym (getD-take k w i 0 b)
+
+pub word-key : (g : Timeline) → Sound g → (j : ℕ) → j < size g → 0 < word g 0 j → keyOf (word g 0 j) < length (g .segments)
+word-key g sound j l s = onBool (asks (event g j))
+    (λ h. absurd (omega (arith, word-query g j 0 h)))
+    (λ h. subst (λ (k : ℕ). k < length (g .segments)) (sym (ap keyOf (word-change g j h .0) ∙ tag-says g j .named))
+    (omega (arith, sound-segment g sound j l h, road-most (g .segments) (event g j .1))))
+
+-- both ends of each segment are junctions
+pub ends-low : (n : ℕ) (a b : List ℕ) → length b ≡ length a → endsIn (λ v. ltb v n) (pairs a b) ≡ true → (s : ℕ) → s < length a → (getD a s 0 < n) × (getD b s 0 < n)
+ends-low n a b e h s l =
+    let (u, v) = endsIn-at (λ v. ltb v n) (pairs a b) s (omega (arith, pairs-equal a b e)) h in
+    let p = pairs-at a b s l (omega arith) in
+    (subst (λ (k : ℕ). k < n) (ap (λ (k : Edge). k .0) p) (ltb-true _ _ u), subst (λ (k : ℕ). k < n) (ap (λ (k : Edge). k .1) p) (ltb-true _ _ v))
 
 -- words behind those that are set
 sets-past : (vs l : List ℕ) (i d : ℕ) → i + length vs ≤ d → getD (sets l i vs) d 0 ≡ getD l d 0
@@ -377,15 +391,8 @@ module _ {n : ℕ} {a b start x y w : List ℕ} (c : CanWriteEvents n a b start 
   event-is : (i : ℕ) → i < t → event g i ≡ (getD x i 0, getD y i 0)
   event-is i l = pairs-at x y i l (omega (arith, c .events))
 
-  -- both ends of each segment are junctions
-  ends-low : (s : ℕ) → s < m → (getD a s 0 < n) × (getD b s 0 < n)
-  ends-low s l =
-      let (u, v) = endsIn-at (λ v. ltb v n) (pairs a b) s (omega (arith, segments-are)) (c .sound .ends) in
-      let e = pairs-at a b s l (omega (arith, c .segments)) in
-      (subst (λ (k : ℕ). k < n) (ap (λ (k : Edge). k .0) e) (ltb-true _ _ u), subst (λ (k : ℕ). k < n) (ap (λ (k : Edge). k .1) e) (ltb-true _ _ v))
-
   pub roads-need : RoadTables n a b start
-  roads-need = record { much = omega (arith, c .sound .segments-few, segments-are); b-long = c .segments; start-long = c .start-long; ends = ends-low }
+  roads-need = record { much = omega (arith, c .sound .segments-few, segments-are); b-long = c .segments; start-long = c .start-long; ends = ends-low n a b (c .segments) (c .sound .ends) }
 
   abbrev J : List ℕ
   J = junctionsBy n (pairs a b) (pairs x y)

@@ -1,6 +1,6 @@
 -- Laws of lists of events: what they name, what is open after them, the edges of sets of segments, active junctions, and the roads that they name.
 -- Assumes nothing.
-use Prim.Native.Nat.{_+_, suc, ℕ}
+use Prim.Native.Nat.{_+_, _<_, suc, ℕ}
 use mathlib.Core.Bool.{Bool, _&&_, _||_, and-false, cond, false, or-assoc, or-true, true}
 use mathlib.Core.List.{List, List·Memᴰ, List·Memᴰ·head, List·Memᴰ·tail, [], _++_, _∷_}
 use mathlib.Core.Logic.{_⊎_, inl, inr}
@@ -86,9 +86,16 @@ active-right segs [] b v m = m
 active-right segs (e ∷ a) b v m = List·Memᴰ·tail (List·Memᴰ·tail (active-right segs a b v m))
 
 -- ---- a query by itself: the network is all that is open
+pub pick-same : (t u : NodeSet) (i : ℕ) (es : List Edge) → ((k : ℕ) → k < length es → t (i + k) ≡ u (i + k)) → pick t i es ≡ pick u i es
+pick-same t u i [] h = refl
+pick-same t u i (e ∷ es) h =
+    let z : i + 0 ≡ i = omega arith in
+    let n : (k : ℕ) → i + suc k ≡ suc i + k = λ k. omega arith in
+    ap₂ (λ b l. cond b (e ∷ l) l) (subst (λ (k : ℕ). t k ≡ u k) z (h 0 (omega arith)))
+    (pick-same t u (suc i) es (λ k l. subst (λ (j : ℕ). t j ≡ u j) (n k) (h (suc k) (omega arith))))
+
 pub pick-ext : (t u : NodeSet) → ((s : ℕ) → t s ≡ u s) → (i : ℕ) (es : List Edge) → pick t i es ≡ pick u i es
-pick-ext t u h i [] = refl
-pick-ext t u h i (e ∷ es) = ap₂ (λ b l. cond b (e ∷ l) l) (h i) (pick-ext t u h (suc i) es)
+pick-ext t u h i es = pick-same t u i es (λ k l. h (i + k))
 
 -- ---- roads
 module _ (segs : List Edge) where

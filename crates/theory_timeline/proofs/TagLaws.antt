@@ -155,7 +155,7 @@ module _ (g : Timeline) where
   named-during w r l = named-range (w .0) (w .1) r l
 
   -- a key that none of n events from a on names stays as it is
-  quiet : (a n r : ℕ) → a + n ≤ size g → namesIn a n r ≡ false → roadsBefore g (a + n) r ≡ roadsBefore g a r
+  pub quiet : (a n r : ℕ) → a + n ≤ size g → namesIn a n r ≡ false → roadsBefore g (a + n) r ≡ roadsBefore g a r
   unfolding openBefore
   quiet a n r l h =
       ap (λ (o : SegmentSet). openRoads (g .segments) o r)

@@ -1,31 +1,30 @@
--- The pieces follow one another: the active nodes, the marks, the segments.
-use mathlib.Core.Path.{refl}
+-- The pieces follow one another: the named roads cleared, the active nodes, the roads.
 use native.Mathlib.Omega.{arith}
 use borrow.Author.Needs.{needs}
-use Rattle.replay_start.proofs.WholeLaws.{marks-need, segments-need, whole-loaded}
+use Rattle.replay_start.proofs.WholeLaws.{enter-need, roads-need, whole-loaded}
 use Rattle.replay_start.proofs.load_whole.Statement.{statement}
 use Rattle.replay_start.proofs.load_whole.Tie as tie
 
-mark-named-requires : tie.Need-mark-named-requires
-mark-named-requires c κs =
-    let at-enter = c .before .before .before .before in
-    let start = at-enter .before .before .before .before .before .before .before .before .before in
-    (marks-need (start .pre) (at-enter .enter-places .ensures) (omega arith), refl)
+enter-places-requires : tie.Need-enter-places-requires
+enter-places-requires c κs =
+    let at-clear = c .before .before .before .before in
+    let start = at-clear .before .before .before .before .before .before .before in
+    enter-need (start .pre) (at-clear .clear-named .ensures)
 
-load-segments-requires : tie.Need-load-segments-requires
-load-segments-requires c κs =
-    let at-mark = c .before .before in
-    let at-enter = at-mark .before .before .before .before .before in
-    let start = at-enter .before .before .before .before .before .before .before .before .before in
-    (segments-need (start .pre) (at-enter .enter-places .ensures) (omega arith), at-mark .mark-named .ensures .long)
+load-roads-requires : tie.Need-load-roads-requires
+load-roads-requires c κs =
+    let at-enter = c .before .before .before in
+    let at-clear = at-enter .before .before .before .before .before in
+    let start = at-clear .before .before .before .before .before .before .before in
+    roads-need (start .pre) (at-clear .clear-named .ensures) (at-enter .enter-places .ensures) (omega arith)
 
 returns : tie.Need-returns
 returns c =
     let at-load = c .before .before in
-    let at-mark = at-load .before .before .before in
-    let at-enter = at-mark .before .before .before .before .before in
-    let start = at-enter .before .before .before .before .before .before .before .before .before in
-    whole-loaded (start .pre) (at-enter .enter-places .ensures) (omega arith) (at-mark .mark-named .ensures) (at-load .load-segments .ensures)
+    let at-enter = at-load .before .before .before .before in
+    let at-clear = at-enter .before .before .before .before .before in
+    let start = at-clear .before .before .before .before .before .before .before in
+    whole-loaded (start .pre) (at-clear .clear-named .ensures) (at-enter .enter-places .ensures) (omega arith) (at-load .load-roads .ensures)
 
 pub load-whole-spec : {M : Type 1} → statement M
 load-whole-spec =
@@ -33,9 +32,9 @@ load-whole-spec =
     (tie.spec
     (λ c. search needs)
     (λ c. search needs)
-    (λ c. search needs)
     (λ c κs. search needs)
-    mark-named-requires
-    load-segments-requires
+    (λ c. search needs)
+    enter-places-requires
+    load-roads-requires
     (λ c. search needs)
     returns)

@@ -6,16 +6,14 @@ use Rattle.replay_start.proofs.whole.Statement.{statement}
 use Rattle.replay_start.proofs.whole.Tie as tie
 
 load-whole-requires : tie.Need-load-whole-requires
-load-whole-requires c κs = whole-need (c .before .before .before .before .before .pre)
+load-whole-requires c κs = whole-need (c .before .before .before .before .pre)
 
 returns : tie.Need-returns
 returns c =
     let at-make-area = c .before .before in
     let at-load-whole = at-make-area .before .before .before .before in
-    let start = at-load-whole .before .before .before .before .before .before in
+    let start = at-load-whole .before .before .before .before .before in
     whole-made (start .pre) (at-load-whole .load-whole .ensures) (omega arith) (at-make-area .make-area .ensures)
 
 pub whole-spec : {M : Type 1} → statement M
-whole-spec =
-    tie.close
-    (tie.spec (λ c. search needs) (λ c. search needs) load-whole-requires (λ c κs. search needs) (λ c. search needs) returns)
+whole-spec = tie.close (tie.spec (λ c. search needs) load-whole-requires (λ c κs. search needs) (λ c. search needs) returns)
