@@ -12,9 +12,11 @@ use Rattle.call_sizes.specs.Refusal.{Refusal}
 use Rattle.replay_checks.proofs.SetLaws.{count, count-split}
 use Rattle.replay_checks.specs.Check.{CheckedTables}
 use Rattle.replay_checks.specs.declared.Checked.{Checked}
-use Rattle.replay_events.proofs.WritingLaws.{query-asks, size-is}
-use Rattle.replay_events.specs.Writing.{EventsWritten, isQuery, listOf, queriesBy}
-use Rattle.replay_start.specs.Whole.{WholeMade, WholeReady}
+use Rattle.replay_events.proofs.KindLaws.{query-asks}
+use Rattle.replay_events.proofs.WritingLaws.{size-is}
+use Rattle.replay_events.specs.Kinds.{isQuery, queriesBy}
+use Rattle.replay_events.specs.Writing.{EventsWritten, listOf}
+use Rattle.replay_start.specs.Whole.{ListIn, WholeMade, WholeReady}
 use Rattle.replay_step.specs.Area.{SmallArea}
 use Rattle.replay_step.specs.declared.Window.{Window}
 use Rattle.replay_windows.proofs.DescentLaws.{lent-take}
@@ -28,53 +30,59 @@ use Rattle.theory_timeline.specs.DemandThree.{KeepsDemand3}
 use Rattle.theory_timeline.specs.Events.{Event, asks, kindOf}
 use Rattle.theory_timeline.specs.Steps.{Sound}
 use Rattle.theory_timeline.specs.Replay.{Faultless, Lent, Outcome, byte, bytes, done, fault, given, openAtEnd, queries, refused, replay, required}
-use Rattle.theory_timeline.specs.Windows.{Timeline, atStart, event, kept, size, small, windows, windowsFrom}
+use Rattle.theory_timeline.specs.Windows.{Timeline, event, kept, size, small, windows, windowsFrom}
 use Rattle.theory_timeline.specs.declared.ReplayReply.the-variants.{Done, Refused}
 use Rattle.call_replay.specs.List.{ListReady, ListReplied}
 
 -- ---- the list
 module _ {n p : ℕ} {a b start x y answers work : List ℕ} (q : ListReady n p a b start x y answers work) where
   abbrev g : Timeline
-  g = listOf n a b (atStart start) x y
+  g = listOf n a b start x y
 
   abbrev t : ℕ
   t = length x
+
+  -- the places of the counts of the roads and of the whole list's area
+  abbrev counts : ℕ
+  counts = 5 * length x + length a
+
+  abbrev area : ℕ
+  area = 5 * length x + length a + length a
 
   -- a list without events
   pub empty-replied : t ≡ 0 → ListReplied n p a b start x y answers answers 0
   unfolding windowsFrom
   empty-replied z = subst (λ (k : ℕ). Replied g 0 k p answers answers 0) (sym z) (record { answers = refl; kept = refl })
 
-  module _ (some : 0 < t) {w : List ℕ} (e : EventsWritten n a b x y w) (l : length w ≡ length work) where
-    pub whole-need : WholeReady n t a b start w
+  module _ (some : 0 < t) {w : List ℕ} (e : EventsWritten n a b start x y w) (l : length w ≡ length work) where
+    list-in : ListIn n t a b counts w g
+    list-in = record { sound = q .events .sound; junctions = refl; segments = refl; all = size-is (q .events); events = e .events; counted = e .counts }
+
+    pub whole-need : WholeReady n t a b counts area w
     whole-need = record {
       g = g;
-      sound = q .sound;
-      junctions = refl;
-      segments = refl;
-      opened = refl;
-      all = size-is (q .events);
-      events = e (atStart start) (q .sound);
+      list = list-in;
       b-long = q .events .segments;
-      start-long = q .start-long;
       some = some;
+      front = omega arith;
+      apart = omega arith;
       room = omega (arith, q .room);
       much = q .events .much;
     }
 
-    module _ {z : List ℕ} {r : Window} (m : WholeMade n t a b start w z r) (k : length z ≡ length work) where
-      area : SmallArea g r (take (13 * r .events) (take (length z - 5 * t) (drop (5 * t) z)))
-      area =
-          let h : take (13 * t) (drop (5 * t) z) ≡ take (13 * r .events) (take (length z - 5 * t) (drop (5 * t) z)) =
-          ap (λ (n : ℕ). take (13 * n) (drop (5 * t) z)) (sym (m .events)) ∙ sym (lent-take (5 * t) (13 * r .events) z (omega (arith, q .room, m .events))) in
-          subst (λ (v : List ℕ). SmallArea g r v) h (m .made g (q .sound) refl refl refl (size-is (q .events)) (e (atStart start) (q .sound)))
+    module _ {z : List ℕ} {r : Window} (m : WholeMade n t a b counts area w z r) (k : length z ≡ length work) where
+      small-in : SmallArea g r (take (13 * r .events) (take (length z - area) (drop area z)))
+      small-in =
+          let h : take (13 * t) (drop area z) ≡ take (13 * r .events) (take (length z - area) (drop area z)) =
+          ap (λ (n : ℕ). take (13 * n) (drop area z)) (sym (m .events)) ∙ sym (lent-take area (13 * r .events) z (omega (arith, q .room, m .events))) in
+          subst (λ (v : List ℕ). SmallArea g r v) h (m .made g list-in)
 
-      pub window-need : WindowReady r p answers (take (length z - 5 * t) (drop (5 * t) z))
+      pub window-need : WindowReady r p answers (take (length z - area) (drop area z))
       window-need = record {
         g = g;
-        sound = q .sound;
+        sound = q .events .sound;
         inside = omega (arith, m .at, m .events, size-is (q .events));
-        area = area;
+        area = small-in;
         some = omega (arith, m .events);
         much = omega (arith, m .at, m .events, q .events .much);
         share = q .share;
@@ -82,9 +90,9 @@ module _ {n p : ℕ} {a b start x y answers work : List ℕ} (q : ListReady n p 
         room = rw (length-take, length-drop) (omega (arith, q .room, m .events));
       }
 
-      pub list-replied : {after : List ℕ} {kept : ℕ} → WindowDone r p (take (13 * r .events) (take (length z - 5 * t) (drop (5 * t) z))) answers after kept
+      pub list-replied : {after : List ℕ} {kept : ℕ} → WindowDone r p (take (13 * r .events) (take (length z - area) (drop area z))) answers after kept
           → ListReplied n p a b start x y answers after kept
-      list-replied d = let u = d .replied g (q .sound) (omega (arith, m .at, m .events, size-is (q .events))) area in rw (m .at, m .events) at u
+      list-replied d = let u = d .replied g (q .events .sound) (omega (arith, m .at, m .events, size-is (q .events))) small-in in rw (m .at, m .events) at u
 
 -- ---- the queries
 -- in a list without a fault they are those that ask
@@ -143,19 +151,17 @@ module _ (l : Lent) (p : ℕ) (f : Faultless l p) where
       let w = length-take-le need (l .work) (granted .work-long) in
       let la = length-take-le (l .m) (l .a) (granted .a-long) in
       record {
-        sound = accepted-sound l p granted;
         events = record {
-          start = atStart (take (l .m) (l .start));
           sound = accepted-sound l p granted;
           segments = length-take-le (l .m) (l .b) (granted .b-long) ∙ sym la;
+          start-long = length-take-le (l .m) (l .start) (granted .start-long) ∙ sym la;
           events = length-take-le (l .t) (l .y) (granted .y-long) ∙ sym long-x;
           much = omega (arith, long-x, granted .t-fits);
-          room = omega (arith, long-x);
+          room = omega (arith, long-x, la);
         };
-        start-long = length-take-le (l .m) (l .start) (granted .start-long) ∙ sym la;
         share = granted .share;
         long = omega (arith, long-x, granted .answers-long);
-        room = omega (arith, long-x);
+        room = omega (arith, long-x, la);
       }
 
   queries-are : queriesBy (l .n) (l .x) (l .t) ≡ count (λ i. asks (event (given l) i)) 0 (l .t)

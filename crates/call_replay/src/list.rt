@@ -1,4 +1,4 @@
-// A list without a fault: its events into words, the whole list's small graph, the windows.
+// A list without a fault: its events and roads into words, the whole list's small graph, the windows.
 ghost use Rattle.call_replay.specs.List.{ListReady, ListReplied};
 
 // The windows of the list, each table being as long as its size says: the bytes of its events, and kept.
@@ -21,8 +21,11 @@ pub(crate) fn replay_list(
     if t == 0 {
         return 0;
     }
-    replay_events::write_events(n, a, b, x, y, work);
-    let w = replay_start::whole(n, t, a, b, start, work);
-    let s = 5 * t;
-    replay_windows::window(w, p, answers, &mut work[s..])
+    let m = a.len();
+    replay_events::write_events(n, a, b, start, x, y, work);
+    // Behind the events' 5 t words stand the names of the roads, m words, then their counts.
+    let counts = 5 * t + m;
+    let area = counts + m;
+    let w = replay_start::whole(n, t, a, b, counts, area, work);
+    replay_windows::window(w, p, answers, &mut work[area..])
 }

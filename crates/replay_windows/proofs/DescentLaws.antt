@@ -31,7 +31,7 @@ use Rattle.theory_timeline.specs.Events.{asks}
 use Rattle.theory_timeline.specs.Replay.{byte}
 use Rattle.theory_timeline.specs.Steps.{Sound}
 use Rattle.theory_timeline.specs.Tags.{eventWords, tag, word}
-use Rattle.theory_timeline.specs.Windows.{Timeline, Window, active, during, edgesOf, event, firstPart, network, openBefore, size, small, windowsFrom}
+use Rattle.theory_timeline.specs.Windows.{Timeline, Window, active, during, event, firstPart, network, openBefore, openGraph, size, small, windowsFrom}
 use Rattle.replay_step.proofs.StepLaws.{active-length}
 use Rattle.replay_step.proofs.WordLaws.{sets-two}
 use Rattle.replay_step.specs.Area.{Area, SmallArea, StepReady, Stepped, areaEdges, span}
@@ -236,11 +236,11 @@ module _ {w : W.Window} {p : ℕ} {answers v : List ℕ} (r : WindowReady w p an
 -- the byte of an event that opens or closes, and of a query, by the counts of its area
 byte-change : (g : Timeline) (i : ℕ) → asks (event g i) ≡ false → byte g i ≡ 3
 unfolding byte
-byte-change g i t = ap (λ b. cond b (answer (edgesOf g (openBefore g i)) (event g i .0) (event g i .1)) 3) t
+byte-change g i t = ap (λ b. cond b (answer (openGraph g i) (event g i .0) (event g i .1)) 3) t
 
-byte-query : (g : Timeline) (i : ℕ) → asks (event g i) ≡ true → byte g i ≡ answer (edgesOf g (openBefore g i)) (event g i .0) (event g i .1)
+byte-query : (g : Timeline) (i : ℕ) → asks (event g i) ≡ true → byte g i ≡ answer (openGraph g i) (event g i .0) (event g i .1)
 unfolding byte
-byte-query g i t = ap (λ b. cond b (answer (edgesOf g (openBefore g i)) (event g i .0) (event g i .1)) 3) t
+byte-query g i t = ap (λ b. cond b (answer (openGraph g i) (event g i .0) (event g i .1)) 3) t
 
 none-is : (H : List Edge) (edges : ℕ) → length H ≡ edges → noEdge H ≡ eqb edges 0
 none-is [] edges e = sym (eq-eqb edges 0 (sym e))

@@ -1,4 +1,4 @@
--- The events' words, the whole list's area, the windows.
+-- The events' words and the roads' counts, the whole list's area, the windows.
 use native.Mathlib.Omega.{arith}
 use Rattle.call_replay.proofs.CallLaws.{empty-replied, list-replied, whole-need, window-need}
 use borrow.Author.Needs.{needs}
@@ -15,6 +15,11 @@ whole-requires c κs =
     let at-write-events = c .before .before .before in
     let start = at-write-events .before .before .before .before .before .before .before .before .before .before in
     whole-need (start .pre) (omega arith) (at-write-events .write-events .ensures) (omega arith)
+
+mul-window : tie.Need-mul-window
+mul-window c =
+    let start = c .before .before .before .before .before .before .before .before .before .before .before .before .before .before .before .before .before in
+    omega (arith, start .pre .room)
 
 window-requires : tie.Need-window-requires
 window-requires c κs =
@@ -38,9 +43,11 @@ replay-list-spec =
     (tie.spec
     returns
     (λ c κs. search needs)
+    (λ c. search needs)
+    (λ c. search needs)
+    (λ c. search needs)
     whole-requires
-    (λ c. search needs)
-    (λ c. search needs)
+    mul-window
     (λ c. search needs)
     (λ c. search needs)
     (λ c. search needs)
