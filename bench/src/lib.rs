@@ -6,6 +6,7 @@ pub mod graphs;
 pub mod lists;
 pub mod random;
 pub mod replay;
+pub mod roads;
 pub mod search;
 
 /// A refusal of document 01: its number and its place.

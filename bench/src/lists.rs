@@ -11,16 +11,19 @@ pub enum Kind {
     Dense,
     /// N = 4,096 and M = 8,192 for every T: three quarters of the segments are open at the start, as a fleet finds its map in the morning.
     Fleet,
+    /// The same, where half of the segments have the ends of another one: carriageways of one road, which open and close by themselves.
+    Dual,
 }
 
 impl Kind {
-    pub const ALL: [Kind; 3] = [Kind::Sparse, Kind::Dense, Kind::Fleet];
+    pub const ALL: [Kind; 4] = [Kind::Sparse, Kind::Dense, Kind::Fleet, Kind::Dual];
 
     pub fn name(self) -> &'static str {
         match self {
             Kind::Sparse => "sparse",
             Kind::Dense => "dense",
             Kind::Fleet => "fleet",
+            Kind::Dual => "dual carriageway",
         }
     }
 }
@@ -98,19 +101,29 @@ impl Network {
     }
 }
 
-/// A list over a network in which `open` segments are open at the start. It begins with `run` openings; of the events behind them a third open,
-/// a sixth close and the rest are queries. An opening or closing that no segment is left for becomes a query.
+/// A list over a network in which `open` segments are open at the start. The last `doubles` segments, not all, have the ends of any of the others,
+/// half of them in the other order. The list begins with `run` openings; of the events behind them a third open, a sixth close and the rest are
+/// queries. An opening or closing that no segment is left for becomes a query.
 pub fn random_list(
     n: usize,
     m: usize,
+    doubles: usize,
     open: usize,
     t: usize,
     run: usize,
     random: &mut Random,
 ) -> List {
+    let single = m - doubles;
     let ends =
-        |random: &mut Random| -> Vec<u16> { (0..m).map(|_| random.below(n) as u16).collect() };
-    let (a, b) = (ends(random), ends(random));
+        |random: &mut Random| -> Vec<u16> { (0..single).map(|_| random.below(n) as u16).collect() };
+    let (mut a, mut b) = (ends(random), ends(random));
+    for _ in 0..doubles {
+        let s = random.below(single);
+        let (u, v) = (a[s], b[s]);
+        let (u, v) = if random.below(2) == 0 { (u, v) } else { (v, u) };
+        a.push(u);
+        b.push(v);
+    }
     let mut network = Network {
         a,
         b,
@@ -149,11 +162,12 @@ pub fn random_list(
 /// A list of t events of a kind. Where nothing is open at the start, the first quarter are openings.
 pub fn list(kind: Kind, t: usize, random: &mut Random) -> List {
     match kind {
-        Kind::Sparse => random_list(t, t, 0, t, t / 4, random),
-        Kind::Dense => random_list(t / 8, t / 2, 0, t, t / 4, random),
-        Kind::Fleet => {
+        Kind::Sparse => random_list(t, t, 0, 0, t, t / 4, random),
+        Kind::Dense => random_list(t / 8, t / 2, 0, 0, t, t / 4, random),
+        Kind::Fleet | Kind::Dual => {
             let (n, m) = (MOST_JUNCTIONS, MOST_SEGMENTS);
-            random_list(n, m, m / 4 * 3, t, 0, random)
+            let doubles = if kind == Kind::Dual { m / 2 } else { 0 };
+            random_list(n, m, doubles, m / 4 * 3, t, 0, random)
         }
     }
 }

@@ -1,7 +1,7 @@
-//! The replay in plain Rust: the same checks, areas, load, windows and step as the crates `replay_checks`, `replay_start`, `replay_step`,
-//! `replay_windows` and `call_replay`.
+//! The replay in plain Rust: the same checks, roads, areas, load, windows and step as the crates `replay_*` and `call_replay`.
 
 use crate::core::{self, Half, Node, LARGE_END, MARK, SMALL_END};
+use crate::roads;
 use crate::{open_at_start, Refusal, CLOSES, MOST_EVENTS, MOST_JUNCTIONS, MOST_SEGMENTS, OPENS};
 
 #[derive(Clone, Copy, PartialEq, Eq, Debug)]
@@ -82,12 +82,12 @@ fn check_events(
 /// The nodes of an event's two junctions.
 type Places = [u32; 2];
 
-/// What the recursion needs of an event, all 0 for a query: 1 + 4 times the segment + 2 where it is open just before + 1 where it is
-/// open just after; the next event that names the segment, t where there is none; 1 + the last event before it that names it, or 0.
+/// What the recursion needs of an event, all 0 for a query: 1 + 4 times the road of its segment + 2 where that road is open just before
+/// + 1 where it is open just after; the next event of the road, t where there is none; 1 + the last event before it of the road, or 0.
 type Event = [u32; 3];
 
-/// The segment that an event names, where it is no query.
-fn segment(event: &Event) -> usize {
+/// The road of the segment that an event names, where it is no query.
+fn road(event: &Event) -> usize {
     (event[0] as usize - 1) / 4
 }
 
@@ -105,14 +105,45 @@ fn events_of(area: &[u32], n: usize) -> (&[Places], &[Event]) {
     (places.as_chunks().0, rest[..3 * n].as_chunks().0)
 }
 
-/// The words of the window above the whole list: the raw junctions as places, and the event words.
-fn make_events(a: &[u16], b: &[u16], x: &[u16], y: &[u16], above: &mut [u32]) {
+/// The roads before the windows, a word for each segment in each table: the name of its road; at a name the number of the road's open
+/// segments, and 1 + the last event so far that names one of them.
+struct Roads<'a> {
+    names: &'a mut [u32],
+    open: &'a mut [u32],
+    latest: &'a mut [u32],
+}
+
+/// The roads as they are at the start, in 3m + 2n words.
+fn make_roads<'a>(
+    n: usize,
+    a: &[u16],
+    b: &[u16],
+    start: &[u16],
+    words: &'a mut [u32],
+) -> Roads<'a> {
+    let m = a.len();
+    let (names, rest) = words.split_at_mut(m);
+    let (open, rest) = rest.split_at_mut(m);
+    let (latest, rest) = rest.split_at_mut(m);
+    roads::name(n, a, b, names, rest);
+    open.fill(0);
+    for s in open_at_start(start) {
+        open[names[s as usize] as usize] += 1;
+    }
+    latest.fill(0);
+    Roads {
+        names,
+        open,
+        latest,
+    }
+}
+
+/// The words of the window above the whole list: the raw junctions as places, and the event words. The roads are left as they are at the end.
+fn make_events(a: &[u16], b: &[u16], x: &[u16], y: &[u16], roads: &mut Roads, above: &mut [u32]) {
     let t = x.len();
     let (places, events) = above.split_at_mut(2 * t);
     let places = places.as_chunks_mut::<2>().0;
     let events = events.as_chunks_mut::<3>().0;
-    // For each segment 1 + the last event so far that names it.
-    let mut latest = [0u16; MOST_SEGMENTS];
     for i in 0..t {
         if !names_segment(x[i]) {
             places[i] = [x[i] as u32, y[i] as u32];
@@ -120,10 +151,19 @@ fn make_events(a: &[u16], b: &[u16], x: &[u16], y: &[u16], above: &mut [u32]) {
             continue;
         }
         let s = y[i] as usize;
-        let state = if x[i] == OPENS { 1 } else { 2 };
+        let road = roads.names[s];
+        let open = &mut roads.open[road as usize];
+        let before = *open;
+        *open = if x[i] == OPENS {
+            before + 1
+        } else {
+            before - 1
+        };
+        let state = 2 * (before != 0) as u32 + (*open != 0) as u32;
+        let latest = &mut roads.latest[road as usize];
         places[i] = [a[s] as u32, b[s] as u32];
-        events[i] = [1 + 4 * s as u32 + state, t as u32, latest[s] as u32];
-        latest[s] = i as u16 + 1;
+        events[i] = [1 + 4 * road + state, t as u32, *latest];
+        *latest = i as u32 + 1;
     }
     for i in (0..t).rev() {
         let last = events[i][2] as usize;
@@ -172,22 +212,22 @@ fn put_edge(edge: &mut [Half; 2], u: u32, v: u32) {
     edge[1][0] = v;
 }
 
-/// Loads the segments that are open at the start and that no event names; how many they are.
-fn load_segments(
+/// Loads one edge for each road that is open at the start and that no event names; how many they are. `open` has the numbers at the end,
+/// which are those at the start for a road that no event names; the others are cleared.
+fn load_roads(
     a: &[u16],
     b: &[u16],
-    start: &[u16],
     events: &[Event],
+    open: &mut [u32],
     halves: &mut [Half],
 ) -> usize {
-    let mut named = [0u8; MOST_SEGMENTS];
     for event in events.iter().filter(|e| e[0] != 0) {
-        named[segment(event)] = 1;
+        open[road(event)] = 0;
     }
     let pairs = halves.as_chunks_mut::<2>().0;
     let mut m = 0;
-    for (((&u, &v), &open), &named) in a.iter().zip(b).zip(start).zip(&named) {
-        if open == 1 && named == 0 {
+    for ((&u, &v), &open) in a.iter().zip(b).zip(&*open) {
+        if open != 0 {
             put_edge(&mut pairs[m], u as u32, v as u32);
             m += 1;
         }
@@ -195,14 +235,26 @@ fn load_segments(
     m
 }
 
-/// The whole list's area, behind the window above it, whose nodes are all n junctions.
-fn top(n: usize, t: usize, a: &[u16], b: &[u16], start: &[u16], work: &mut [u32]) -> Window {
+/// The whole list's area, behind the window above it, whose nodes are all n junctions. The roads stand behind the contraction's words.
+fn top(
+    n: usize,
+    a: &[u16],
+    b: &[u16],
+    start: &[u16],
+    x: &[u16],
+    y: &[u16],
+    work: &mut [u32],
+) -> Window {
+    let t = x.len();
     let (above, rest) = work.split_at_mut(5 * t);
-    let (whole, scratch) = rest.split_at_mut(13 * t);
+    let (whole, rest) = rest.split_at_mut(13 * t);
+    let (scratch, rest) = rest.split_at_mut(16 * n + 4 * a.len());
+    let mut roads = make_roads(n, a, b, start, rest);
+    make_events(a, b, x, y, &mut roads, above);
     let (places, events) = events_of(above, t);
     let (nodes, halves) = core::split(scratch, n, a.len());
     let k = enter_all(nodes, places);
-    let m = load_segments(a, b, start, events, halves);
+    let m = load_roads(a, b, events, roads.open, halves);
     let (count, edges) = core::reduce::<false>(nodes, &mut halves[..2 * m], k);
     write_area(nodes, edges, places, events, whole);
     Window {
@@ -223,7 +275,7 @@ fn step(w: Window, lo: usize, c: usize, work: &mut [u32]) -> Window {
     let (first, behind) = (lo - w.at, lo - w.at + c);
     let here = &places[first..behind];
 
-    // The window's edges first; then each segment that the window names, the part does not, and that is open, once: by the last
+    // The window's edges first; then each road that the window names, the part does not, and that is open, once: by the last
     // event before the part that names it, else by the first behind it.
     let (nodes, halves) = core::split(scratch, w.nodes, w.edges + n - c);
     let k = enter_all(nodes, here);
@@ -322,8 +374,7 @@ pub fn replay(
     let work = &mut work[..required(n, m, t)];
     let mut kept = 0;
     if t > 0 {
-        make_events(a, b, x, y, &mut work[..5 * t]);
-        let whole = top(n, t, a, b, start, work);
+        let whole = top(n, a, b, start, x, y, work);
         kept = window(whole, p, answers, &mut work[5 * t..]);
     }
     let queries = x.iter().filter(|&&v| !names_segment(v)).count();

@@ -1,19 +1,21 @@
 //! Searches that answer each query by itself, in time that is linear in what they search.
-//! Both take lists that are valid, and check nothing.
+//! Both take lists that are valid, and check nothing. They search roads, so that a second open segment of a road costs nothing.
 
+use crate::roads::Roads;
 use crate::{open_at_start, CLOSES, OPENS};
 
 const NONE: u32 = u32::MAX;
 
-/// One depth-first search over all junctions and all open segments per query. It finds the bridges,
-/// and so the piece and the 2-edge-connected class of every junction; the adjacency is built anew from the open segments.
+/// One depth-first search over all junctions and all open roads per query. It finds the bridges,
+/// and so the piece and the 2-edge-connected class of every junction; the adjacency is built anew from the open roads.
 #[derive(Default)]
 pub struct Whole {
+    roads: Roads,
     open: Vec<u32>,
-    /// The place of each segment in `open`.
+    /// The place of each road in `open`.
     place: Vec<u32>,
     first: Vec<u32>,
-    /// The far end and the segment of each half-edge, junction by junction.
+    /// The far end and the road of each half-edge, junction by junction.
     halves: Vec<[u32; 2]>,
     /// The time at which a junction was found, 0 for not yet.
     found: Vec<u32>,
@@ -21,7 +23,7 @@ pub struct Whole {
     piece: Vec<u32>,
     class: Vec<u32>,
     cursor: Vec<u32>,
-    /// The segment by which a junction was found.
+    /// The road by which a junction was found.
     by: Vec<u32>,
     path: Vec<u32>,
     waiting: Vec<u32>,
@@ -32,9 +34,23 @@ impl Whole {
         Self::default()
     }
 
-    fn add(&mut self, s: u16) {
-        self.place[s as usize] = self.open.len() as u32;
-        self.open.push(s as u32);
+    /// A segment opens.
+    fn open(&mut self, s: u16) {
+        if let Some(road) = self.roads.open(s) {
+            self.place[road as usize] = self.open.len() as u32;
+            self.open.push(road as u32);
+        }
+    }
+
+    /// A segment closes.
+    fn close(&mut self, s: u16) {
+        if let Some(road) = self.roads.close(s) {
+            let at = self.place[road as usize] as usize;
+            self.open.swap_remove(at);
+            if let Some(&moved) = self.open.get(at) {
+                self.place[moved as usize] = at as u32;
+            }
+        }
     }
 
     fn build(&mut self, n: usize, a: &[u16], b: &[u16]) {
@@ -105,7 +121,7 @@ impl Whole {
                 }
                 self.path.pop();
                 if self.low[v] == self.found[v] {
-                    // The segment to v is a bridge, or v is a root: what waits down to v is one class.
+                    // The road to v is a bridge, or v is a root: what waits down to v is one class.
                     while let Some(u) = self.waiting.pop() {
                         self.class[u as usize] = v as u32;
                         if u as usize == v {
@@ -132,24 +148,21 @@ impl Whole {
         y: &[u16],
         answers: &mut [u8],
     ) {
+        self.roads.reset(n, a, b);
         self.open.clear();
         self.place.clear();
         self.place.resize(a.len(), 0);
         for s in open_at_start(start) {
-            self.add(s);
+            self.open(s);
         }
         for ((&x, &y), answer) in x.iter().zip(y).zip(answers) {
             *answer = match x {
                 OPENS => {
-                    self.add(y);
+                    self.open(y);
                     3
                 }
                 CLOSES => {
-                    let at = self.place[y as usize] as usize;
-                    self.open.swap_remove(at);
-                    if let Some(&moved) = self.open.get(at) {
-                        self.place[moved as usize] = at as u32;
-                    }
+                    self.close(y);
                     3
                 }
                 _ => {
@@ -169,7 +182,7 @@ impl Whole {
     }
 }
 
-/// The open half-edges at a junction stand at the front of its row, which has room for all of them. Half-edges 2s and 2s + 1 are segment s.
+/// The open half-edges at a junction stand at the front of its row, which has room for all of them. Half-edges 2r and 2r + 1 are road r.
 #[derive(Clone, Copy, Default)]
 struct Half {
     far: u16,
@@ -196,6 +209,7 @@ struct Step {
 /// It stops as soon as the answer is settled.
 #[derive(Default)]
 pub struct Piece {
+    roads: Roads,
     rows: Vec<Row>,
     halves: Vec<Half>,
     /// The place of each open half-edge in `halves`.
@@ -240,9 +254,22 @@ impl Piece {
         row.end += 1;
     }
 
-    fn link_both(&mut self, s: usize, a: &[u16], b: &[u16]) {
-        self.link(a[s], 2 * s, b[s]);
-        self.link(b[s], 2 * s + 1, a[s]);
+    /// A segment opens.
+    fn open(&mut self, s: u16, a: &[u16], b: &[u16]) {
+        if let Some(road) = self.roads.open(s) {
+            let r = road as usize;
+            self.link(a[r], 2 * r, b[r]);
+            self.link(b[r], 2 * r + 1, a[r]);
+        }
+    }
+
+    /// A segment closes.
+    fn close(&mut self, s: u16, a: &[u16], b: &[u16]) {
+        if let Some(road) = self.roads.close(s) {
+            let r = road as usize;
+            self.unlink(a[r], 2 * r);
+            self.unlink(b[r], 2 * r + 1);
+        }
     }
 
     fn unlink(&mut self, v: u16, half: usize) {
@@ -323,20 +350,19 @@ impl Piece {
         y: &[u16],
         answers: &mut [u8],
     ) {
+        self.roads.reset(n, a, b);
         self.make_rows(n, a, b);
         for s in open_at_start(start) {
-            self.link_both(s as usize, a, b);
+            self.open(s, a, b);
         }
         for ((&x, &y), answer) in x.iter().zip(y).zip(answers) {
-            let s = y as usize;
             *answer = match x {
                 OPENS => {
-                    self.link_both(s, a, b);
+                    self.open(y, a, b);
                     3
                 }
                 CLOSES => {
-                    self.unlink(a[s], 2 * s);
-                    self.unlink(b[s], 2 * s + 1);
+                    self.close(y, a, b);
                     3
                 }
                 _ => self.answer(x, y),

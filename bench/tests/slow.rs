@@ -5,11 +5,11 @@ use bench::{contraction, lists, replay, search, Refusal, CLOSES, OPENS};
 use std::fmt::Debug;
 use std::str::FromStr;
 
-/// A number for each node's piece, where the edge `without` is left out.
-fn pieces(n: usize, edges: &[(usize, usize)], without: usize) -> Vec<usize> {
+/// A number for each node's piece, by the edges of these numbers.
+fn pieces(n: usize, edges: &[(usize, usize)], counts: impl Fn(usize) -> bool) -> Vec<usize> {
     let mut piece: Vec<usize> = (0..n).collect();
     for (e, &(u, v)) in edges.iter().enumerate() {
-        if e != without && piece[u] != piece[v] {
+        if counts(e) && piece[u] != piece[v] {
             let (old, new) = (piece[u], piece[v]);
             piece
                 .iter_mut()
@@ -22,8 +22,21 @@ fn pieces(n: usize, edges: &[(usize, usize)], without: usize) -> Vec<usize> {
 
 /// The pieces with nothing left out, then with each edge left out.
 fn all_pieces(n: usize, edges: &[(usize, usize)]) -> Vec<Vec<usize>> {
-    let mut all = vec![pieces(n, edges, usize::MAX)];
-    all.extend((0..edges.len()).map(|e| pieces(n, edges, e)));
+    let mut all = vec![pieces(n, edges, |_| true)];
+    all.extend((0..edges.len()).map(|e| pieces(n, edges, |o| o != e)));
+    all
+}
+
+/// Whether two segments are of one road: the same two ends, in either order.
+fn same_road((u, v): (usize, usize), other: (usize, usize)) -> bool {
+    other == (u, v) || other == (v, u)
+}
+
+/// The pieces with nothing left out, then with the whole road of each segment left out.
+fn all_road_pieces(n: usize, segments: &[(usize, usize)]) -> Vec<Vec<usize>> {
+    let mut all = vec![pieces(n, segments, |_| true)];
+    let lost = |s: usize| pieces(n, segments, |o| !same_road(segments[s], segments[o]));
+    all.extend((0..segments.len()).map(lost));
     all
 }
 
@@ -65,7 +78,7 @@ fn contract(n: usize, edges: &[(usize, usize)], active: &[usize]) -> Small {
             .copied()
             .filter(|&(u, v)| u != c && v != c)
             .collect();
-        let part = pieces(n, &rest, usize::MAX);
+        let part = pieces(n, &rest, |_| true);
         let mut live: Vec<usize> = active
             .iter()
             .filter(|&&v| class[v] != c && all[0][v] == all[0][c])
@@ -97,7 +110,7 @@ fn contract(n: usize, edges: &[(usize, usize)], active: &[usize]) -> Small {
                 .copied()
                 .filter(|&(u, v)| free(u) && free(v))
                 .collect();
-            let part = pieces(n, &rest, usize::MAX);
+            let part = pieces(n, &rest, |_| true);
             if part[c] == part[d] {
                 joined.push((i, j));
             }
@@ -149,8 +162,8 @@ fn slow_replay(l: &lists::List, p: usize) -> (Vec<u8>, replay::Totals) {
         answers.push(if x >= CLOSES {
             3
         } else {
-            let edges: Vec<_> = open.iter().map(|&s| ends(s)).collect();
-            answer(&all_pieces(l.n, &edges), x as usize, s)
+            let segments: Vec<_> = open.iter().map(|&s| ends(s)).collect();
+            answer(&all_road_pieces(l.n, &segments), x as usize, s)
         });
     }
     let mut all = Vec::new();
@@ -172,11 +185,14 @@ fn slow_replay(l: &lists::List, p: usize) -> (Vec<u8>, replay::Totals) {
             };
             active.extend([u, v]);
         }
-        let edges: Vec<_> = open_before[at]
-            .iter()
-            .filter(|s| !named.contains(s))
-            .map(|&s| ends(s))
-            .collect();
+        // One edge for each road that is open before the window and of which it names no segment.
+        let mut edges: Vec<(usize, usize)> = Vec::new();
+        for &s in &open_before[at] {
+            let is_named = named.iter().any(|&o| same_road(ends(s), ends(o)));
+            if !is_named && !edges.iter().any(|&e| same_road(ends(s), e)) {
+                edges.push(ends(s));
+            }
+        }
         kept += contract(l.n, &edges, &active).nodes;
     }
     let queries = l.x.iter().filter(|&&x| x < CLOSES).count();
@@ -319,16 +335,20 @@ fn contractions() {
 #[test]
 fn replays() {
     let mut random = Random::new(2);
-    for round in 0..4_000 {
+    let mut shared = 0;
+    for round in 0..6_000 {
         let n = 1 + random.below(10);
         let m = 1 + random.below(14);
+        // In a third of the lists no segment is made to double another one.
+        let doubles = random.below(3) * random.below(m) / 2;
         let t = random.below(32);
         let run = random.below(t / 2 + 1);
         // In a third of the lists nothing is open at the start.
         let open = random.below(3) * random.below(m + 1) / 2;
-        let l = lists::random_list(n, m, open, t, run, &mut random);
+        let l = lists::random_list(n, m, doubles, open, t, run, &mut random);
         let p = 4 + round % 9;
         let (answers, totals) = slow_replay(&l, p);
+        shared += names_shared_road(&l) as usize;
         let need = replay::required(n, m, t);
         let plain = plain_replay(&l, t, p, t + 2, need + 3);
         assert_eq!(plain, Ok((answers.clone(), totals)));
@@ -338,6 +358,35 @@ fn replays() {
         found.fill(9);
         search::Piece::new().replay(n, &l.a, &l.b, &l.start, &l.x, &l.y, &mut found);
         assert_eq!(found, answers);
+    }
+    assert!(shared > 2_000, "{shared} lists name a road by two segments");
+}
+
+/// Whether events name two segments of one road.
+fn names_shared_road(l: &lists::List) -> bool {
+    let ends = |s: u16| (l.a[s as usize] as usize, l.b[s as usize] as usize);
+    let events = || l.x.iter().zip(&l.y).filter(|e| *e.0 >= CLOSES);
+    let named = || events().map(|e| *e.1);
+    named().any(|s| named().any(|o| s != o && same_road(ends(s), ends(o))))
+}
+
+/// Two segments 0-1 are one road, whose loss parts its ends, in either order of the ends.
+#[test]
+fn two_segments_are_one_road() {
+    for b in [[1, 1], [1, 0]] {
+        let l = lists::List {
+            n: 2,
+            m: 2,
+            a: vec![0, 1 - b[1]],
+            b: b.to_vec(),
+            start: vec![0, 0],
+            x: vec![OPENS, OPENS, 0, CLOSES, 0],
+            y: vec![0, 1, 1, 0, 1],
+        };
+        let (answers, totals) = plain_replay(&l, 5, 8, 5, replay::required(2, 2, 5)).unwrap();
+        assert_eq!(answers, [3, 3, 1, 3, 1]);
+        assert_eq!((totals.queries, totals.open), (2, 1));
+        assert_eq!(slow_replay(&l, 8), (answers, totals));
     }
 }
 
@@ -441,5 +490,5 @@ fn replay_vectors() {
         assert_eq!(reply, expected);
         count += 1;
     }
-    assert_eq!(count, 110);
+    assert_eq!(count, 107);
 }
