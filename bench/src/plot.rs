@@ -1,4 +1,4 @@
-//! The plot: time by T of the four programs, a panel for each kind of list, both axes logarithmic.
+//! The plot: time by T of the four programs, a panel for each kind of list, two in a row, both axes logarithmic.
 
 use crate::timing::{ReplayRow, SHARES, SIZES};
 use bench::lists::Kind;
@@ -10,7 +10,9 @@ const PANEL_HEIGHT: f64 = 300.0;
 const LEFT: f64 = 80.0;
 const TOP: f64 = 50.0;
 const GAP: f64 = 60.0;
+const ROW_GAP: f64 = 100.0;
 const LEGEND: f64 = 190.0;
+const COLUMNS: usize = 2;
 
 struct Curve {
     name: &'static str,
@@ -67,19 +69,22 @@ pub fn svg(rows: &[ReplayRow]) -> String {
     };
     let low = times().fold(f64::INFINITY, f64::min).log10().floor() as i32;
     let high = times().fold(0.0, f64::max).log10().ceil() as i32;
-    let y = |t: f64| TOP + PANEL_HEIGHT * (high as f64 - t.log10()) / (high - low) as f64;
+    let left_of = |panel: usize| LEFT + (panel % COLUMNS) as f64 * (PANEL_WIDTH + GAP);
+    let top_of = |panel: usize| TOP + (panel / COLUMNS) as f64 * (PANEL_HEIGHT + ROW_GAP);
+    let y = |panel: usize, t: f64| {
+        top_of(panel) + PANEL_HEIGHT * (high as f64 - t.log10()) / (high - low) as f64
+    };
     let x = |panel: usize, t: usize| {
         let (first, last) = (
             (SIZES[0] as f64).log2(),
             (SIZES[SIZES.len() - 1] as f64).log2(),
         );
         let part = ((t as f64).log2() - first) / (last - first);
-        LEFT + panel as f64 * (PANEL_WIDTH + GAP) + 20.0 + part * (PANEL_WIDTH - 40.0)
+        left_of(panel) + 20.0 + part * (PANEL_WIDTH - 40.0)
     };
-    let bottom = TOP + PANEL_HEIGHT;
-    let right = LEFT + Kind::ALL.len() as f64 * (PANEL_WIDTH + GAP) - GAP;
+    let right = LEFT + COLUMNS as f64 * (PANEL_WIDTH + GAP) - GAP;
     let width = right + LEGEND;
-    let height = bottom + 60.0;
+    let height = top_of(Kind::ALL.len() - 1) + PANEL_HEIGHT + 60.0;
 
     let mut out = String::new();
     let _ = writeln!(
@@ -88,16 +93,17 @@ pub fn svg(rows: &[ReplayRow]) -> String {
          font-family=\"sans-serif\" font-size=\"13\">\n<rect width=\"100%\" height=\"100%\" fill=\"white\"/>"
     );
     for (panel, kind) in Kind::ALL.into_iter().enumerate() {
-        let left = LEFT + panel as f64 * (PANEL_WIDTH + GAP);
+        let (left, top) = (left_of(panel), top_of(panel));
+        let bottom = top + PANEL_HEIGHT;
         let _ = writeln!(
             out,
             "<text x=\"{}\" y=\"{}\" text-anchor=\"middle\" font-size=\"15\">{} lists (p = {SHARE})</text>",
             left + PANEL_WIDTH / 2.0,
-            TOP - 16.0,
+            top - 16.0,
             kind.name()
         );
         for power in low..=high {
-            let y = y(10f64.powi(power));
+            let y = y(panel, 10f64.powi(power));
             let _ = writeln!(
                 out,
                 "<line x1=\"{left}\" y1=\"{y:.1}\" x2=\"{}\" y2=\"{y:.1}\" stroke=\"#ddd\"/>\n\
@@ -121,7 +127,7 @@ pub fn svg(rows: &[ReplayRow]) -> String {
         let _ = writeln!(
             out,
             "<text x=\"{}\" y=\"{}\" text-anchor=\"middle\">events T</text>\n\
-             <rect x=\"{left}\" y=\"{TOP}\" width=\"{PANEL_WIDTH}\" height=\"{PANEL_HEIGHT}\" fill=\"none\" stroke=\"black\"/>",
+             <rect x=\"{left}\" y=\"{top}\" width=\"{PANEL_WIDTH}\" height=\"{PANEL_HEIGHT}\" fill=\"none\" stroke=\"black\"/>",
             left + PANEL_WIDTH / 2.0,
             bottom + 42.0
         );
@@ -129,7 +135,7 @@ pub fn svg(rows: &[ReplayRow]) -> String {
             let points: Vec<(f64, f64)> = rows
                 .iter()
                 .filter(|r| r.kind == kind)
-                .map(|r| (x(panel, r.events), y((curve.time)(r))))
+                .map(|r| (x(panel, r.events), y(panel, (curve.time)(r))))
                 .collect();
             let line: Vec<String> = points
                 .iter()
@@ -154,7 +160,7 @@ pub fn svg(rows: &[ReplayRow]) -> String {
     let _ = writeln!(
         out,
         "<text transform=\"translate(16 {}) rotate(-90)\" text-anchor=\"middle\">time of one list</text>",
-        TOP + PANEL_HEIGHT / 2.0
+        (TOP + height - 60.0) / 2.0
     );
     let left = right + 16.0;
     for (i, curve) in CURVES.iter().enumerate() {

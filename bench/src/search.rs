@@ -34,17 +34,17 @@ impl Whole {
         Self::default()
     }
 
-    /// A segment opens.
-    fn open(&mut self, s: u16) {
-        if let Some(road) = self.roads.open(s) {
+    /// Segment s opens.
+    fn open(&mut self, s: usize, a: &[u16], b: &[u16]) {
+        if let Some(road) = self.roads.open(s as u16, a[s], b[s]) {
             self.place[road as usize] = self.open.len() as u32;
             self.open.push(road as u32);
         }
     }
 
-    /// A segment closes.
-    fn close(&mut self, s: u16) {
-        if let Some(road) = self.roads.close(s) {
+    /// Segment s closes.
+    fn close(&mut self, s: usize, a: &[u16], b: &[u16]) {
+        if let Some(road) = self.roads.close(a[s], b[s]) {
             let at = self.place[road as usize] as usize;
             self.open.swap_remove(at);
             if let Some(&moved) = self.open.get(at) {
@@ -148,21 +148,21 @@ impl Whole {
         y: &[u16],
         answers: &mut [u8],
     ) {
-        self.roads.reset(n, a, b);
+        self.roads.reset(a.len());
         self.open.clear();
         self.place.clear();
         self.place.resize(a.len(), 0);
         for s in open_at_start(start) {
-            self.open(s);
+            self.open(s as usize, a, b);
         }
         for ((&x, &y), answer) in x.iter().zip(y).zip(answers) {
             *answer = match x {
                 OPENS => {
-                    self.open(y);
+                    self.open(y as usize, a, b);
                     3
                 }
                 CLOSES => {
-                    self.close(y);
+                    self.close(y as usize, a, b);
                     3
                 }
                 _ => {
@@ -254,18 +254,18 @@ impl Piece {
         row.end += 1;
     }
 
-    /// A segment opens.
-    fn open(&mut self, s: u16, a: &[u16], b: &[u16]) {
-        if let Some(road) = self.roads.open(s) {
+    /// Segment s opens.
+    fn open(&mut self, s: usize, a: &[u16], b: &[u16]) {
+        if let Some(road) = self.roads.open(s as u16, a[s], b[s]) {
             let r = road as usize;
             self.link(a[r], 2 * r, b[r]);
             self.link(b[r], 2 * r + 1, a[r]);
         }
     }
 
-    /// A segment closes.
-    fn close(&mut self, s: u16, a: &[u16], b: &[u16]) {
-        if let Some(road) = self.roads.close(s) {
+    /// Segment s closes.
+    fn close(&mut self, s: usize, a: &[u16], b: &[u16]) {
+        if let Some(road) = self.roads.close(a[s], b[s]) {
             let r = road as usize;
             self.unlink(a[r], 2 * r);
             self.unlink(b[r], 2 * r + 1);
@@ -350,19 +350,19 @@ impl Piece {
         y: &[u16],
         answers: &mut [u8],
     ) {
-        self.roads.reset(n, a, b);
+        self.roads.reset(a.len());
         self.make_rows(n, a, b);
         for s in open_at_start(start) {
-            self.open(s, a, b);
+            self.open(s as usize, a, b);
         }
         for ((&x, &y), answer) in x.iter().zip(y).zip(answers) {
             *answer = match x {
                 OPENS => {
-                    self.open(y, a, b);
+                    self.open(y as usize, a, b);
                     3
                 }
                 CLOSES => {
-                    self.close(y, a, b);
+                    self.close(y as usize, a, b);
                     3
                 }
                 _ => self.answer(x, y),
