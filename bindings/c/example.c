@@ -1,8 +1,10 @@
 /*
  * Replays document 01's example, a triangle whose segments open one after the other, with
- * two queries of junctions 0 and 2, and prints what the program `replay` prints. An argument
- * is taken as the share in the place of 8. The exit status is 1 where the replay is refused,
- * and 2 where the archive has other calls than the header.
+ * two queries of junctions 0 and 2, and prints what the program `replay` prints. No two of
+ * the segments have the same ends, so each is a road: first the loss of one breaks the way,
+ * answer 1, then there is another way round, answer 2. An argument is taken as the share in
+ * the place of 8. The exit status is 1 where the replay is refused, and 2 where the archive
+ * has other calls than the header.
  */
 #include <stdio.h>
 #include <stdlib.h>

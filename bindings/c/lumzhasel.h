@@ -7,7 +7,8 @@
  * memset of the C library.
  *
  * VERSIONS. What a call is lent gains fields, and replies gain numbers, from one version
- * to the next; their names stay. A program that was built with the header of one version
+ * to the next; their names stay. Version 5 has the tables of version 4, but its answers are
+ * about roads (lum_replay), where those before were about segments. A program that was built with the header of one version
  * and linked with the archive of another would hand over its tables in the wrong places,
  * and nothing else would notice. So compare lum_version() with LUM_VERSION before the
  * first other call, and make none where they differ. lum_version takes nothing and returns
@@ -65,7 +66,7 @@ extern "C" {
 #endif
 
 /* The version of the calls below. */
-#define LUM_VERSION 4u
+#define LUM_VERSION 5u
 
 /* The limits. */
 #define LUM_MOST_JUNCTIONS 4096u
@@ -175,8 +176,8 @@ size_t lum_answers(const uint8_t *table, size_t table_len, size_t t);
 
 /*
  * Contracts the graph of n nodes and m edges, edge s between from[s] and to[s], to its
- * first k active entries. An edge may join a node to itself, parallel edges count each,
- * and active entries may repeat.
+ * first k active entries. An edge may join a node to itself, parallel edges count each (they
+ * stand for different roads), and active entries may repeat.
  *
  *  table     least length       afterwards, where the call is accepted
  *  from, to  m                  (read)
@@ -202,7 +203,9 @@ struct lum_contract_reply lum_contract(struct lum_contract_lent lent);
 /*
  * Replays t events over n junctions and m segments, with the share p, 4 to 12. Segment s
  * joins a[s] and b[s], both ways; it is open before the first event where start[s] is 1,
- * and closed where it is 0. Event i is
+ * and closed where it is 0. All segments with the same two ends, in either order, are one
+ * road, which is open while any of them is: the carriageways of a road may be segments of
+ * their own. Event i is
  *
  *  x[i]             y[i]
  *  0 to n - 1       junction   a query of x[i] and y[i]
@@ -216,9 +219,11 @@ struct lum_contract_reply lum_contract(struct lum_contract_lent lent);
  *  work         256t + 32n + 8m + 2,048     0 over that length
  *
  * No other entry changes. The answer byte of a query is 2 where the junctions are joined
- * and stay joined whichever single open segment is removed, 1 where they are joined and
- * some single removal parts them, 0 where they are not joined; an event that opens or
- * closes has 3. The share changes `kept` and no answer. Refused by 1 to 7 and 11.
+ * and stay joined whichever single open road is lost, 1 where they are joined and the loss
+ * of some single road parts them, 0 where they are not joined; an event that opens or
+ * closes has 3. So two open segments between the same junctions are no second way. `open`
+ * counts segments, and 6 and 7 are about segments. The share changes `kept` and no answer.
+ * Refused by 1 to 7 and 11.
  */
 struct lum_replay_reply lum_replay(struct lum_replay_lent lent);
 

@@ -1,8 +1,8 @@
 //! Safe calls of the proved replay of road networks.
 //!
 //! One network and one list of openings, closures and queries make a replay. It says of two junctions
-//! at each query: 0 not joined, 1 joined by a way that one shut segment breaks, 2 joined whichever
-//! single segment shuts. The contraction that it rests on is a call of its own.
+//! at each query: 0 not joined, 1 joined by a way that the loss of one road breaks, 2 joined whichever
+//! single road is lost. The contraction that it rests on is a call of its own.
 //!
 //! ```
 //! use lumzhasel::{Answer, List, Network};
@@ -30,6 +30,21 @@
 //! let replayed = network.replay(&list)?;
 //! let answers: Vec<(usize, Answer)> = replayed.queries().collect();
 //! assert_eq!(answers, [(0, Answer::JoinedTwice), (2, Answer::JoinedOnce)]);
+//! # Ok::<(), lumzhasel::Error>(())
+//! ```
+//!
+//! All segments with the same two ends, in either order, are one road, which is open while any of them is.
+//! So the two carriageways of a road are no second way:
+//!
+//! ```
+//! # use lumzhasel::{Answer, List, Network};
+//! let network = Network::with_segments(2, [(0, 1), (1, 0)]).with_open([0, 1]);
+//! let mut list = List::new();
+//! list.query(0, 1).close(0).query(0, 1).close(1).query(0, 1);
+//!
+//! let replayed = network.replay(&list)?;
+//! let answers: Vec<Answer> = replayed.queries().map(|(_, answer)| answer).collect();
+//! assert_eq!(answers, [Answer::JoinedOnce, Answer::JoinedOnce, Answer::NotJoined]);
 //! # Ok::<(), lumzhasel::Error>(())
 //! ```
 //!
@@ -84,7 +99,7 @@ pub const MOST_EVENTS: usize = 4096;
 pub const MOST_ENTRIES: usize = 8192;
 
 /// The version of the calls that this package was written for.
-pub const VERSION: u32 = 4;
+pub const VERSION: u32 = 5;
 
 /// The version of the calls in the archive.
 pub fn version() -> u32 {

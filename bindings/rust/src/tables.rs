@@ -38,9 +38,9 @@ pub const CLOSES: u16 = 65534;
 
 /// The answer byte of two junctions that are not joined.
 pub const NOT_JOINED: u8 = 0;
-/// The answer byte of two junctions that some single removal of an open segment parts.
+/// The answer byte of two junctions that are joined and that the loss of some single road parts.
 pub const JOINED_ONCE: u8 = 1;
-/// The answer byte of two junctions that stay joined whichever single open segment is removed.
+/// The answer byte of two junctions that are joined and stay so whichever single road is lost.
 pub const JOINED_TWICE: u8 = 2;
 /// The byte of an event that opens or closes.
 pub const NO_QUERY: u8 = 3;
@@ -97,8 +97,9 @@ pub struct Contracted {
 }
 
 /// What a replay is lent: `t` events over `n` junctions and `m` segments, with the share `p`, 4 to 12. Segment s
-/// joins `a[s]` and `b[s]`, both ways. Event i is a query of the junctions `x[i]` and `y[i]`, or opens ([`OPENS`]
-/// in `x[i]`) or closes ([`CLOSES`]) the segment `y[i]`.
+/// joins `a[s]` and `b[s]`, both ways; all segments with the same two ends, in either order, are one road, which is
+/// open while any of them is. Event i is a query of the junctions `x[i]` and `y[i]`, or opens ([`OPENS`] in `x[i]`) or
+/// closes ([`CLOSES`]) the segment `y[i]`.
 #[derive(Debug)]
 pub struct ReplayTables<'a> {
     /// The junctions.
@@ -126,7 +127,8 @@ pub struct ReplayTables<'a> {
 }
 
 /// What a contraction is lent: the graph of `n` nodes and `m` edges, edge s between `from[s]` and `to[s]`, and `k`
-/// active entries. An edge may join a node to itself, parallel edges count each, and active entries may repeat.
+/// active entries. An edge may join a node to itself, parallel edges count each (they stand for different roads), and
+/// active entries may repeat.
 #[derive(Debug)]
 pub struct ContractTables<'a> {
     /// The nodes.
@@ -208,7 +210,7 @@ pub fn answers(table: &[u8], t: usize) -> Result<&[u8], Error> {
 /// ```
 /// use lumzhasel::tables::{contract, contract_work, ContractTables};
 ///
-/// // Two segments that no other joins, and their ends by turns.
+/// // Two edges that no other joins, and their ends by turns.
 /// let (mut map, mut pieces) = ([0; 4], [0; 4]);
 /// contract(ContractTables {
 ///     n: 4,
@@ -261,7 +263,7 @@ mod tests {
             let error = fits(archive).unwrap_err();
             assert_eq!(error, Error::Version { archive });
             assert_eq!(error.refusal(), None);
-            let words = format!("the archive has version {archive} of the calls, this package is for version 4");
+            let words = format!("the archive has version {archive} of the calls, this package is for version 5");
             assert_eq!(error.to_string(), words);
         }
     }

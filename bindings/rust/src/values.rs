@@ -5,7 +5,8 @@ use crate::tables::{self, ContractTables, ReplayTables, Totals, CLOSES, OPENS};
 
 /// Junctions and the segments between them; or nodes and edges, for a contraction. Both are numbered from 0.
 ///
-/// A segment may join a junction to itself, and several may join the same two. Ends are not checked before a call is
+/// A segment may join a junction to itself, and several may join the same two: in a replay all segments with the same
+/// two ends, in either order, are one road, which is open while any of them is. Ends are not checked before a call is
 /// made: one that is no junction is refused then. A segment is closed at the start of a replay, unless the network says
 /// that it is open.
 #[derive(Clone, Debug, Default, PartialEq, Eq, Hash)]
@@ -119,7 +120,8 @@ impl Network {
         })
     }
 
-    /// Contracts the graph of all segments, open or closed, to the active nodes, which may repeat.
+    /// Contracts the graph of all segments, open or closed, to the active nodes, which may repeat. Each segment is an
+    /// edge of its own here, also where several have the same ends.
     ///
     /// # Errors
     ///
@@ -273,11 +275,11 @@ impl Extend<Event> for List {
 #[derive(Clone, Copy, Debug, PartialEq, Eq, Hash)]
 #[non_exhaustive]
 pub enum Answer {
-    /// 0: no route of open segments runs between the junctions.
+    /// 0: no route of open roads runs between the junctions.
     NotJoined,
-    /// 1: they are joined, and some single removal of an open segment parts them.
+    /// 1: they are joined, and the loss of some single road parts them.
     JoinedOnce,
-    /// 2: they are joined, and stay joined whichever single open segment is removed.
+    /// 2: they are joined, and stay joined whichever single road is lost.
     JoinedTwice,
     /// A byte that this package has no name for.
     Other(u8),

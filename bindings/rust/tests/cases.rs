@@ -49,10 +49,45 @@ fn nothing_open() {
 #[test]
 fn one_segment_and_two() {
     assert_eq!(bytes(2, &[(0, 1)], &[(OPENS, 0), (0, 1)]), [3, 1]);
+    // Two are one road, in either order of their ends.
+    for second in [(0, 1), (1, 0)] {
+        let segments = [(0, 1), second];
+        assert_eq!(bytes(2, &segments, &[(OPENS, 0), (OPENS, 1), (0, 1)]), [3, 3, 1]);
+    }
+}
+
+#[test]
+fn a_road_of_two_segments() {
+    // It is open while any of its segments is.
+    let segments = [(0, 1), (1, 0)];
+    let events = [(0, 1), (CLOSES, 0), (0, 1), (CLOSES, 1), (0, 1), (OPENS, 0), (0, 1)];
+    let got = list(2, 8, &segments, &events).with_start(&[1, 1]).compare();
+    assert_eq!(got.answers, [1, 3, 1, 3, 0, 3, 1]);
+    assert_eq!(got.reply.map(|r| (r.0, r.1)), Ok((4, 1)));
+    // What opens twice and what closes twice is a segment.
     assert_eq!(
-        bytes(2, &[(0, 1), (0, 1)], &[(OPENS, 0), (OPENS, 1), (0, 1)]),
-        [3, 3, 2]
+        refusal(&list(2, 8, &segments, &[(CLOSES, 1)]).with_start(&[1, 0])),
+        (7, 0)
     );
+    assert_eq!(
+        refusal(&list(2, 8, &segments, &[(OPENS, 0)]).with_start(&[1, 0])),
+        (6, 0)
+    );
+
+    // Between other junctions there is a second way round, whichever road is lost.
+    let segments = [(0, 1), (1, 2), (2, 0), (1, 0)];
+    let query = list(3, 8, &segments, &[(0, 1)]).with_start(&[1, 1, 1, 1]).compare();
+    assert_eq!((query.reply, query.answers), (Ok((1, 4, 1)), vec![2]));
+    // A window that names one of the road's segments has no edge for it, though another stays open: 0 and 1 are two nodes.
+    let opened = list(3, 8, &segments, &[(OPENS, 3)]).with_start(&[1, 1, 1, 0]).compare();
+    assert_eq!(opened.reply, Ok((0, 4, 2)));
+    // A road from a junction to itself.
+    let rings = list(2, 8, &[(0, 0), (0, 0), (0, 1)], &[(0, 1)])
+        .with_start(&[1, 1, 1])
+        .compare();
+    assert_eq!((rings.reply, rings.answers), (Ok((1, 3, 2)), vec![1]));
+    // In a contraction two edges with the same ends are two roads.
+    assert_eq!(graph(2, &[(0, 1), (1, 0)], &[0, 1]).compare().reply, Ok((1, 0)));
 }
 
 #[test]
@@ -148,7 +183,8 @@ fn the_shares() {
 #[test]
 fn the_limits_of_a_replay() {
     let most = list(4096, 8, &vec![(0, 4095); 8192], &vec![(0, 4095); 4096]);
-    for (entry, open, byte) in [(0, 0, 0), (1, 8192, 2)] {
+    // All segments are one road.
+    for (entry, open, byte) in [(0, 0, 0), (1, 8192, 1)] {
         let got = most.clone().with_start(&[entry; 8192]).call();
         assert_eq!(got.reply.map(|r| (r.0, r.1)), Ok((4096, open)));
         assert!(got.answers.iter().all(|b| *b == byte));

@@ -81,7 +81,7 @@ pub struct LumReplayReply {
 pub extern "C" fn lum_version() -> u32
     ensures { λ r. ⌜ r ≡ version ⌝ }
 {
-    4
+    5
 }
 
 // The sizes' check.

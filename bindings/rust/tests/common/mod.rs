@@ -26,22 +26,33 @@ pub fn components(n: usize, edges: &[Edge]) -> Vec<usize> {
     }
 }
 
-/// The components of a graph, and those after the removal of each edge in turn.
+/// Whether two segments are of one road: they have the same two ends, in either order.
+fn same_road((u, v): Edge, other: Edge) -> bool {
+    other == (u, v) || other == (v, u)
+}
+
+/// The components of a graph, and those after each removal in turn.
 pub struct Removals {
     whole: Vec<usize>,
     without: Vec<Vec<usize>>,
 }
 
 impl Removals {
+    /// Each edge is removed by itself.
     pub fn of(n: usize, edges: &[Edge]) -> Removals {
+        Removals::by(n, edges, |e, i| i == e)
+    }
+
+    /// With each segment its whole road is removed.
+    fn of_roads(n: usize, segments: &[Edge]) -> Removals {
+        Removals::by(n, segments, |s, i| same_road(segments[s], segments[i]))
+    }
+
+    /// The removal of e takes i away where `goes(e, i)`.
+    fn by(n: usize, edges: &[Edge], goes: impl Fn(usize, usize) -> bool) -> Removals {
         let without = (0..edges.len()).map(|e| {
-            let left: Vec<Edge> = edges
-                .iter()
-                .enumerate()
-                .filter(|(i, _)| *i != e)
-                .map(|(_, e)| *e)
-                .collect();
-            components(n, &left)
+            let left = (0..edges.len()).filter(|&i| !goes(e, i));
+            components(n, &left.map(|i| edges[i]).collect::<Vec<Edge>>())
         });
         Removals {
             whole: components(n, edges),
@@ -265,18 +276,26 @@ impl List {
         all.iter()
             .map(|&(first, n)| {
                 let open = self.open_before(first);
-                let mut named = vec![false; self.m];
+                let mut named: Vec<Edge> = Vec::new();
                 let mut active = Vec::new();
                 for i in first..first + n {
                     let (x, y) = (self.x[i], self.y[i] as usize);
                     if x == OPENS || x == CLOSES {
-                        named[y] = true;
-                        active.extend([self.a[y] as usize, self.b[y] as usize]);
+                        let (u, v) = (self.a[y] as usize, self.b[y] as usize);
+                        named.push((u, v));
+                        active.extend([u, v]);
                     } else {
                         active.extend([x as usize, y]);
                     }
                 }
-                slow_contract(self.n, &self.segments(|s| open[s] && !named[s]), &active).nodes
+                // One edge for each road that is open and of which no segment is named.
+                let mut roads: Vec<Edge> = Vec::new();
+                for s in self.segments(|s| open[s]) {
+                    if !named.iter().chain(&roads).any(|&r| same_road(r, s)) {
+                        roads.push(s);
+                    }
+                }
+                slow_contract(self.n, &roads, &active).nodes
             })
             .sum()
     }
@@ -295,7 +314,7 @@ impl List {
             *byte = 3;
             if self.x[i] != OPENS && self.x[i] != CLOSES {
                 let open = self.open_before(i);
-                let removals = Removals::of(self.n, &self.segments(|s| open[s]));
+                let removals = Removals::of_roads(self.n, &self.segments(|s| open[s]));
                 *byte = removals.answer(self.x[i] as usize, self.y[i] as usize);
                 queries += 1;
             }
@@ -543,12 +562,20 @@ pub fn graph(n: usize, edges: &[(u16, u16)], active: &[u16]) -> Graph {
     }
 }
 
-/// A list without a fault, of at most these sizes.
+/// A list without a fault, of at most these sizes. In most of them segments have the ends of others, in either order.
 pub fn random_list(r: &mut Numbers, junctions: usize, segments: usize, events: usize) -> List {
     let n = 1 + r.below(junctions);
     let m = r.below(segments + 1);
     let t = r.below(events + 1);
-    let ends: Vec<(u16, u16)> = (0..m).map(|_| (r.below(n) as u16, r.below(n) as u16)).collect();
+    // None of the segments doubles another one, or some, or most.
+    let doubled = r.below(4);
+    let mut ends: Vec<(u16, u16)> = Vec::new();
+    for s in 0..m {
+        let fresh = (r.below(n) as u16, r.below(n) as u16);
+        let double = s > 0 && r.below(4) < doubled;
+        let (u, v) = if double { ends[r.below(s)] } else { fresh };
+        ends.push(if r.below(2) == 0 { (u, v) } else { (v, u) });
+    }
     // None of the segments is open at the start, or some, or all.
     let fourths = r.below(5);
     let mut open: Vec<bool> = (0..m).map(|_| r.below(4) < fourths).collect();
