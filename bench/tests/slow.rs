@@ -1,7 +1,7 @@
 //! The plain Rust replay and contraction, and the searches, against slow versions written from the definitions, and against vectors.
 
 use bench::random::Random;
-use bench::{contraction, lists, replay, search, Refusal, CLOSES, OPENS};
+use bench::{contraction, lists, replay, roads, search, Refusal, CLOSES, OPENS};
 use std::fmt::Debug;
 use std::str::FromStr;
 
@@ -368,6 +368,25 @@ fn names_shared_road(l: &lists::List) -> bool {
     let events = || l.x.iter().zip(&l.y).filter(|e| *e.0 >= CLOSES);
     let named = || events().map(|e| *e.1);
     named().any(|s| named().any(|o| s != o && same_road(ends(s), ends(o))))
+}
+
+/// A road's name is the smallest segment with its ends.
+#[test]
+fn names() {
+    let mut random = Random::new(3);
+    for _ in 0..2_000 {
+        let n = 1 + random.below(10);
+        let m = 1 + random.below(30);
+        let doubles = random.below(m);
+        let l = lists::random_list(n, m, doubles, 0, 0, 0, &mut random);
+        let ends = |s: usize| (l.a[s] as usize, l.b[s] as usize);
+        let (mut found, mut work) = (vec![77; m], vec![77; 2 * n]);
+        roads::name(n, &l.a, &l.b, &mut found, &mut work);
+        for s in 0..m {
+            let least = (0..m).find(|&o| same_road(ends(s), ends(o))).unwrap();
+            assert_eq!(found[s] as usize, least);
+        }
+    }
 }
 
 /// Two segments 0-1 are one road, whose loss parts its ends, in either order of the ends.
