@@ -82,8 +82,8 @@ fn check_events(
 /// The nodes of an event's two junctions.
 type Places = [u32; 2];
 
-/// What the recursion needs of an event, all 0 for a query: 1 + 4 times the road of its segment + 2 where that road is open just before
-/// + 1 where it is open just after; the next event of the road, t where there is none; 1 + the last event before it of the road, or 0.
+/// What the recursion needs of an event, all 0 for a query: 1 + 4 times the road of its segment + 2 where the road is open just before + 1
+/// where it is open just after; the next event that names the road, t where there is none; 1 + the last event before it that does, or 0.
 type Event = [u32; 3];
 
 /// The road of the segment that an event names, where it is no query.
