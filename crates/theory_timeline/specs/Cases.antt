@@ -134,6 +134,24 @@ table =
     ∷ (replayFrom (1 ∷ 2 ∷ 3 ∷ []) 3 (0 ∷ 1 ∷ 2 ∷ []) (1 ∷ 2 ∷ 0 ∷ []) (9 ∷ []) (9 ∷ []) 8, replayed (11, 1, 0, 0, 0, 9 ∷ []))
     -- with an end out of range at a later segment: 4
     ∷ (replayFrom (2 ∷ 0 ∷ 0 ∷ []) 3 (0 ∷ 1 ∷ 2 ∷ []) (1 ∷ 2 ∷ 3 ∷ []) (9 ∷ []) (9 ∷ []) 8, replayed (4, 2, 0, 0, 0, 9 ∷ []))
+    -- two segments between 0 and 1, drawn once in each order, are one road: 1
+    ∷ (replayOf 2 (0 ∷ 1 ∷ []) (1 ∷ 0 ∷ []) (65535 ∷ 65535 ∷ 0 ∷ []) (0 ∷ 1 ∷ 1 ∷ []) 8, replayed (0, 0, 1, 2, 10, 3 ∷ 3 ∷ 1 ∷ []))
+    -- both open at the start: once one has closed the answer stays 1, and with the other it is 0
+    ∷ (
+      replayFrom (1 ∷ 1 ∷ []) 2 (0 ∷ 1 ∷ []) (1 ∷ 0 ∷ []) (65534 ∷ 0 ∷ 65534 ∷ 0 ∷ []) (0 ∷ 1 ∷ 1 ∷ 1 ∷ []) 8,
+      replayed (0, 0, 2, 0, 14, 3 ∷ 1 ∷ 3 ∷ 0 ∷ []),
+    )
+    -- a triangle with two segments for its side 0-1, all open: 2; and these two the only way: 1
+    ∷ (replayFrom (1 ∷ 1 ∷ 1 ∷ 1 ∷ []) 3 (0 ∷ 1 ∷ 2 ∷ 1 ∷ []) (1 ∷ 2 ∷ 0 ∷ 0 ∷ []) (0 ∷ []) (1 ∷ []) 8, replayed (0, 0, 1, 4, 1, 2 ∷ []))
+    ∷ (replayFrom (1 ∷ 0 ∷ 0 ∷ 1 ∷ []) 3 (0 ∷ 1 ∷ 2 ∷ 1 ∷ []) (1 ∷ 2 ∷ 0 ∷ 0 ∷ []) (0 ∷ []) (1 ∷ []) 8, replayed (0, 0, 1, 2, 2, 1 ∷ []))
+    -- kept of such a list: the second segment of side 0-1 opens, then 0 and 2 are asked for. The side is in no network of a window that names one of its two
+    -- segments, though the other is open throughout: 3 nodes for both events, 2 for the first, 1 for the query.
+    ∷ (
+      replayFrom (1 ∷ 1 ∷ 1 ∷ 0 ∷ []) 3 (0 ∷ 1 ∷ 2 ∷ 1 ∷ []) (1 ∷ 2 ∷ 0 ∷ 0 ∷ []) (65535 ∷ 0 ∷ []) (3 ∷ 2 ∷ []) 8,
+      replayed (0, 0, 1, 4, 6, 3 ∷ 2 ∷ []),
+    )
+    -- a loop at a junction is a road, and two of them are one: they join nothing
+    ∷ (replayFrom (1 ∷ 1 ∷ []) 2 (0 ∷ 0 ∷ []) (0 ∷ 0 ∷ []) (65534 ∷ 0 ∷ []) (1 ∷ 1 ∷ []) 8, replayed (0, 0, 1, 1, 5, 3 ∷ 0 ∷ []))
     -- edges 0-2 and 1-3, active 3, 0, 1, 2: two pieces, which the entries meet in turn, the one of node 3 first
     ∷ (
       contractionOf 4 (0 ∷ 1 ∷ []) (2 ∷ 3 ∷ []) (3 ∷ 0 ∷ 1 ∷ 2 ∷ []),

@@ -1,0 +1,62 @@
+-- What a reader of document 02, No. 3, expects: the byte of a query is by the loss of roads, straight from the open segments and with no list of roads in
+-- sight; and a window's network has just the roads that are open before it and that have no segment named in it.
+-- Assumes nothing.
+use Prim.Native.Nat.{_+_, _<_, ℕ}
+use mathlib.Core.Bool.{_&&_, cond, false, not, true}
+use mathlib.Core.List.{List, List·Memᴰ}
+use mathlib.Core.Path.{_∙_, _≡_, ap, ap₂, subst, sym}
+use lib.ListN.{getD, length}
+use native.Mathlib.Omega.{arith}
+use borrow.Author.Tests.{not-true}
+use Rattle.theory_graph.proofs.Booleans.{and-elim, contradict, onBool}
+use Rattle.theory_graph.specs.Graph.{Edge}
+use Rattle.theory_timeline.proofs.EventLaws.{named-road, road-named}
+use Rattle.theory_timeline.proofs.RoadLaws.{mem-pick, open-segment, pick-mem, road-ends, road-most, road-same, road-twice, roads-answer, same-road, segment-open}
+use Rattle.theory_timeline.specs.Events.{asks, named, namedRoads, networkOf, openRoads}
+use Rattle.theory_timeline.specs.Replay.{byte}
+use Rattle.theory_timeline.specs.Roads.{road, roadAnswer, sameEnds, sameRoad}
+use Rattle.theory_timeline.specs.Windows.{Timeline, Window, during, edgesOf, event, network, openBefore}
+
+-- 3 where an event opens or closes; else by the segments open before it: joined, and joined after the loss of each single road in turn
+pub byte-roads : (g : Timeline) (i : ℕ) → byte g i ≡ cond (asks (event g i)) (roadAnswer (edgesOf g (openBefore g i)) (event g i .0) (event g i .1)) 3
+unfolding byte
+byte-roads g i = ap (λ (a : ℕ). cond (asks (event g i)) a 3) (roads-answer (g .segments) (openBefore g i) (event g i .0) (event g i .1))
+
+-- ---- a window's network, in terms of segments
+module _ (g : Timeline) (w : Window) where
+  abbrev segs : List Edge
+  segs = g .segments
+
+  -- an edge of the network joins the ends of a segment that is open before the window, and no segment with these ends is named in it
+  pub network-road : (e : Edge) → List·Memᴰ e (network g w)
+      → (s : ℕ) × (s < length segs) × (openBefore g (w .0) s ≡ true) × (sameEnds e (getD segs s (0, 0)) ≡ true) × ((t : ℕ) → sameRoad segs s t ≡ true → named (during g w) t ≡ false)
+  unfolding network networkOf
+  network-road e m =
+      let (r, l, h, q) = pick-mem (λ r. openRoads segs (openBefore g (w .0)) r && not (namedRoads segs (during g w) r)) 0 segs e m in
+      let z : 0 + r ≡ r = omega arith in
+      and-elim (openRoads segs (openBefore g (w .0)) (0 + r)) (not (namedRoads segs (during g w) (0 + r))) h λ p n.
+      let (s, k, o, x) = open-segment segs (openBefore g (w .0)) (0 + r) p in
+      let y : r ≡ road segs s = sym z ∙ x in (
+        s,
+        k,
+        o,
+        subst (λ (e : Edge). sameEnds e (getD segs s (0, 0)) ≡ true) (sym q) (road-ends segs r s (ap (road segs) y ∙ road-twice segs s)),
+        λ t u. onBool (named (during g w) t)
+            (λ j. contradict (subst (λ (k : ℕ). namedRoads segs (during g w) k ≡ true) (sym (same-road segs s t u) ∙ sym x) (named-road segs (during g w) t j)) (not-true (namedRoads segs (during g w) (0 + r)) n))
+            (λ j. j),
+      )
+
+  -- and each such segment has an edge there with its ends
+  pub road-network : (s : ℕ) → s < length segs → openBefore g (w .0) s ≡ true → ((t : ℕ) → sameRoad segs s t ≡ true → named (during g w) t ≡ false)
+      → (e : Edge) × List·Memᴰ e (network g w) × (sameEnds (getD segs s (0, 0)) e ≡ true)
+  unfolding network networkOf
+  road-network s l o n =
+      let z : road segs s ≡ 0 + road segs s = omega arith in (
+        getD segs (road segs s) (0, 0),
+        mem-pick (λ r. openRoads segs (openBefore g (w .0)) r && not (namedRoads segs (during g w) r)) 0 segs (road segs s) (omega (arith, road-most segs s))
+            (subst (λ (r : ℕ). (openRoads segs (openBefore g (w .0)) r && not (namedRoads segs (during g w) r)) ≡ true) z
+            (ap₂ (λ a b. a && not b) (segment-open segs (openBefore g (w .0)) s l o) (onBool (namedRoads segs (during g w) (road segs s))
+            (λ h. let (t, j, x) = road-named segs (during g w) (road segs s) h in contradict j (n t (road-ends segs s t x)))
+            (λ h. h)))),
+        road-same segs s,
+      )
