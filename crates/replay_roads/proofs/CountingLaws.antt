@@ -25,18 +25,16 @@ use Rattle.replay_roads.specs.Naming.{RoadsNamed}
 use Rattle.replay_roads.specs.Runs.{Filled, run}
 
 -- ---- one more number
+count-cons : (b : Bool) (i : ℕ) (l : List ℕ) → length (cond b (i ∷ l) l) ≡ bit b + length l
+count-cons true i l = omega arith
+count-cons false i l = omega arith
+
 count-suc : (f : ℕ → Bool) (i k : ℕ) → length (filter f (range i (suc k))) ≡ length (filter f (range i k)) + bit (f (i + k))
-count-suc f i zero = let z : i + 0 ≡ i = omega arith in rw z (go (f i))
-  where
-    go : (b : Bool) → length (cond b (i ∷ []) []) ≡ 0 + bit b
-    go true = refl
-    go false = refl
-count-suc f i (suc k) = let z : suc i + k ≡ i + suc k = omega arith in go (f i) (subst (λ (j : ℕ). length (filter f (range (suc i) (suc k))) ≡ length (filter f (range (suc i) k)) + bit (f j)) z (count-suc f (suc i) k))
-  where
-    go : (b : Bool) → length (filter f (range (suc i) (suc k))) ≡ length (filter f (range (suc i) k)) + bit (f (i + suc k))
-        → length (cond b (i ∷ filter f (range (suc i) (suc k))) (filter f (range (suc i) (suc k)))) ≡ length (cond b (i ∷ filter f (range (suc i) k)) (filter f (range (suc i) k))) + bit (f (i + suc k))
-    go true h = omega arith
-    go false h = h
+count-suc f i zero = let z : i + 0 ≡ i = omega arith in rw z (count-cons (f i) i [] ∙ omega arith)
+count-suc f i (suc k) =
+    let z : suc i + k ≡ i + suc k = omega arith in
+    let e : bit (f (suc i + k)) ≡ bit (f (i + suc k)) = ap (λ (j : ℕ). bit (f j)) z in
+    omega (arith, count-cons (f i) i (filter f (range (suc i) (suc k))), count-cons (f i) i (filter f (range (suc i) k)), count-suc f (suc i) k)
 
 -- by names
 module _ (o : SegmentSet) (name : ℕ → ℕ) where
@@ -144,7 +142,8 @@ segment-closed start q s w n = sym (ap (λ (b : Bool). cond b (set w (q + length
 
 -- ---- the whole
 -- the names stand, and the counts are 0
-module _ {n q : ℕ} {a b start w w₁ w₂ : List ℕ} (k : RoadTables n a b start) (room : q + 2 * length a + 2 * n ≤ length w) (g : RoadsNamed a b q w w₁) (f : Filled (q + length a) (length a) 0 w₁ w₂) where
+module _ {n q : ℕ} {a b start w w₁ w₂ : List ℕ} (k : RoadTables n a b start) (room : q + 2 * length a + 2 * n ≤ length w) (g : RoadsNamed a b q w w₁)
+    (f : Filled (q + length a) (length a) 0 w₁ w₂) where
   names-stay : (s : ℕ) → s < length a → run q w₂ s ≡ road (pairs a b) s
   unfolding run
   names-stay s l = f .front (q + s) (omega arith) ∙ g .names s l
@@ -167,7 +166,8 @@ module _ {n q : ℕ} {a b start w w₁ w₂ : List ℕ} (k : RoadTables n a b st
   segments-long : length start ≡ length (pairs a b)
   segments-long =
       let e : length b ≤ length a = omega (arith, k .b-long) in
-      k .start-long ∙ sym (length-pairs (length a) a b (omega arith) (omega (arith, k .b-long))) ∙ ap₂ (λ (x y : List ℕ). length (pairs x y)) (take-all (length a) a (omega arith)) (take-all (length a) b e)
+      k .start-long ∙ sym (length-pairs (length a) a b (omega arith) (omega (arith, k .b-long)))
+      ∙ ap₂ (λ (x y : List ℕ). length (pairs x y)) (take-all (length a) a (omega arith)) (take-all (length a) b e)
 
   pub roads-counted : {z : List ℕ} → Counting start q w₂ z (length start) → RoadsCounted a b start q w z
   unfolding run countOpen openSegments

@@ -7,7 +7,7 @@ pub mod TagLaws
 pub mod CountLaws
 pub mod DemandThree
 pub mod Steps
-pub mod ByRoads
+pub mod Readers
 pub mod EmptyList
 pub mod ProgramLaws
 pub mod Leaves

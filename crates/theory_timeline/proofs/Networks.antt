@@ -11,7 +11,7 @@ use lib.ListN.{drop, getD, take, take-append-drop}
 use lib.Seq.{drop-drop, take-add, take-length, take-nil, take-take}
 use native.Mathlib.Omega.{arith}
 use borrow.Author.Tests.{not-true}
-use Rattle.theory_graph.proofs.Booleans.{and-elim, contradict, onBool, or-neither}
+use Rattle.theory_graph.proofs.Booleans.{and-elim, onBool, or-neither}
 use Rattle.theory_graph.proofs.Composition.{compose}
 use Rattle.theory_graph.proofs.CutEquivalence.{small-cuts-equal}
 use Rattle.theory_graph.proofs.Cuts.{cut-append}
@@ -24,9 +24,9 @@ use Rattle.theory_graph.specs.Graph.{Edge, NodeSet}
 use Rattle.theory_graph.specs.Lists.{member}
 use Rattle.theory_graph.specs.SmallGraph.{Carries, endsIn, image}
 use Rattle.theory_timeline.proofs.EventLaws.{active-left, active-named, active-right, named-roads-append, pick-sum, pick-within, road-named, roads-stay}
-use Rattle.theory_timeline.proofs.RoadLaws.{ends-in, ends-sym, names-apart, names-different, open-name, road-same}
+use Rattle.theory_timeline.proofs.RoadLaws.{ends-in, ends-sym, names-different, open-name, road-same}
 use Rattle.theory_timeline.proofs.WindowLaws.{first-part}
-use Rattle.theory_timeline.specs.DemandThree.{Allowed, NewRoads}
+use Rattle.theory_timeline.specs.DemandThree.{Allowed}
 use Rattle.theory_timeline.specs.Events.{Event, SegmentSet, activeOf, after, afterAll, namedRoads, networkOf, openRoads, pick}
 use Rattle.theory_timeline.specs.Roads.{DifferentRoads, road, sameEnds}
 use Rattle.theory_timeline.specs.Steps.{Made, Part, added, down, top}
@@ -164,33 +164,17 @@ module _ (g : Timeline) (w c : Window) (h : Part w c) where
 
 -- ---- one edge for each road
 module _ (g : Timeline) (w : Window) where
-  abbrev around : SegmentSet
+  -- the roads of its network
+  abbrev pub around : SegmentSet
   around r = openRoads (g .segments) (openBefore g (w .0)) r && not (namedRoads (g .segments) (during g w) r)
 
-  around-name : (r : ℕ) → around r ≡ true → (road (g .segments) r ≡ r) × (namedRoads (g .segments) (during g w) r ≡ false)
+  pub around-name : (r : ℕ) → around r ≡ true → (road (g .segments) r ≡ r) × (namedRoads (g .segments) (during g w) r ≡ false)
   around-name r h = and-elim (openRoads (g .segments) (openBefore g (w .0)) r) (not (namedRoads (g .segments) (during g w) r)) h λ p q.
       (open-name (g .segments) (openBefore g (w .0)) r p .0, not-true (namedRoads (g .segments) (during g w) r) q)
 
   pub network-different : DifferentRoads (network g w)
   unfolding network networkOf
   network-different = names-different (g .segments) around (λ r h. around-name r h .0)
-
-  -- what a step adds are new roads, as demand 3 adds them
-  pub added-new : (c : Window) → NewRoads (network g w) (added g w c)
-  unfolding network networkOf added
-  added-new c =
-      record {
-        different = names-different (g .segments) more (λ r h. more-name r h .0);
-        fresh = names-apart (g .segments) around more (λ r h. around-name r h .0) (λ r h. more-name r h .0)
-            (λ r h. onBool (more r) (λ t. contradict (more-name r t .1) (around-name r h .1)) (λ t. t));
-      }
-    where
-      more : SegmentSet
-      more r = openRoads (g .segments) (openBefore g (c .0)) r && (namedRoads (g .segments) (during g w) r && not (namedRoads (g .segments) (during g c) r))
-
-      more-name : (r : ℕ) → more r ≡ true → (road (g .segments) r ≡ r) × (namedRoads (g .segments) (during g w) r ≡ true)
-      more-name r h = and-elim (openRoads (g .segments) (openBefore g (c .0)) r) (namedRoads (g .segments) (during g w) r && not (namedRoads (g .segments) (during g c) r)) h λ p q.
-          (open-name (g .segments) (openBefore g (c .0)) r p .0, and-elim (namedRoads (g .segments) (during g w) r) (not (namedRoads (g .segments) (during g c) r)) q λ a b. a)
 
 -- the whole list's network: the roads that are open at the start and that no event names
 pub network-start : (g : Timeline) → network g (0, size g) ≡ networkOf (g .segments) (g .events) (g .start)

@@ -12,15 +12,21 @@ get-requires c κs =
 
 put-requires : tie.Need-put-requires
 put-requires c κs =
-    let start = c .before .before .before .before .before .before .before .before .before in
-    let r = c .before .before .before .get .ensures .0 in
+    let at-get2 = c .before in
+    let at-get = at-get2 .before .before in
+    let start = at-get .before .before .before .before .before .before in
+    let r = at-get .get .ensures .0 in
     let l = name-found (start .pre) r in
-    (omega (arith, start .pre .room), omega (arith, count-found (start .pre) r (c .before .get2 .ensures .0)))
+    (omega (arith, start .pre .room), omega (arith, count-found (start .pre) r (at-get2 .get2 .ensures .0)))
 
 returns : tie.Need-returns
 returns c =
-    let start = c .before .before .before .before .before .before .before .before .before .before .before .before in
-    segment-counted (start .pre) (c .before .before .before .before .before .before .get .ensures .0) (c .before .before .before .before .get2 .ensures .0) (c .before .before .before .before .before .before .before .before .if1 .taken) (c .before .before .put .ensures)
+    let at-put = c .before .before in
+    let at-get2 = at-put .before .before in
+    let at-get = at-get2 .before .before in
+    let at-if1 = at-get .before .before in
+    let start = at-if1 .before .before .before .before in
+    segment-counted (start .pre) (at-get .get .ensures .0) (at-get2 .get2 .ensures .0) (at-if1 .if1 .taken) (at-put .put .ensures)
 
 returns-2 : tie.Need-returns-2
 returns-2 c = let a = c .before .before .before .before .args in segment-closed (a .start .now) (a .q) (a .s) (a .work .now) (c .if1 .left)

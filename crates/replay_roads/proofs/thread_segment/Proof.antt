@@ -17,19 +17,23 @@ get-requires c κs =
 
 add-put : tie.Need-add-put-5
 add-put c =
-    let start = c .before .before .before .before .before .before .before .before .before .before .before in
-    omega (arith, thread-fits (start .pre .0) (start .pre .1) (c .before .before .before .before .before .before .before .ends-of .ensures .0), start .pre .0 .room)
+    let at-ends = c .before .before .before .before .before .before .before in
+    let start = at-ends .before .before .before .before in
+    omega (arith, thread-fits (start .pre .0) (start .pre .1) (at-ends .ends-of .ensures .0), start .pre .0 .room)
 
 put-requires : tie.Need-put-requires-2
 put-requires c κs =
-    let start = c .before .before .before .before .before .before .before .before .before .before .before in
-    let l = thread-fits (start .pre .0) (start .pre .1) (c .before .before .before .before .before .before .before .ends-of .ensures .0) in
+    let at-ends = c .before .before .before .before .before .before .before in
+    let start = at-ends .before .before .before .before in
+    let l = thread-fits (start .pre .0) (start .pre .1) (at-ends .ends-of .ensures .0) in
     (omega (arith, start .pre .0 .room), omega (arith, start .pre .0 .tables .much))
 
 returns : tie.Need-returns
 returns c =
-    let start = c .before .before .before .before .before .before .before .before .before .before .before .before .before .before in
-    thread-more (start .pre .0) (start .pre .1) (c .before .before .before .before .before .before .before .before .before .before .ends-of .ensures .0) (c .before .before .before .before .before .before .before .before .get .ensures .0) (c .before .before .before .before .before .before .put .ensures) (c .before .before .put2 .ensures)
+    let at-get = c .before .before .before .before .before .before .before .before in
+    let at-ends = at-get .before .before in
+    let start = at-ends .before .before .before .before in
+    thread-more (start .pre .0) (start .pre .1) (at-ends .ends-of .ensures .0) (at-get .get .ensures .0) (c .before .before .before .before .before .before .put .ensures) (c .before .before .put2 .ensures)
 
 pub thread-segment-spec : {M : Type 1} → statement M
 thread-segment-spec =

@@ -14,12 +14,6 @@ Inv-loop n a b work₀ q v m s₀ work s = (length work ≡ length work₀) × A
 abbrev μ-loop : tie.MeasureT-loop
 μ-loop n a b work₀ q v m s₀ work s = m - s
 
-add-get : tie.Need-add-get Inv-loop μ-loop
-add-get c = omega (arith, c .before .before .before .before .pre .0 .room)
-
-add-get-2 : tie.Need-add-get-2 Inv-loop μ-loop
-add-get-2 c = omega (arith, c .before .before .before .before .pre .0 .room)
-
 get-requires : tie.Need-get-requires Inv-loop μ-loop
 get-requires c κs = omega (arith, c .before .before .before .before .pre .0 .room)
 
@@ -29,26 +23,20 @@ loop-holds c = (refl, along-start (c .before .before .before .before .before .pr
 name-segment-requires : tie.Need-name-segment-requires Inv-loop μ-loop
 name-segment-requires c κs = let l = c .before .before .loop in (l .inv .1 .words, omega arith, l .inv .1 .at (omega arith))
 
-add-get-3 : tie.Need-add-get-3 Inv-loop μ-loop
-add-get-3 c = omega (arith, c .before .before .before .name-segment .ensures .room)
-
-mul-get : tie.Need-mul-get Inv-loop μ-loop
-mul-get c = omega (arith, c .before .before .before .name-segment .ensures .room)
-
-add-get-4 : tie.Need-add-get-4 Inv-loop μ-loop
-add-get-4 c = omega (arith, c .before .before .before .name-segment .ensures .room)
-
-add-get-5 : tie.Need-add-get-5 Inv-loop μ-loop
-add-get-5 c = omega (arith, c .before .before .before .name-segment .ensures .room)
-
 get-requires-2 : tie.Need-get-requires-2 Inv-loop μ-loop
 get-requires-2 c κs = omega (arith, c .before .before .before .name-segment .ensures .room)
 
 loop-less : tie.Need-loop-less Inv-loop μ-loop
-loop-less c = omega (arith, along-more (c .before .before .before .before .before .before .before .loop .inv .1) (omega arith) (c .before .before .before .before .name-segment .ensures) (c .get2 .ensures .0) .1)
+loop-less c =
+    let at-name = c .before .before .before .before in
+    let at-loop = at-name .before .before .before in
+    omega (arith, along-more (at-loop .loop .inv .1) (omega arith) (at-name .name-segment .ensures) (c .get2 .ensures .0) .1)
 
 loop-again : tie.Need-loop-again Inv-loop μ-loop
-loop-again c = (search needs, along-more (c .before .before .before .before .before .before .before .loop .inv .1) (omega arith) (c .before .before .before .before .name-segment .ensures) (c .get2 .ensures .0) .0)
+loop-again c =
+    let at-name = c .before .before .before .before in
+    let at-loop = at-name .before .before .before in
+    (search needs, along-more (at-loop .loop .inv .1) (omega arith) (at-name .name-segment .ensures) (c .get2 .ensures .0) .0)
 
 same-length : tie.Need-same-length Inv-loop μ-loop
 same-length c = c .before .loop .inv .0
@@ -62,15 +50,15 @@ walk-spec =
     (tie.spec
     Inv-loop
     μ-loop
-    add-get
-    add-get-2
+    (λ c. omega (arith, c .before .before .before .before .pre .0 .room))
+    (λ c. omega (arith, c .before .before .before .before .pre .0 .room))
     get-requires
     loop-holds
     name-segment-requires
-    add-get-3
-    mul-get
-    add-get-4
-    add-get-5
+    (λ c. omega (arith, c .before .before .before .name-segment .ensures .room))
+    (λ c. omega (arith, c .before .before .before .name-segment .ensures .room))
+    (λ c. omega (arith, c .before .before .before .name-segment .ensures .room))
+    (λ c. omega (arith, c .before .before .before .name-segment .ensures .room))
     get-requires-2
     loop-less
     loop-again

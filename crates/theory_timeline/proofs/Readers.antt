@@ -1,5 +1,6 @@
 -- What a reader of document 02, No. 3, expects: the byte of a query is by the loss of roads, straight from the open segments and with no list of roads in
--- sight; and a window's network has just the roads that are open before it and that have no segment named in it.
+-- sight; a window's network has just the roads that are open before it and that have no segment named in it; and what a step adds are new roads, as demand 3
+-- adds them.
 -- Assumes nothing.
 use Prim.Native.Nat.{_+_, _<_, ℕ}
 use mathlib.Core.Bool.{_&&_, cond, false, not, true}
@@ -11,10 +12,14 @@ use borrow.Author.Tests.{not-true}
 use Rattle.theory_graph.proofs.Booleans.{and-elim, contradict, onBool}
 use Rattle.theory_graph.specs.Graph.{Edge}
 use Rattle.theory_timeline.proofs.EventLaws.{named-road, road-named}
-use Rattle.theory_timeline.proofs.RoadLaws.{mem-pick, open-segment, pick-mem, road-ends, road-most, road-same, road-twice, roads-answer, same-road, segment-open}
-use Rattle.theory_timeline.specs.Events.{asks, named, namedRoads, networkOf, openRoads}
+use Rattle.theory_timeline.proofs.Networks.{around, around-name}
+use Rattle.theory_timeline.proofs.RoadLaws.{mem-pick, names-apart, names-different, open-name, open-segment, pick-mem, road-ends, road-most}
+use Rattle.theory_timeline.proofs.RoadLaws.{road-same, road-twice, roads-answer, same-road, segment-open}
+use Rattle.theory_timeline.specs.DemandThree.{NewRoads}
+use Rattle.theory_timeline.specs.Events.{SegmentSet, asks, named, namedRoads, networkOf, openRoads}
 use Rattle.theory_timeline.specs.Replay.{byte}
 use Rattle.theory_timeline.specs.Roads.{road, roadAnswer, sameEnds, sameRoad}
+use Rattle.theory_timeline.specs.Steps.{added}
 use Rattle.theory_timeline.specs.Windows.{Timeline, Window, during, edgesOf, event, network, openBefore}
 
 -- 3 where an event opens or closes; else by the segments open before it: joined, and joined after the loss of each single road in turn
@@ -60,3 +65,20 @@ module _ (g : Timeline) (w : Window) where
             (λ h. h)))),
         road-same segs s,
       )
+
+  -- what a step adds are new roads, as demand 3 adds them
+  pub added-new : (c : Window) → NewRoads (network g w) (added g w c)
+  unfolding network networkOf added
+  added-new c =
+      record {
+        different = names-different segs more (λ r h. more-name r h .0);
+        fresh = names-apart segs (around g w) more (λ r h. around-name g w r h .0) (λ r h. more-name r h .0)
+            (λ r h. onBool (more r) (λ t. contradict (more-name r t .1) (around-name g w r h .1)) (λ t. t));
+      }
+    where
+      more : SegmentSet
+      more r = openRoads segs (openBefore g (c .0)) r && (namedRoads segs (during g w) r && not (namedRoads segs (during g c) r))
+
+      more-name : (r : ℕ) → more r ≡ true → (road segs r ≡ r) × (namedRoads segs (during g w) r ≡ true)
+      more-name r h = and-elim (openRoads segs (openBefore g (c .0)) r) (namedRoads segs (during g w) r && not (namedRoads segs (during g c) r)) h λ p q.
+          (open-name segs (openBefore g (c .0)) r p .0, and-elim (namedRoads segs (during g w) r) (not (namedRoads segs (during g c) r)) q λ a b. a)
