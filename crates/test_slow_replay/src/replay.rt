@@ -1,6 +1,7 @@
-// The slow replay. Where places is not 0, the network is a ring of that many places, and walking round tells the answers and the nodes; else the open
-// segments are removed in turn. Answers stand in A of a list.
+// The slow replay. The edges of a network are marks: one segment is marked for each of its roads. Where places is not 0, the network is a ring of that many
+// places, and walking round tells the answers and the nodes; else the open roads are removed in turn. Answers stand in A of a list.
 use crate::rings;
+use crate::roads;
 use test_library::calls::Lengths;
 use test_library::calls::Reply;
 use test_library::counts;
@@ -12,26 +13,60 @@ use test_slow_contraction::contraction;
 use test_slow_contraction::graphs;
 ghost use Prim.Native.Nat.{_<_, _≤_};
 
-// X of an event from which on it names a segment: the even number closes and the odd one opens.
-const CLOSES: usize = 65534;
+// X of an event that closes a segment, and of one that opens it. All other numbers are below them.
+pub(crate) const CLOSES: usize = 65534;
 
-// Changes the segments by the events from start to end. Where they are not to open, each segment that is named is closed.
-fn change(open: &mut Marks, l: &List, start: usize, end: usize, opens: bool) {
-    for i in start..end {
-        let x = lists::at(l, lists::X, i);
-        if x >= CLOSES {
-            tables::mark(open, lists::at(l, lists::Y, i), (x > CLOSES) & opens);
-        }
+pub(crate) const OPENS: usize = 65535;
+
+// Changes the segments by event i.
+pub(crate) fn change(open: &mut Marks, l: &List, i: usize) {
+    let x = lists::at(l, lists::X, i);
+    if x >= CLOSES {
+        tables::mark(open, lists::at(l, lists::Y, i), x == OPENS);
     }
 }
 
-// Marks the segments that are open before event i: those of the starting table, changed by the events before it.
-fn mark_open(open: &mut Marks, l: &List, i: usize) {
+// Marks the segments that the starting table opens.
+pub(crate) fn mark_start(open: &mut Marks, l: &List) {
     let m = lists::size(l, lists::B);
     for e in 0..m {
         tables::mark(open, e, lists::at(l, lists::START, e) == 1);
     }
-    change(open, l, 0, i, true);
+}
+
+// Marks the segments that are open before event i.
+fn mark_open(open: &mut Marks, l: &List, i: usize) {
+    mark_start(open, l);
+    for j in 0..i {
+        change(open, l, j);
+    }
+}
+
+// Marks an edge for each open road.
+fn mark_roads(edges: &mut Marks, l: &List, open: &Marks, places: usize) {
+    if places > 0 {
+        rings::mark_roads(edges, open, places);
+    } else {
+        roads::mark(edges, l, open);
+    }
+}
+
+// Takes the road of segment e away.
+fn remove_road(edges: &mut Marks, l: &List, e: usize, places: usize) {
+    if places > 0 {
+        rings::remove_road(edges, places, e);
+    } else {
+        roads::remove(edges, l, e);
+    }
+}
+
+// Takes away each road of which an event from start to end names a segment.
+fn remove_named(edges: &mut Marks, l: &List, start: usize, end: usize, places: usize) {
+    for i in start..end {
+        if lists::at(l, lists::X, i) >= CLOSES {
+            remove_road(edges, l, lists::at(l, lists::Y, i), places);
+        }
+    }
 }
 
 // One of the junctions that event i names.
@@ -42,49 +77,32 @@ fn junction(l: &List, i: usize, side: usize) -> usize {
     lists::at(l, counts::plus(lists::X, side), i)
 }
 
-// Marks the active junctions of a window, each at the number of its class on the ring.
-fn mark_active(
-    active: &mut Marks,
-    l: &List,
-    start: usize,
-    end: usize,
-    classes: &List,
-    places: usize,
-) {
+// Marks the active junctions of a window, where the first count junctions are one class and stand at the first of them.
+fn mark_active(active: &mut Marks, l: &List, start: usize, end: usize, count: usize) {
     for i in start..end {
-        tables::mark(
-            active,
-            rings::class(classes, places, junction(l, i, 0)),
-            true,
-        );
-        tables::mark(
-            active,
-            rings::class(classes, places, junction(l, i, 1)),
-            true,
-        );
+        tables::mark(active, rings::class(count, junction(l, i, 0)), true);
+        tables::mark(active, rings::class(count, junction(l, i, 1)), true);
     }
 }
 
-// The nodes of a window's small graph on a ring: the classes with an active junction.
-fn ring_nodes(l: &List, open: &Marks, start: usize, end: usize, places: usize) -> usize {
-    let mut classes = [0u16; 40968];
-    rings::number(&mut classes, open, places);
+// The nodes of a window's small graph, whose network has these edges. On a ring they are the classes with an active junction.
+fn network_nodes(l: &List, edges: &Marks, start: usize, end: usize, places: usize) -> usize {
     let mut active = [false; 8192];
-    mark_active(&mut active, l, start, end, &classes, places);
-    tables::ones(&active)
+    mark_active(&mut active, l, start, end, rings::one_class(edges, places));
+    if places > 0 {
+        return tables::ones(&active);
+    }
+    graphs::kept(l, edges, &active)
 }
 
-// The nodes of a window's small graph.
+// The nodes of a window's small graph. Its network has the roads that are open before it and of which it names no segment.
 fn nodes(l: &List, start: usize, end: usize, places: usize) -> usize {
     let mut open = [false; 8192];
     mark_open(&mut open, l, start);
-    change(&mut open, l, start, end, false);
-    if places > 0 {
-        return ring_nodes(l, &open, start, end, places);
-    }
-    let mut active = [false; 8192];
-    mark_active(&mut active, l, start, end, l, 0);
-    graphs::kept(l, &open, &active)
+    let mut edges = [false; 8192];
+    mark_roads(&mut edges, l, &open, places);
+    remove_named(&mut edges, l, start, end, places);
+    network_nodes(l, &edges, start, end, places)
 }
 
 // How many of n events the first part of a window has.
@@ -99,26 +117,28 @@ fn first_part(n: usize, p: usize) -> usize
     f
 }
 
-// The answer of event i.
+// The answer of event i, where these segments are open.
 fn answer(l: &List, open: &Marks, i: usize, places: usize) -> usize {
     let x = lists::at(l, lists::X, i);
     let y = lists::at(l, lists::Y, i);
     if x >= CLOSES {
         return 3;
     }
+    let mut edges = [false; 8192];
+    mark_roads(&mut edges, l, open, places);
     if places > 0 {
-        return rings::answer(open, places, x, y);
+        return rings::answer(&edges, places, x, y);
     }
-    graphs::answer(l, open, x, y)
+    graphs::answer(l, &edges, x, y)
 }
 
 fn answers(r: &mut List, l: &List, places: usize) {
     let t = lists::size(l, lists::X);
     let mut open = [false; 8192];
-    mark_open(&mut open, l, 0);
+    mark_start(&mut open, l);
     for i in 0..t {
         lists::set(r, lists::A, i, answer(l, &open, i, places));
-        change(&mut open, l, i, counts::plus(i, 1), true);
+        change(&mut open, l, i);
     }
 }
 
@@ -145,7 +165,7 @@ fn event_fault(l: &List, open: &Marks, i: usize) -> usize {
         return change_fault(
             lists::size(l, lists::B),
             tables::marked(open, y),
-            x > CLOSES,
+            x == OPENS,
             y,
         );
     }
@@ -158,12 +178,12 @@ fn event_fault(l: &List, open: &Marks, i: usize) -> usize {
 // The first event that is refused, or T, with the segments that are open then.
 fn bad_event(open: &mut Marks, l: &List) -> usize {
     let t = lists::size(l, lists::X);
-    mark_open(open, l, 0);
+    mark_start(open, l);
     for i in 0..t {
         if event_fault(l, open, i) > 0 {
             return i;
         }
-        change(open, l, i, counts::plus(i, 1), true);
+        change(open, l, i);
     }
     t
 }

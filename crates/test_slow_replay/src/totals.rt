@@ -1,4 +1,6 @@
 // Counts of lists on which a replay is compared with the slow one.
+use crate::replay;
+use crate::roads;
 use test_library::calls;
 use test_library::calls::Reply;
 use test_library::counts;
@@ -6,17 +8,80 @@ use test_library::lists;
 use test_library::lists::List;
 use test_library::print;
 use test_library::tables;
+use test_library::tables::Marks;
 use test_library::tables::Table;
+use test_slow_contraction::graphs;
+
+// Adds to the count at this line.
+fn raise(t: &mut Table, line: usize, more: usize) {
+    tables::put(t, line, counts::plus(tables::get(t, line), more));
+}
+
+// Whether an event with this X changes a segment while another one of its road is open.
+fn changes_beside(l: &List, x: usize) -> bool {
+    let t = lists::size(l, lists::X);
+    let mut open = [false; 8192];
+    replay::mark_start(&mut open, l);
+    for i in 0..t {
+        if lists::at(l, lists::X, i) == x {
+            if roads::other_open(l, &open, lists::at(l, lists::Y, i)) {
+                return true;
+            }
+        }
+        replay::change(&mut open, l, i);
+    }
+    false
+}
+
+// Whether event i has the answer 1, and would have 2 if each segment were a road.
+fn is_less(l: &List, open: &Marks, want: &List, i: usize) -> bool {
+    if lists::at(want, lists::A, i) != 1 {
+        return false;
+    }
+    graphs::answer(
+        l,
+        open,
+        lists::at(l, lists::X, i),
+        lists::at(l, lists::Y, i),
+    )
+        == 2
+}
+
+// How many events are so.
+fn less(l: &List, want: &List) -> usize {
+    let t = lists::size(l, lists::X);
+    let mut open = [false; 8192];
+    replay::mark_start(&mut open, l);
+    let mut found: usize = 0;
+    for i in 0..t {
+        found = counts::counted(found, is_less(l, &open, want, i));
+        replay::change(&mut open, l, i);
+    }
+    found
+}
+
+// Counts an accepted list by its roads, from 22 on: lists with a road of two or more segments, with one that is drawn in both orders, in which a segment opens
+// while another one of its road is open, and in which one closes so; and, but for rings, the answers that are 1 and would be 2 if each segment were a road.
+fn add_roads(t: &mut Table, l: &List, want: &List, places: usize) {
+    raise(t, 22, roads::any_copy(l, false) as usize);
+    raise(t, 23, roads::any_copy(l, true) as usize);
+    raise(t, 24, changes_beside(l, replay::OPENS) as usize);
+    raise(t, 25, changes_beside(l, replay::CLOSES) as usize);
+    if places == 0 {
+        raise(t, 26, less(l, want));
+    }
+}
 
 // Internal: counts a list: all, those with the most events, those with none, all and some of their segments open at the start, those on which the call and
 // the slow replay disagree, faults that are planted and noticed, answers and kept of those that are accepted; and at 13 those that are accepted, and behind
-// it those that are refused, by their number. The replay has no refusal by 8, and 11 stands there.
+// it those that are refused, by their number. The replay has no refusal by 8, and 11 stands there. Places is not 0 where the list is on a ring.
 pub fn add(
     t: &mut Table,
     l: &List,
     w: Reply,
     disagree: bool,
     want: &List,
+    places: usize,
     most: usize,
     planted: usize,
     noticed: usize,
@@ -46,8 +111,10 @@ pub fn add(
             0,
         ],
     );
-    let line = counts::plus(13, counts::least(w[0], 8));
-    tables::put(t, line, counts::plus(tables::get(t, line), 1));
+    raise(t, counts::plus(13, counts::least(w[0], 8)), 1);
+    if w[0] == 0 {
+        add_roads(t, l, want, places);
+    }
 }
 
 // Internal: prints the counts.
@@ -76,7 +143,23 @@ by 5: #\n\
 by 6: #\n\
 by 7: #\n\
 by 11: #\n\
+accepted with a road of two or more segments: #\n\
+with a road that is drawn in both orders: #\n\
+in which a segment opens while another one of its road is open: #\n\
+in which a segment closes while another one of its road is open: #\n\
 ",
         t,
+    );
+}
+
+// Internal: prints how many answers are 1 that would be 2 if each segment were a road. On rings they are not counted.
+pub fn report_less(t: &Table) {
+    let mut r = [0u32; 512];
+    tables::put(&mut r, 0, tables::get(t, 26));
+    print::report(
+        b"\
+answers 1 that would be 2 if each segment were a road: #\n\
+",
+        &r,
     );
 }

@@ -1,24 +1,27 @@
 use Prim.Native.Nat.{_≤_, _-_}
 use borrow.Author.Needs.{needs}
-use Rattle.test_slow_replay.proofs.rings.number_row.Statement.{statement}
-use Rattle.test_slow_replay.proofs.rings.number_row.Tie as tie
+use Rattle.test_slow_replay.proofs.totals.changes_beside.Statement.{statement}
+use Rattle.test_slow_replay.proofs.totals.changes_beside.Tie as tie
 
 abbrev Inv-loop : tie.InvT-loop
-Inv-loop r₀ places gap k₀ number₀ counter₀ r k number counter = counter ≤ places
+Inv-loop l x t open₀ i₀ «open» i = i ≤ t
 
 abbrev μ-loop : tie.MeasureT-loop
-μ-loop r₀ places gap k₀ number₀ counter₀ r k number counter = places - counter
+μ-loop l x t open₀ i₀ «open» i = t - i
 
-pub number-row-spec : {M : Type 1} → statement M
-number-row-spec =
+pub changes-beside-spec : {M : Type 1} → statement M
+changes-beside-spec =
     tie.close
     (tie.spec
     Inv-loop
     μ-loop
+    (λ c κs. search needs)
+    (λ c κs. search needs)
     (λ c. search needs)
     (λ c κs. search needs)
     (λ c κs. search needs)
     (λ c κs. search needs)
+    (λ c. search needs)
     (λ c κs. search needs)
     (λ c. search needs)
     (λ c. search needs)

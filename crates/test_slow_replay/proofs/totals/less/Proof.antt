@@ -1,23 +1,23 @@
 use Prim.Native.Nat.{_≤_, _-_}
 use borrow.Author.Needs.{needs}
-use Rattle.test_slow_replay.proofs.rings.count_copies.Statement.{statement}
-use Rattle.test_slow_replay.proofs.rings.count_copies.Tie as tie
+use Rattle.test_slow_replay.proofs.totals.less.Statement.{statement}
+use Rattle.test_slow_replay.proofs.totals.less.Tie as tie
 
 abbrev Inv-loop : tie.InvT-loop
-Inv-loop r₀ «open» places k₀ e₀ r k e = e ≤ 8192
+Inv-loop l want t open₀ found₀ i₀ «open» found i = i ≤ t
 
 abbrev μ-loop : tie.MeasureT-loop
-μ-loop r₀ «open» places k₀ e₀ r k e = 8192 - e
+μ-loop l want t open₀ found₀ i₀ «open» found i = t - i
 
-pub count-copies-spec : {M : Type 1} → statement M
-count-copies-spec =
+pub less-spec : {M : Type 1} → statement M
+less-spec =
     tie.close
     (tie.spec
     Inv-loop
     μ-loop
+    (λ c κs. search needs)
+    (λ c κs. search needs)
     (λ c. search needs)
-    (λ c κs. search needs)
-    (λ c κs. search needs)
     (λ c κs. search needs)
     (λ c κs. search needs)
     (λ c κs. search needs)
