@@ -1,6 +1,6 @@
 // Lists on the path 0-1-2 with loops for the segments that are left, at the limits and with faults. A case is N, M, T, the share, the table that is short, and
 // the numbers that vary: the end at which segment 1 begins, the starting entries of segments 0 and 1, and X of the first three events. Each Y is 1, the other
-// segments are open at the start, and the other events ask for junction 1 with itself.
+// segments are open at the start, and the other events ask for junction 1 with itself. Where segment 1 begins at 2 it is a loop, of one road with segment 2.
 use crate::networks;
 use test_library::calls;
 use test_library::lists;
@@ -14,7 +14,7 @@ pub type Fault = [usize; 4];
 // Internal: makes the list of a case, where all entries were 1.
 pub fn make(l: &mut List, c: Case) {
     lists::set_sizes(l, c[0], c[1], c[2], c[3]);
-    networks::make(l, networks::PATH, 0, 3);
+    networks::make(l, networks::PATH, 0, 3, 0);
     lists::set(l, lists::A, 1, c[5]);
     lists::set(l, lists::START, 0, c[6]);
     lists::set(l, lists::START, 1, c[7]);
@@ -36,18 +36,22 @@ pub fn case(i: usize) -> Case {
         6 => [3, 2, 2, 8, 0, 1, 1, 1, 65535, 0, 0],
         7 => [3, 2, 2, 8, 0, 1, 1, 1, 65534, 65534, 0],
         8 => [3, 2, 2, 8, 0, 1, 1, 1, 65534, 65535, 0],
-        9 => [3, 2, 2, 8, 0, 1, 1, 2, 0, 0, 0],
-        10 => [3, 1, 2, 8, calls::LONGER, 1, 1, 2, 0, 0, 0],
-        11 => [3, 2, 2, 3, 0, 1, 1, 0, 0, 0, 0],
-        12 => [3, 2, 2, 4, 0, 1, 1, 0, 0, 0, 0],
-        13 => [3, 2, 2, 12, 0, 1, 1, 0, 0, 0, 0],
-        14 => [3, 2, 2, 13, 0, 1, 1, 0, 0, 0, 0],
-        15 => [3, 2, 2, 8, 0, 1, 1, 0, 65535, 0, 0],
-        16 => [4097, 2, 2, 13, 3, 65000, 65535, 0, 65535, 65533, 0],
-        17 => [3, 2, 2, 13, 3, 65000, 65535, 0, 65535, 65533, 0],
-        18 => [3, 2, 2, 13, 0, 65000, 65535, 0, 65535, 65533, 0],
-        19 => [3, 2, 2, 8, 0, 65000, 65535, 0, 65535, 65533, 0],
-        20 => [3, 2, 2, 8, 0, 1, 65535, 0, 65535, 65533, 0],
+        9 => [3, 3, 2, 8, 0, 2, 1, 0, 65535, 0, 0],
+        10 => [3, 3, 2, 8, 0, 2, 1, 0, 65535, 65535, 0],
+        11 => [3, 3, 2, 8, 0, 2, 1, 1, 65534, 0, 0],
+        12 => [3, 3, 2, 8, 0, 2, 1, 0, 65534, 0, 0],
+        13 => [3, 2, 2, 8, 0, 1, 1, 2, 0, 0, 0],
+        14 => [3, 1, 2, 8, calls::LONGER, 1, 1, 2, 0, 0, 0],
+        15 => [3, 2, 2, 3, 0, 1, 1, 0, 0, 0, 0],
+        16 => [3, 2, 2, 4, 0, 1, 1, 0, 0, 0, 0],
+        17 => [3, 2, 2, 12, 0, 1, 1, 0, 0, 0, 0],
+        18 => [3, 2, 2, 13, 0, 1, 1, 0, 0, 0, 0],
+        19 => [3, 2, 2, 8, 0, 1, 1, 0, 65535, 0, 0],
+        20 => [4097, 2, 2, 13, 3, 65000, 65535, 0, 65535, 65533, 0],
+        21 => [3, 2, 2, 13, 3, 65000, 65535, 0, 65535, 65533, 0],
+        22 => [3, 2, 2, 13, 0, 65000, 65535, 0, 65535, 65533, 0],
+        23 => [3, 2, 2, 8, 0, 65000, 65535, 0, 65535, 65533, 0],
+        24 => [3, 2, 2, 8, 0, 1, 65535, 0, 65535, 65533, 0],
         _ => [3, 2, 2, 8, 0, 1, 1, 0, 65535, 65533, 0],
     }
 }

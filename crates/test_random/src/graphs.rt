@@ -36,7 +36,7 @@ fn entry(kind: usize, s: usize, n: usize, i: usize) -> usize {
 fn fill(l: &mut List, kind: usize, s: usize) {
     let n = lists::size(l, lists::A);
     let k = lists::size(l, lists::X);
-    networks::make(l, kind, s, n);
+    networks::make(l, kind, s, n, 0);
     for i in 0..k {
         lists::set(l, lists::X, i, entry(kind, s, n, i));
     }

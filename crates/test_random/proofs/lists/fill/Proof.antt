@@ -4,10 +4,10 @@ use Rattle.test_random.proofs.lists.fill.Statement.{statement}
 use Rattle.test_random.proofs.lists.fill.Tie as tie
 
 abbrev Inv-loop : tie.InvT-loop
-Inv-loop l₀ kind s places eighths t open₀ i₀ l «open» i = i ≤ t
+Inv-loop l₀ s places roads eighths t open₀ i₀ l «open» i = i ≤ t
 
 abbrev μ-loop : tie.MeasureT-loop
-μ-loop l₀ kind s places eighths t open₀ i₀ l «open» i = t - i
+μ-loop l₀ s places roads eighths t open₀ i₀ l «open» i = t - i
 
 pub fill-spec : {M : Type 1} → statement M
 fill-spec =
@@ -15,7 +15,6 @@ fill-spec =
     (tie.spec
     Inv-loop
     μ-loop
-    (λ c κs. search needs)
     (λ c κs. search needs)
     (λ c κs. search needs)
     (λ c. search needs)

@@ -4,10 +4,10 @@ use Rattle.test_random.proofs.networks.make.Statement.{statement}
 use Rattle.test_random.proofs.networks.make.Tie as tie
 
 abbrev Inv-loop : tie.InvT-loop
-Inv-loop l₀ kind s places m e₀ l e = e ≤ m
+Inv-loop l₀ kind s places roads m e₀ l e = e ≤ m
 
 abbrev μ-loop : tie.MeasureT-loop
-μ-loop l₀ kind s places m e₀ l e = m - e
+μ-loop l₀ kind s places roads m e₀ l e = m - e
 
 pub make-spec : {M : Type 1} → statement M
 make-spec =
