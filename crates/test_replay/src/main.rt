@@ -1,5 +1,5 @@
-// Runs replay on vectors, which it reads; on random lists, small and of some hundred events, against a slow replay; on lists of the full sizes on rings, where
-// it shows too that the comparison notices a fault; at the limits; and with one fault and several. Prints counts and replies.
+// Runs replay on vectors, which it reads; on random lists, small and of some hundred events, against a slow replay, which removes roads; on lists of the full
+// sizes on rings, where it shows too that the comparison notices a fault; at the limits; and with one fault and several. Prints counts and replies.
 mod vectors;
 
 use test_library::calls::LONGER;
@@ -29,7 +29,7 @@ fn run(
     let r = calls::run(l, lengths, &want, &mut answers, work);
     let n = test_library::calls::noticed(&answers, &mut want, places, planted);
     let disagree = test_library::calls::differ(r, w) > 0;
-    totals::add(t, l, w, disagree, &want, most, planted, n);
+    totals::add(t, l, w, disagree, &want, places, most, planted, n);
 }
 
 fn run_small(t: &mut Table, work: &mut Work) {
@@ -49,7 +49,7 @@ fn run_large(t: &mut Table, work: &mut Work) {
 }
 
 fn run_rings(t: &mut Table, work: &mut Work) {
-    for i in 0..8 {
+    for i in 0..10 {
         let mut l = [65000u16; 40968];
         let places = random_lists::ring(&mut l, i);
         run(t, &l, LONGER, places, 4096, 64, work);
@@ -60,9 +60,11 @@ fn report_lists(work: &mut Work) {
     let mut small = [0u32; 512];
     run_small(&mut small, work);
     totals::report(&small);
+    totals::report_less(&small);
     let mut large = [0u32; 512];
     run_large(&mut large, work);
     totals::report(&large);
+    totals::report_less(&large);
     let mut rings = [0u32; 512];
     run_rings(&mut rings, work);
     totals::report(&rings);

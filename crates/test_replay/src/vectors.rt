@@ -1,7 +1,7 @@
-// Replays made by a slow program before any code of the product; they stand on standard input. A vector is a line of numbers of four digits in base 16, then
-// ; at its end. Eight of the sizes: N, M, T, the share and zeros; eight of the lengths: of A, B, the starting table, X, Y, the answers and the work table, and
-// a zero; eight of the reply: a refusal's number and its place, the queries, the segments open at the end, kept and zeros. Then come the tables of these
-// lengths, and the answers where it is accepted.
+// Replays made by a slow program before any code of the product; they stand on standard input. They are those of document 02, No. 3: 18 are accepted and 32
+// refused, of which two are the same. A vector is a line of numbers of four digits in base 16, then ; at its end. Eight of the sizes: N, M, T, the share and
+// zeros; eight of the lengths: of A, B, the starting table, X, Y, the answers and the work table, and a zero; eight of the reply: a refusal's number and its
+// place, the queries, the segments open at the end, kept and zeros. Then come the tables of these lengths, and the answers where it is accepted.
 use libc::STDIN_FILENO;
 use test_library::calls::Lengths;
 use test_library::calls::Reply;

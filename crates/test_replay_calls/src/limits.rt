@@ -19,7 +19,7 @@ fn reply(c: Case, work: &mut Work) -> Reply {
 
 // Puts the number and the place of each case.
 fn put_cases(t: &mut Table, work: &mut Work) {
-    for i in 0..22 {
+    for i in 0..26 {
         let r = reply(cases::case(i), work);
         tables::put(t, i * 2, calls::code(r));
         tables::put(t, i * 2 + 1, r[1]);
@@ -68,6 +68,10 @@ open twice, reply: # at #\n\
 open of a segment that is open at the start, reply: # at #\n\
 close of it, twice, reply: # at #\n\
 close and open of it, reply: # at #\n\
+open of a segment while another one of its road is open, reply: # at #\n\
+open of it twice, reply: # at #\n\
+close of a segment while another one of its road is open, reply: # at #\n\
+close of a closed segment while another one of its road is open, reply: # at #\n\
 starting entry 2, reply: # at #\n\
 starting entry 2 past the segments, reply: # at #\n\
 share 3, reply: # at #\n\
