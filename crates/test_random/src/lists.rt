@@ -289,7 +289,7 @@ fn ring_eighths(i: usize) -> usize {
     }
 }
 
-// Internal: the list i of the full sizes on a ring, and how many places the ring has. At the start all segments are closed in the first five, of which the first
+// Internal: the list i of the full sizes on a ring, and how many places the ring has. At the start all segments are closed in the first five, of which one
 // becomes a path; all are open in four more, and each by chance in the last. In 3, 4, 7 and 8 two segments of each of some roads open and close.
 pub fn ring(l: &mut List, i: usize) -> usize {
     lists::set_sizes(l, 4096, 8192, 4096, 4 + i % 9);
