@@ -347,7 +347,7 @@ module _ {w : Window} {p : Part} {v : List ℕ} (st : StepReady w (p .at) (p .ev
             let (e, f) = event-nodes g (a .σ) (w .at) (w .events) j inside x in
             ap₂ (λ (x y : ℕ). (x, y)) (node-at (2 * j) (omega arith) ∙ e) (node-at (2 * j + 1) (omega arith) ∙ f)
 
-    -- what is loaded is the window's graph with the added segments
+    -- what is loaded is the window's graph with the added roads
     edges-are : (U : NodeSet) → cut U (edgesIn (l .nodes) (l .edges) (drop S z)) ≡ cut U (areaEdges (w .events) (w .edges) u ++ image (a .σ) (added g (span w) (p .at, c)))
     edges-are U =
         let s1 = st .starts in

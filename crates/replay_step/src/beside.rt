@@ -1,4 +1,4 @@
-// Loads the edges of the events beside a part of a window: of each segment that the window names, the part does not, and that is open before the part, just
+// Loads the edges of the events beside a part of a window: of each road that the window names, the part does not, and that is open before the part, just
 // once.
 ghost use mathlib.Core.Path.{_≡_};
 ghost use Prim.Native.Nat.{_+_, _*_, _<_, _≤_};
