@@ -9,7 +9,6 @@ use lib.Seq.{drop-at, getD-take, length-take-le, sets, sets-eq}
 use native.Mathlib.Omega.{arith}
 use borrow.Author.Tests.{ne-eqb}
 use Rattle.call_sizes.specs.Refusal.{Refusal}
-use Rattle.replay_checks.proofs.SetLaws.{count, count-split}
 use Rattle.replay_checks.specs.Check.{CheckedTables}
 use Rattle.replay_checks.specs.declared.Checked.{Checked}
 use Rattle.replay_events.proofs.KindLaws.{query-asks}
@@ -24,6 +23,7 @@ use Rattle.replay_windows.specs.Descent.{Replied, WindowDone, WindowReady}
 use Rattle.theory_graph.proofs.TableLaws.{pairs-at}
 use Rattle.theory_graph.specs.Lists.{over, range, sum, table}
 use Rattle.theory_timeline.proofs.Acceptance.{Accepted, accepted-from, accepted-sound, events-length}
+use Rattle.theory_timeline.proofs.Counting.{count, count-split}
 use Rattle.theory_timeline.proofs.DemandThree.{accepted-done, bytes-length, demand-3}
 use Rattle.theory_timeline.specs.Call.{outcome}
 use Rattle.theory_timeline.specs.DemandThree.{KeepsDemand3}

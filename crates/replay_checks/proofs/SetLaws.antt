@@ -14,8 +14,9 @@ use borrow.Author.Tests.{eqb-true, ltb-false, ltb-true}
 use Rattle.call_open_set.proofs.OpenSetLaws.{stored}
 use Rattle.call_open_set.specs.OpenSet.{bits, digits, isOpen}
 use Rattle.theory_graph.proofs.Booleans.{and-elim, onBool}
-use Rattle.theory_graph.specs.Lists.{filter, range, sum}
+use Rattle.theory_graph.specs.Lists.{sum}
 use Rattle.theory_timeline.proofs.Acceptance.{sound-fine}
+use Rattle.theory_timeline.proofs.Counting.{count, count-cons, count-split}
 use Rattle.theory_timeline.proofs.TagLaws.{open-next}
 use Rattle.theory_timeline.specs.Events.{after, closes, names, opens}
 use Rattle.theory_timeline.specs.Replay.{openAtEnd}
@@ -47,33 +48,10 @@ start-below m start s h =
     and-elim (ltb s m) (eqb (getD start s 0) 1) (ap (λ (o : ℕ → Bool). o s) (start-taken m start) ∙ h) λ t _. ltb-true s m t
 
 -- ---- how many
-abbrev pub count : (ℕ → Bool) → ℕ → ℕ → ℕ
-count f i k = length (filter f (range i k))
-
-pub count-cons : (f : ℕ → Bool) (i k : ℕ) → count f i (suc k) ≡ cond (f i) 1 0 + count f (suc i) k
-count-cons f i k = go (f i) (filter f (range (suc i) k))
-  where
-    go : (b : Bool) (l : List ℕ) → length (cond b (i ∷ l) l) ≡ cond b 1 0 + length l
-    go true l = omega arith
-    go false l = omega arith
-
 -- nothing from a on: a longer range counts no more
 count-none : (f : ℕ → Bool) (i k : ℕ) → ((j : ℕ) → i ≤ j → f j ≡ false) → count f i k ≡ 0
 count-none f i zero e = refl
 count-none f i (suc k) e = count-cons f i k ∙ ap₂ (λ (b : Bool) (c : ℕ). cond b 1 0 + c) (e i (omega arith)) (count-none f (suc i) k (λ j a. e j (omega arith)))
-
-pub count-split : (f : ℕ → Bool) (i a k : ℕ) → count f i (a + k) ≡ count f i a + count f (i + a) k
-count-split f i zero k =
-    let s : 0 + k ≡ k = omega arith in
-    let t : i + 0 ≡ i = omega arith in
-    let c : count f i (0 + k) ≡ count f (i + 0) k = ap (λ (m : ℕ). count f i m) s ∙ ap (λ (m : ℕ). count f m k) (sym t) in
-    omega arith
-count-split f i (suc a) k =
-    let s : suc a + k ≡ suc (a + k) = omega arith in
-    let t : suc i + a ≡ i + suc a = omega arith in
-    let u = count-split f (suc i) a k in
-    let v = ap (λ (m : ℕ). count f m k) t in
-    ap (λ (m : ℕ). count f i m) s ∙ omega (arith, count-cons f i (a + k), count-cons f i a)
 
 count-longer : (f : ℕ → Bool) (a b : ℕ) → a ≤ b → ((j : ℕ) → a ≤ j → f j ≡ false) → count f 0 b ≡ count f 0 a
 count-longer f a b l e =

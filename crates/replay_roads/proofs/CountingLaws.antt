@@ -2,7 +2,7 @@
 -- Assumes nothing.
 use Prim.Native.Nat.{_*_, _+_, _<_, _≤_, suc, zero, ℕ}
 use mathlib.Core.Bool.{Bool, _&&_, and-false, cond, false, true}
-use mathlib.Core.List.{List, [], _∷_}
+use mathlib.Core.List.{List}
 use mathlib.Core.Path.{_∙_, _≡_, ap, ap₂, refl, subst, sym}
 use lib.Dec.{eqb}
 use lib.ListN.{getD, length, set}
@@ -14,6 +14,7 @@ use Rattle.core_words.proofs.FieldLaws.{update-at}
 use Rattle.theory_graph.proofs.Booleans.{onBool}
 use Rattle.theory_graph.specs.Lists.{filter, pairs, range}
 use Rattle.theory_timeline.proofs.Acceptance.{length-pairs}
+use Rattle.theory_timeline.proofs.Counting.{count-suc}
 use Rattle.theory_timeline.proofs.RoadLaws.{road-most}
 use Rattle.theory_timeline.specs.Events.{SegmentSet}
 use Rattle.theory_timeline.specs.Roads.{road}
@@ -25,17 +26,6 @@ use Rattle.replay_roads.specs.Naming.{RoadsNamed}
 use Rattle.replay_roads.specs.Runs.{Filled, run}
 
 -- ---- one more number
-count-cons : (b : Bool) (i : ℕ) (l : List ℕ) → length (cond b (i ∷ l) l) ≡ bit b + length l
-count-cons true i l = omega arith
-count-cons false i l = omega arith
-
-count-suc : (f : ℕ → Bool) (i k : ℕ) → length (filter f (range i (suc k))) ≡ length (filter f (range i k)) + bit (f (i + k))
-count-suc f i zero = let z : i + 0 ≡ i = omega arith in rw z (count-cons (f i) i [] ∙ omega arith)
-count-suc f i (suc k) =
-    let z : suc i + k ≡ i + suc k = omega arith in
-    let e : bit (f (suc i + k)) ≡ bit (f (i + suc k)) = ap (λ (j : ℕ). bit (f j)) z in
-    omega (arith, count-cons (f i) i (filter f (range (suc i) (suc k))), count-cons (f i) i (filter f (range (suc i) k)), count-suc f (suc i) k)
-
 -- by names
 module _ (o : SegmentSet) (name : ℕ → ℕ) where
   open-suc : (k r : ℕ) → countOpen o name (suc k) r ≡ countOpen o name k r + bit (o k && eqb r (name k))

@@ -4,6 +4,7 @@ pub mod WindowLaws
 pub mod Networks
 pub mod Acceptance
 pub mod TagLaws
+pub mod Counting
 pub mod CountLaws
 pub mod DemandThree
 pub mod Steps

@@ -16,7 +16,7 @@ use Rattle.theory_graph.proofs.Definitions.{joined-from, joined-to}
 use Rattle.theory_graph.proofs.Lists.{any-find, any-in, filter-in, in-filter, range-mem}
 use Rattle.theory_graph.specs.Cut.{crosses, cut}
 use Rattle.theory_graph.specs.Graph.{Edge, NodeSet, answer, joined, removals, twoEdge}
-use Rattle.theory_graph.specs.Lists.{all, filter, range}
+use Rattle.theory_graph.specs.Lists.{all, range}
 use Rattle.call_sizes.proofs.RefusalLaws.{seek-before, seek-found}
 use Rattle.call_sizes.specs.Refusal.{seek}
 use Rattle.theory_timeline.specs.Events.{SegmentSet, openRoads, pick}
