@@ -1,6 +1,8 @@
 // Runs replay on vectors, which it reads; on random lists, small and of some hundred events, against a slow replay, which removes roads; on lists of the full
-// sizes on rings, where it shows too that the comparison notices a fault; at the limits; and with one fault and several. Prints counts and replies.
+// sizes on rings, where it shows too that the comparison notices a fault; on each window of small lists by itself; at the limits; and with one fault and
+// several. Prints counts and replies.
 mod vectors;
+mod windows;
 
 use test_library::calls::LONGER;
 use test_library::lists::List;
@@ -13,7 +15,7 @@ use test_slow_replay::replay;
 use test_slow_replay::totals;
 
 // Runs the call and the slow replay on a list of which one table may be short. Places is not 0 where it is on a ring.
-fn run(
+pub(crate) fn run(
     t: &mut Table,
     l: &List,
     short: usize,
@@ -74,5 +76,6 @@ fn main() {
     let mut work = [7u32; 1247536];
     vectors::report(&mut work);
     report_lists(&mut work);
+    windows::report(&mut work);
     limits::report(&mut work);
 }

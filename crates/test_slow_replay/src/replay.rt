@@ -105,8 +105,8 @@ fn nodes(l: &List, start: usize, end: usize, places: usize) -> usize {
     network_nodes(l, &edges, start, end, places)
 }
 
-// How many of n events the first part of a window has.
-fn first_part(n: usize, p: usize) -> usize
+// Internal: how many of n events the first part of a window has.
+pub fn first_part(n: usize, p: usize) -> usize
     requires { ⌜ n < 65536 ⌝ }
     ensures { λ r. ⌜ 1 ≤ r ⌝ }
 {
