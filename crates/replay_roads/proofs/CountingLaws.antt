@@ -50,7 +50,9 @@ module _ (o : SegmentSet) (name : ℕ → ℕ) where
   open-more k r p q = open-next k r ∙ ap₂ (λ (a b : Bool). countOpen o name k r + bit (a && b)) p (eq-eqb r (name k) q)
 
   open-other : (k r : ℕ) → (r ≡ name k → ⊥) → countOpen o name (k + 1) r ≡ countOpen o name k r
-  open-other k r n = open-next k r ∙ ap (λ (b : Bool). countOpen o name k r + bit (o k && b)) (ne-eqb r (name k) n) ∙ ap (λ (b : Bool). countOpen o name k r + bit b) (and-false (o k)) ∙ omega arith
+  open-other k r n =
+      open-next k r ∙ ap (λ (b : Bool). countOpen o name k r + bit (o k && b)) (ne-eqb r (name k) n)
+      ∙ ap (λ (b : Bool). countOpen o name k r + bit b) (and-false (o k)) ∙ omega arith
 
   open-closed : (k r : ℕ) → o k ≡ false → countOpen o name (k + 1) r ≡ countOpen o name k r
   open-closed k r p = open-next k r ∙ ap (λ (b : Bool). countOpen o name k r + bit (b && eqb r (name k))) p ∙ omega arith

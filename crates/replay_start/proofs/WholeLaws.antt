@@ -154,7 +154,8 @@ module _ {n t : ℕ} {a b : List ℕ} {counts : ℕ} {v : List ℕ} {g : Timelin
       let e = q .all in
       let z : 0 + t ≡ t = omega arith in
       ap₂ (λ (c d : Bool). c && not d)
-      (sym (quiet g 0 t r (omega arith) (sym (named-during g (0, t) r (omega arith)) ∙ h)) ∙ ap (λ (j : ℕ). roadsBefore g j r) z ∙ road-open (g .segments) (openBefore g t) r ∙ ap (ltb 0) (sym (q .counted r l)))
+      (sym (quiet g 0 t r (omega arith) (sym (named-during g (0, t) r (omega arith)) ∙ h)) ∙ ap (λ (j : ℕ). roadsBefore g j r) z
+      ∙ road-open (g .segments) (openBefore g t) r ∙ ap (ltb 0) (sym (q .counted r l)))
       (named-is r))
 
   network-is : length b ≡ length a → pick (λ r. ltb 0 (getD v (counts + r) 0) && not (namedBy (2 * t) 0 t v r)) 0 (pairs a b) ≡ network g (0, t)

@@ -34,6 +34,10 @@ open-most segs o r = omega (arith, filter-length (λ s. o s && eqb r (road segs 
 
 -- ---- the counts of a list
 module _ (g : Timeline) where
+  -- the open segments of road r before event i
+  abbrev ofRoad : ℕ → ℕ → SegmentSet
+  ofRoad i r u = openBefore g i u && eqb r (road (g .segments) u)
+
   module _ (i : ℕ) (l : i < size g) where
     abbrev s : ℕ
     s = event g i .1
@@ -44,13 +48,13 @@ module _ (g : Timeline) where
         ap (λ (o : SegmentSet). o s && eqb r (key g i)) (open-next g i l)
         ∙ ap₂ (λ a b. cond (a && b) (opens (event g i)) (openBefore g i s) && eqb r (key g i)) c (eq-eqb s s refl)
 
-    at-others : (r u : ℕ) → ¬ (u ≡ s) → (openBefore g (i + 1) u && eqb r (road (g .segments) u)) ≡ (openBefore g i u && eqb r (road (g .segments) u))
+    at-others : (r u : ℕ) → ¬ (u ≡ s) → ofRoad (i + 1) r u ≡ ofRoad i r u
     at-others r u n =
         ap (λ (o : SegmentSet). o u && eqb r (road (g .segments) u)) (open-next g i l)
         ∙ ap (λ b. cond ((opens (event g i) || closes (event g i)) && b) (opens (event g i)) (openBefore g i u) && eqb r (road (g .segments) u)) (ne-eqb u s n)
         ∙ ap (λ b. cond b (opens (event g i)) (openBefore g i u) && eqb r (road (g .segments) u)) (and-false (opens (event g i) || closes (event g i)))
 
-    at-other-road : (r u : ℕ) → eqb r (key g i) ≡ false → (openBefore g (i + 1) u && eqb r (road (g .segments) u)) ≡ (openBefore g i u && eqb r (road (g .segments) u))
+    at-other-road : (r u : ℕ) → eqb r (key g i) ≡ false → ofRoad (i + 1) r u ≡ ofRoad i r u
     at-other-road r u n = onBool (eqb u s)
         (λ t. let e : eqb r (road (g .segments) u) ≡ false = ap (λ (v : ℕ). eqb r (road (g .segments) v)) (eqb-true u s t) ∙ n in
         ap (λ b. openBefore g (i + 1) u && b) e ∙ and-false (openBefore g (i + 1) u) ∙ sym (ap (λ b. openBefore g i u && b) e ∙ and-false (openBefore g i u)))
@@ -59,22 +63,23 @@ module _ (g : Timeline) where
     -- another road's count stays
     pub count-stays : (r : ℕ) → ¬ (r ≡ key g i) → openCount g (i + 1) r ≡ openCount g i r
     unfolding openSegments
-    count-stays r n = count-same (λ u. openBefore g i u && eqb r (road (g .segments) u)) (λ u. openBefore g (i + 1) u && eqb r (road (g .segments) u)) 0 (length (g .segments)) (λ u k. at-other-road r u (ne-eqb r (key g i) n))
+    count-stays r n = count-same (ofRoad i r) (ofRoad (i + 1) r) 0 (length (g .segments)) (λ u k. at-other-road r u (ne-eqb r (key g i) n))
 
     -- an opening makes its road's one more
     pub count-opens : opens (event g i) ≡ true → s < length (g .segments) → openBefore g i s ≡ false → openCount g (i + 1) (key g i) ≡ openCount g i (key g i) + 1
     unfolding openSegments
     count-opens o k c =
-        count-more (λ u. openBefore g i u && eqb (key g i) (road (g .segments) u)) (λ u. openBefore g (i + 1) u && eqb (key g i) (road (g .segments) u)) s 0 (length (g .segments)) (omega arith) (omega arith)
+        count-more (ofRoad i (key g i)) (ofRoad (i + 1) (key g i)) s 0 (length (g .segments)) (omega arith) (omega arith)
         (ap (λ b. b && eqb (key g i) (key g i)) c)
         (at-named (key g i) (ap (λ b. b || closes (event g i)) o) ∙ ap₂ _&&_ o (eq-eqb (key g i) (key g i) refl))
         (λ u n. at-others (key g i) u n)
 
     -- and a closing one less
-    pub count-closes : closes (event g i) ≡ true → opens (event g i) ≡ false → s < length (g .segments) → openBefore g i s ≡ true → openCount g i (key g i) ≡ openCount g (i + 1) (key g i) + 1
+    pub count-closes : closes (event g i) ≡ true → opens (event g i) ≡ false → s < length (g .segments) → openBefore g i s ≡ true
+        → openCount g i (key g i) ≡ openCount g (i + 1) (key g i) + 1
     unfolding openSegments
     count-closes o f k c =
-        count-more (λ u. openBefore g (i + 1) u && eqb (key g i) (road (g .segments) u)) (λ u. openBefore g i u && eqb (key g i) (road (g .segments) u)) s 0 (length (g .segments)) (omega arith) (omega arith)
+        count-more (ofRoad (i + 1) (key g i)) (ofRoad i (key g i)) s 0 (length (g .segments)) (omega arith) (omega arith)
         (at-named (key g i) (ap₂ _||_ f o) ∙ ap (λ b. b && eqb (key g i) (key g i)) f)
         (ap₂ _&&_ c (eq-eqb (key g i) (key g i) refl))
         (λ u n. sym (at-others (key g i) u n))
@@ -83,6 +88,6 @@ module _ (g : Timeline) where
   pub count-query : (i : ℕ) → i < size g → asks (event g i) ≡ true → (r : ℕ) → openCount g (i + 1) r ≡ openCount g i r
   unfolding openSegments
   count-query i l a r =
-      count-same (λ u. openBefore g i u && eqb r (road (g .segments) u)) (λ u. openBefore g (i + 1) u && eqb r (road (g .segments) u)) 0 (length (g .segments)) λ u k.
+      count-same (ofRoad i r) (ofRoad (i + 1) r) 0 (length (g .segments)) λ u k.
       ap (λ (o : SegmentSet). o u && eqb r (road (g .segments) u)) (open-next g i l)
       ∙ ap (λ b. cond (b && eqb u (event g i .1)) (opens (event g i)) (openBefore g i u) && eqb r (road (g .segments) u)) (not-true (opens (event g i) || closes (event g i)) a)

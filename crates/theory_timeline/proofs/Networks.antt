@@ -137,16 +137,20 @@ module _ (g : Timeline) (w c : Window) (h : Part w c) where
       (ap (λ (l : List Event). take (w .0) (g .events) ++ l) (take-take k (w .1) (drop (w .0) (g .events)) i) ∙ sym (take-add (w .0) k (g .events)) ∙ ap (λ (n : ℕ). take n (g .events)) f)
 
   -- ---- the laws of a part
+  -- the roads that are open, that the events l name, and that the part does not
+  abbrev moreThan : List Event → SegmentSet → List Edge
+  moreThan l o = pick (λ r. openRoads (g .segments) o r && (namedRoads (g .segments) l r && not (namedRoads (g .segments) (during g c) r))) 0 (g .segments)
+
   pub network-part : (U : NodeSet) → cut U (network g w ++ added g w c) ≡ cut U (network g c)
   unfolding network added addedOf
   network-part U =
-      subst₂ (λ (l : List Event) (o : SegmentSet). cut U (networkOf (g .segments) l (openBefore g (w .0)) ++ pick (λ r. openRoads (g .segments) o r && (namedRoads (g .segments) l r && not (namedRoads (g .segments) (during g c) r))) 0 (g .segments)) ≡ cut U (networkOf (g .segments) (during g c) o))
+      subst₂ (λ (l : List Event) (o : SegmentSet). cut U (networkOf (g .segments) l (openBefore g (w .0)) ++ moreThan l o) ≡ cut U (networkOf (g .segments) (during g c) o))
       split opened (networkOf-part (g .segments) pre (during g c) post (openBefore g (w .0)) U)
 
   pub added-active : endsIn (member (active g w)) (added g w c) ≡ true
   unfolding active added addedOf
   added-active =
-      subst₂ (λ (l : List Event) (o : SegmentSet). endsIn (member (activeOf (g .segments) l)) (pick (λ r. openRoads (g .segments) o r && (namedRoads (g .segments) l r && not (namedRoads (g .segments) (during g c) r))) 0 (g .segments)) ≡ true)
+      subst₂ (λ (l : List Event) (o : SegmentSet). endsIn (member (activeOf (g .segments) l)) (moreThan l o) ≡ true)
       split opened (addedOf-within (g .segments) pre (during g c) post (openBefore g (w .0)))
 
   pub active-part : (v : ℕ) → List·Memᴰ v (active g c) → List·Memᴰ v (active g w)
@@ -154,7 +158,7 @@ module _ (g : Timeline) (w c : Window) (h : Part w c) where
   active-part v m =
       subst (λ (l : List Event). List·Memᴰ v (activeOf (g .segments) l)) split (active-right (g .segments) pre (during g c ++ post) v (active-left (g .segments) (during g c) post v m))
 
-  -- the step: where a graph carries the window's network, a small graph of it with the added segments is one of the part's network
+  -- the step: where a graph carries the window's network, a small graph of it with the added roads is one of the part's network
   pub part-small : (n : ℕ) (H : List Edge) (ρ σ : ℕ → ℕ) → Carries (network g w) (active g w) n H ρ σ
       → (n′ : ℕ) (H′ : List Edge) (ρ′ σ′ : ℕ → ℕ) → SmallGraph (H ++ image σ (added g w c)) (map σ (active g c)) n′ H′ ρ′ σ′
       → SmallGraph (network g c) (active g c) n′ H′ (λ v. ρ (ρ′ v)) (λ a. σ′ (σ a))

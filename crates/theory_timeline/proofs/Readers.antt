@@ -47,7 +47,8 @@ module _ (g : Timeline) (w : Window) where
         o,
         subst (λ (e : Edge). sameEnds e (getD segs s (0, 0)) ≡ true) (sym q) (road-ends segs r s (ap (road segs) y ∙ road-twice segs s)),
         λ t u. onBool (named (during g w) t)
-            (λ j. contradict (subst (λ (k : ℕ). namedRoads segs (during g w) k ≡ true) (sym (same-road segs s t u) ∙ sym x) (named-road segs (during g w) t j)) (not-true (namedRoads segs (during g w) (0 + r)) n))
+            (λ j. contradict (subst (λ (k : ℕ). namedRoads segs (during g w) k ≡ true) (sym (same-road segs s t u) ∙ sym x) (named-road segs (during g w) t j))
+            (not-true (namedRoads segs (during g w) (0 + r)) n))
             (λ j. j),
       )
 

@@ -203,7 +203,9 @@ covers-answer E F c d x y =
 -- ---- the edges of a set of segments
 pub mem-pick : (t : SegmentSet) (i : ℕ) (es : List Edge) (s : ℕ) → s < length es → t (i + s) ≡ true → List·Memᴰ (getD es s (0, 0)) (pick t i es)
 mem-pick t i [] s l h = absurd (omega arith)
-mem-pick t i (e ∷ es) zero l h = let z : i + 0 ≡ i = omega arith in subst (λ (b : Bool). List·Memᴰ e (cond b (e ∷ pick t (suc i) es) (pick t (suc i) es))) (sym (ap t (sym z) ∙ h)) (List·Memᴰ·head refl)
+mem-pick t i (e ∷ es) zero l h =
+    let z : i + 0 ≡ i = omega arith in
+    subst (λ (b : Bool). List·Memᴰ e (cond b (e ∷ pick t (suc i) es) (pick t (suc i) es))) (sym (ap t (sym z) ∙ h)) (List·Memᴰ·head refl)
 mem-pick t i (e ∷ es) (suc s) l h = let z : suc i + s ≡ i + suc s = omega arith in go (t i) (mem-pick t (suc i) es s (omega arith) (ap t z ∙ h))
   where
     go : (b : Bool) → List·Memᴰ (getD es s (0, 0)) (pick t (suc i) es) → List·Memᴰ (getD es s (0, 0)) (cond b (e ∷ pick t (suc i) es) (pick t (suc i) es))
@@ -312,10 +314,13 @@ module _ (segs : List Edge) (o : SegmentSet) where
       let z : 0 + s ≡ s = omega arith in
       let y : road segs s ≡ 0 + road segs s = omega arith in (
         getD segs (road segs s) (0, 0),
-        mem-pick (openRoads segs o) 0 segs (road segs s) (omega (arith, road-most segs s)) (subst (λ (n : ℕ). openRoads segs o n ≡ true) y (segment-open segs o s l (subst (λ (n : ℕ). o n ≡ true) z h))),
+        mem-pick (openRoads segs o) 0 segs (road segs s) (omega (arith, road-most segs s))
+            (subst (λ (n : ℕ). openRoads segs o n ≡ true) y (segment-open segs o s l (subst (λ (n : ℕ). o n ≡ true) z h))),
         subst (λ (e : Edge). sameEnds e (getD segs (road segs s) (0, 0)) ≡ true) (sym q) (road-same segs s),
       )
 
   -- the answer over the open roads, one edge each: joined in the open segments, and joined after the loss of all open segments of each single road in turn
   pub roads-answer : (x y : ℕ) → answer (pick (openRoads segs o) 0 segs) x y ≡ roadAnswer (pick o 0 segs) x y
-  roads-answer x y = sym (different-answer (pick (openRoads segs o) 0 segs) roads-different x y) ∙ covers-answer (pick (openRoads segs o) 0 segs) (pick o 0 segs) roads-cover cover-roads x y
+  roads-answer x y =
+      sym (different-answer (pick (openRoads segs o) 0 segs) roads-different x y)
+      ∙ covers-answer (pick (openRoads segs o) 0 segs) (pick o 0 segs) roads-cover cover-roads x y

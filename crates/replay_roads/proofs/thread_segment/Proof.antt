@@ -33,7 +33,8 @@ returns c =
     let at-get = c .before .before .before .before .before .before .before .before in
     let at-ends = at-get .before .before in
     let start = at-ends .before .before .before .before in
-    thread-more (start .pre .0) (start .pre .1) (at-ends .ends-of .ensures .0) (at-get .get .ensures .0) (c .before .before .before .before .before .before .put .ensures) (c .before .before .put2 .ensures)
+    thread-more (start .pre .0) (start .pre .1) (at-ends .ends-of .ensures .0) (at-get .get .ensures .0)
+    (c .before .before .before .before .before .before .put .ensures) (c .before .before .put2 .ensures)
 
 pub thread-segment-spec : {M : Type 1} → statement M
 thread-segment-spec =

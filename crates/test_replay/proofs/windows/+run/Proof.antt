@@ -23,7 +23,20 @@ abbrev run-below : ℕ → In 3 run-kinds.ps
 run-below t = and 3 run-kinds.ps (falls 3 run-kinds.ps _<_ μ-run t) run.Pre
 
 abbrev calls : ℕ → run-lts.Claims
-calls t = (cut-reads.Asked, cut-reads.Learnt, run-reads.Asked, run-reads.Learnt, size-reads.Asked, size-reads.Learnt, first-part-reads.Asked, first-part-reads.Learnt, run-below t, run.Post, plus-reads.Asked, plus-reads.Learnt)
+calls t = (
+  cut-reads.Asked,
+  cut-reads.Learnt,
+  run-reads.Asked,
+  run-reads.Learnt,
+  size-reads.Asked,
+  size-reads.Learnt,
+  first-part-reads.Asked,
+  first-part-reads.Learnt,
+  run-below t,
+  run.Post,
+  plus-reads.Asked,
+  plus-reads.Learnt,
+)
 
 run-cut-requires : (t : ℕ) → run-lts.Need-cut-requires (calls t) (run-at t) run.Post
 run-cut-requires t c κs = search needs
