@@ -11,6 +11,7 @@ use lib.Seq.{getD-set-other, getD-set-same}
 use native.Mathlib.Numerals.{add-one}
 use native.Mathlib.Omega.{arith}
 use borrow.Author.Tests.{eq-eqb, eqb-false, eqb-true, ne-eqb, not-false}
+use Rattle.replay_roads.specs.Runs.{run}
 use Rattle.theory_graph.proofs.Booleans.{onBool}
 use Rattle.theory_timeline.proofs.Acceptance.{sound-fine, sound-segment}
 use Rattle.theory_timeline.proofs.CountLaws.{count-closes, count-opens, count-query, count-stays, road-open}
@@ -25,7 +26,7 @@ use Rattle.theory_timeline.specs.declared.Kind.{Kind}
 use Rattle.theory_timeline.specs.declared.Kind.the-variants.{Closes, Nothing, Opens, Query}
 use Rattle.replay_events.proofs.KindLaws.{Tells, kind-tells}
 use Rattle.replay_events.specs.Kinds.{isClosing, isQuery, kindAt}
-use Rattle.replay_events.specs.Tagging.{ChangePut, TagPut, TagReady, Tagged, TagsReady, countAfter, countAt, countsBy, from, tagBy, tagsBy}
+use Rattle.replay_events.specs.Tagging.{ChangePut, TagPut, TagReady, Tagged, TagsReady, countAfter, countAt, countsBy, tagBy, tagsBy}
 
 -- ---- how far a count goes
 after-most : (k : Kind) (c : ℕ) → countAfter k c ≤ c + 1
@@ -67,11 +68,11 @@ module _ (n : ℕ) (x y : List ℕ) (N C : ℕ → ℕ) where
 
 -- ---- one event in the words
 -- what was read and written is what the statement names
-pub change-put : (n x s names counts at : ℕ) (w : List ℕ) (r c d u : ℕ) → r ≡ from names w s → c ≡ from counts w r → d ≡ countAfter (kindOf n x) c → u ≡ tagBy r c d
+pub change-put : (n x s names counts at : ℕ) (w : List ℕ) (r c d u : ℕ) → r ≡ run names w s → c ≡ run counts w r → d ≡ countAfter (kindOf n x) c → u ≡ tagBy r c d
     → ChangePut n x s names counts at w (set (set w (counts + r) d) at u)
 change-put n x s names counts at w r c d u er ec ed eu r′ c′ d′ er′ ec′ ed′ =
     let e1 : r ≡ r′ = er ∙ sym er′ in
-    let e2 : c ≡ c′ = ec ∙ ap (from counts w) e1 ∙ sym ec′ in
+    let e2 : c ≡ c′ = ec ∙ ap (run counts w) e1 ∙ sym ec′ in
     let e3 : d ≡ d′ = ed ∙ ap (countAfter (kindOf n x)) e2 ∙ sym ed′ in
     ap₂ (λ (k v : ℕ). set (set w (counts + k) v) at u) e1 e3 ∙ ap (set (set w (counts + r′) d′) at) (eu ∙ ap₂ (λ (k v : ℕ). tagBy k v d) e1 e2 ∙ ap (tagBy r′ c′) e3)
 
@@ -92,19 +93,19 @@ tagged-all g e = rw e at g
 
 module _ {n : ℕ} {x y : List ℕ} {names counts : ℕ} {w z : List ℕ} {i : ℕ} (q : TagsReady n x y names counts w) (g : Tagged n x y names counts w z i) (l : i < length x) where
   abbrev N : ℕ → ℕ
-  N = from names w
+  N = run names w
 
   abbrev C : ℕ → ℕ
-  C = from counts w
+  C = run counts w
 
   abbrev s : ℕ
   s = getD y i 0
 
   -- the road's name is as it was, and its count is the one before event i
-  name-stays : isQuery (kindAt n x i) ≡ false → from names z s ≡ N s
+  name-stays : isQuery (kindAt n x i) ≡ false → run names z s ≡ N s
   name-stays h = let (a, b, _) = q .apart in g .else (names + s) (q .named i l h .0) (λ j u e. omega arith)
 
-  count-now : isQuery (kindAt n x i) ≡ false → from counts z (N s) ≡ countAt n x y N C i
+  count-now : isQuery (kindAt n x i) ≡ false → run counts z (N s) ≡ countAt n x y N C i
   count-now h = g .counted (N s) (q .named i l h .2)
 
   pub tag-need : TagReady n (getD x i 0) s names counts (2 * length x + 3 * i) z
@@ -112,7 +113,7 @@ module _ {n : ℕ} {x y : List ℕ} {names counts : ℕ} {w z : List ℕ} {i : �
     room = omega (arith, g .long);
     named = λ h. let (d, e, f, k) = q .named i l h in
         let u = name-stays h in
-        let t = ap (from counts z) u ∙ count-now h in
+        let t = ap (run counts z) u ∙ count-now h in
         record {
           room = omega (arith, g .long);
           segment = omega (arith, g .long);
@@ -129,7 +130,7 @@ module _ {n : ℕ} {x y : List ℕ} {names counts : ℕ} {w z : List ℕ} {i : �
 
     -- what is written: the words of roads first, where the event is no query, then the tag
     tagged-put : (u : List ℕ) (tag : ℕ) → length u ≡ length z → v ≡ set u at tag → tag ≡ tagsBy n x y N C i → ((d : ℕ) → d < counts → getD u d 0 ≡ getD z d 0)
-        → ((r : ℕ) → counts + r < length w → from counts u r ≡ countsBy n x y N C (i + 1) r) → Tagged n x y names counts w v (i + 1)
+        → ((r : ℕ) → counts + r < length w → run counts u r ≡ countsBy n x y N C (i + 1) r) → Tagged n x y names counts w v (i + 1)
     tagged-put u tag lu ev et front roads =
         let (a, b, c) = q .apart in
         let long : length v ≡ length w = ap length ev ∙ length-set u at tag ∙ lu ∙ g .long in
@@ -159,7 +160,7 @@ module _ {n : ℕ} {x y : List ℕ} {names counts : ℕ} {w z : List ℕ} {i : �
         let r : ℕ = N s in
         let o : ℕ = countAt n x y N C i in
         let e : ℕ = countAfter (kindAt n x i) o in
-        let en : r ≡ from names z s = sym (name-stays h) in
+        let en : r ≡ run names z s = sym (name-stays h) in
         let ev = p .change h r o e en (sym (count-now h)) refl in
         tagged-put (set z (counts + r) e) (tagBy r o e) (length-set z (counts + r) e) ev
         (sym (ap (λ (b : Bool). cond b 0 (tagBy r o e)) h))

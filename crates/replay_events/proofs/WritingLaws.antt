@@ -31,10 +31,11 @@ use Rattle.theory_timeline.specs.Windows.{Timeline, active, during, event, open
 use Rattle.replay_step.proofs.WordLaws.{map-self, mid-sets}
 use Rattle.replay_step.specs.Area.{EventsIn}
 use Rattle.replay_roads.specs.Counting.{RoadTables, RoadsCounted}
+use Rattle.replay_roads.specs.Runs.{run}
 use Rattle.replay_events.proofs.KindLaws.{ends-word, query-asks}
 use Rattle.replay_events.proofs.TaggingLaws.{Listed, closing-open, counts-are, tags-are}
 use Rattle.replay_events.specs.Kinds.{endsBy, isQuery, junctionsBy, kindAt}
-use Rattle.replay_events.specs.Tagging.{Tagged, TagsReady, from}
+use Rattle.replay_events.specs.Tagging.{Tagged, TagsReady}
 use Rattle.replay_events.specs.Writing.{CanPlace, CanWriteEvents, EventsWritten, LinkRoom, LinkedEvent, TagsFit, Written}
 use Rattle.replay_events.specs.Writing.{keyOf, lastBy, listOf, namesTag, nextBy, tagsIn}
 
@@ -425,10 +426,10 @@ module _ {n : ℕ} {a b start x y w : List ℕ} (c : CanWriteEvents n a b start 
       behind-1 : (d : ℕ) → 2 * t ≤ d → getD w₁ d 0 ≡ getD w₀ d 0
       behind-1 d l = ap (λ (l : List ℕ). getD l d 0) e₁ ∙ sets-past J w₀ 0 d (omega (arith, J-length))
 
-      names-1 : (s : ℕ) → s < m → from q w₁ s ≡ road (pairs a b) s
+      names-1 : (s : ℕ) → s < m → run q w₁ s ≡ road (pairs a b) s
       names-1 s l = behind-1 (q + s) (omega arith) ∙ r .names s l
 
-      listed : Listed g x y (from q w₁) (from (q + m) w₁)
+      listed : Listed g x y (run q w₁) (run (q + m) w₁)
       unfolding openBefore
       listed = record {
         sound = c .sound;
@@ -437,7 +438,7 @@ module _ {n : ℕ} {a b start x y w : List ℕ} (c : CanWriteEvents n a b start 
         counted = λ s l. behind-1 (q + m + s) (omega arith) ∙ r .counts s (omega (arith, segments-are));
       }
 
-      counts-most : (s : ℕ) → s < m → from (q + m) w₁ s ≤ 8192
+      counts-most : (s : ℕ) → s < m → run (q + m) w₁ s ≤ 8192
       counts-most s l =
           omega (arith, listed .counted s (omega (arith, segments-are)), open-most (pairs a b) (openBefore g 0) s, segments-are, c .sound .segments-few)
 
@@ -449,11 +450,11 @@ module _ {n : ℕ} {a b start x y w : List ℕ} (c : CanWriteEvents n a b start 
         named = λ i l h.
             let s = named-in i l h in
             let e = names-1 (getD y i 0) s in
-            let k : from q w₁ (getD y i 0) < m = omega (arith, road-most (pairs a b) (getD y i 0)) in (
+            let k : run q w₁ (getD y i 0) < m = omega (arith, road-most (pairs a b) (getD y i 0)) in (
               omega arith,
               omega (arith, c .sound .segments-few, segments-are),
               omega (arith, c .room, length-1),
-              counts-most (from q w₁ (getD y i 0)) k,
+              counts-most (run q w₁ (getD y i 0)) k,
             );
         some = λ i l h. closing-open listed i (omega (arith, size-is)) h;
       }

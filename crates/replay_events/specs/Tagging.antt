@@ -9,6 +9,7 @@ use mathlib.Core.Path.{_≡_}
 use lib.Dec.{eqb, ltb}
 use lib.ListN.{getD, length, set}
 use Rattle.replay_events.specs.Kinds.{isClosing, isQuery, kindAt}
+use Rattle.replay_roads.specs.Runs.{run}
 use Rattle.theory_timeline.specs.Events.{kindOf}
 use Rattle.theory_timeline.specs.Tags.{bit}
 use Rattle.theory_timeline.specs.declared.Kind.{Kind}
@@ -23,22 +24,18 @@ countAfter k c = elim k [ Query ↦ c | Opens ↦ c + 1 | Closes ↦ c - 1 | Not
 abbrev pub tagBy : ℕ → ℕ → ℕ → ℕ
 tagBy r c d = 1 + 4 * r + 2 * bit (ltb 0 c) + bit (ltb 0 d)
 
--- word i of those that stand from a place on: the name of segment i's road, or the count of road i
-abbrev pub from : ℕ → List ℕ → ℕ → ℕ
-from place w i = getD w (place + i) 0
-
 -- an event that names segment s: its road has a name below 8,192 and a count, and where it closes, an open segment
 pub record ChangeReady (n x s names counts at : ℕ) (w : List ℕ) : Type 0 where
   pub room : at < length w
   pub segment : names + s < length w
-  pub name : from names w s < 8192
-  pub road : counts + from names w s < length w
-  pub most : from counts w (from names w s) ≤ 12288
-  pub some : isClosing (kindOf n x) ≡ true → 0 < from counts w (from names w s)
+  pub name : run names w s < 8192
+  pub road : counts + run names w s < length w
+  pub most : run counts w (run names w s) ≤ 12288
+  pub some : isClosing (kindOf n x) ≡ true → 0 < run counts w (run names w s)
 
 -- its road's count changes, and its tag is written
 abbrev pub ChangePut : (n x s names counts at : ℕ) (w z : List ℕ) → Type 0
-ChangePut n x s names counts at w z = (r c d : ℕ) → r ≡ from names w s → c ≡ from counts w r → d ≡ countAfter (kindOf n x) c
+ChangePut n x s names counts at w z = (r c d : ℕ) → r ≡ run names w s → c ≡ run counts w r → d ≡ countAfter (kindOf n x) c
     → z ≡ set (set w (counts + r) d) at (tagBy r c d)
 
 -- any event: the tag of a query is 0
@@ -72,13 +69,13 @@ pub record TagsReady (n : ℕ) (x y : List ℕ) (names counts : ℕ) (w : List �
   pub y-long : length y ≡ length x
   pub apart : (5 * length x ≤ names) × (names ≤ counts) × (counts ≤ length w)
   pub named : (i : ℕ) → i < length x → isQuery (kindAt n x i) ≡ false
-      → (names + getD y i 0 < counts) × (from names w (getD y i 0) < 8192) × (counts + from names w (getD y i 0) < length w)
-      × (from counts w (from names w (getD y i 0)) ≤ 8192)
-  pub some : (i : ℕ) → i < length x → isClosing (kindAt n x i) ≡ true → 0 < countAt n x y (from names w) (from counts w) i
+      → (names + getD y i 0 < counts) × (run names w (getD y i 0) < 8192) × (counts + run names w (getD y i 0) < length w)
+      × (run counts w (run names w (getD y i 0)) ≤ 8192)
+  pub some : (i : ℕ) → i < length x → isClosing (kindAt n x i) ≡ true → 0 < countAt n x y (run names w) (run counts w) i
 
 -- the tags of the first i events are written, and the counts are those before event i; before the counts nothing else changes
 pub record Tagged (n : ℕ) (x y : List ℕ) (names counts : ℕ) (w z : List ℕ) (i : ℕ) : Type 0 where
   pub long : length z ≡ length w
-  pub tags : (j : ℕ) → j < i → getD z (2 * length x + 3 * j) 0 ≡ tagsBy n x y (from names w) (from counts w) j
-  pub counted : (r : ℕ) → counts + r < length w → from counts z r ≡ countsBy n x y (from names w) (from counts w) i r
+  pub tags : (j : ℕ) → j < i → getD z (2 * length x + 3 * j) 0 ≡ tagsBy n x y (run names w) (run counts w) j
+  pub counted : (r : ℕ) → counts + r < length w → run counts z r ≡ countsBy n x y (run names w) (run counts w) i r
   pub else : (d : ℕ) → d < counts → ((j : ℕ) → j < i → d ≡ 2 * length x + 3 * j → ⊥) → getD z d 0 ≡ getD w d 0

@@ -115,16 +115,13 @@ counting-at j e g = rw e at g
 -- ---- the words that the code reads and writes
 module _ {start : List ℕ} {q s r : ℕ} {w : List ℕ} (g : CanCount start q s w) (er : r ≡ getD w (q + s) 0) where
   pub name-found : r < length start
-  unfolding run
   name-found = omega (arith, g .name)
 
   module _ {c : ℕ} (ec : c ≡ getD w (q + length start + r) 0) where
     pub count-found : c < 8192
-    unfolding run
     count-found = subst (λ (x : ℕ). x < 8192) (sym (ec ∙ ap (λ (x : ℕ). getD w (q + length start + x) 0) er)) (g .count)
 
     pub segment-counted : {z : List ℕ} → getD start s 0 ≡ 1 → z ≡ set w (q + length start + r) (c + 1) → z ≡ counted start q s w
-    unfolding run
     segment-counted {z} o e = e
         ∙ ap₂ (λ (x y : ℕ). set w (q + length start + x) (y + 1)) er (ec ∙ ap (λ (x : ℕ). getD w (q + length start + x) 0) er)
         ∙ sym (ap (λ (b : Bool). cond b (set w (q + length start + run q w s) (run (q + length start) w (run q w s) + 1)) w) (eq-eqb (getD start s 0) 1 o))
@@ -137,7 +134,6 @@ segment-closed start q s w n = sym (ap (λ (b : Bool). cond b (set w (q + length
 module _ {n q : ℕ} {a b start w w₁ w₂ : List ℕ} (k : RoadTables n a b start) (room : q + 2 * length a + 2 * n ≤ length w) (g : RoadsNamed a b q w w₁)
     (f : Filled (q + length a) (length a) 0 w₁ w₂) where
   names-stay : (s : ℕ) → s < length a → run q w₂ s ≡ road (pairs a b) s
-  unfolding run
   names-stay s l = f .front (q + s) (omega arith) ∙ g .names s l
 
   pub count-start : Counting start q w₂ w₂ 0
@@ -162,7 +158,7 @@ module _ {n q : ℕ} {a b start w w₁ w₂ : List ℕ} (k : RoadTables n a b st
       ∙ ap₂ (λ (x y : List ℕ). length (pairs x y)) (take-all (length a) a (omega arith)) (take-all (length a) b e)
 
   pub roads-counted : {z : List ℕ} → Counting start q w₂ z (length start) → RoadsCounted a b start q w z
-  unfolding run countOpen openSegments
+  unfolding countOpen openSegments
   roads-counted {z} c =
       let e = k .start-long in
       record {

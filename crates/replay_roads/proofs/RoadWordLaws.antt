@@ -46,7 +46,6 @@ module _ {n : ℕ} {a b : List ℕ} (k : SegmentTables n a b) (s : ℕ) (l : s <
 module _ {n q : ℕ} {a b w z : List ℕ} (k : SegmentTables n a b) (r : q + 2 * length a + 2 * n ≤ length w) (f : Filled (q + length a) (2 * n) (length a) w z) where
   -- heads and firsts are filled
   pub thread-start : RoadWords n a b q z (length a) 0 0
-  unfolding run
   thread-start = record {
     tables = k;
     room = omega (arith, f .long);
@@ -60,7 +59,6 @@ module _ {n q s v : ℕ} {a b w : List ℕ} (g : RoadWords n a b q w (s + 1) 0 0
   thread-fits = rw ev (low-fits (g .tables) s l)
 
   pub thread-more : {x : ℕ} {w₁ z : List ℕ} → x ≡ getD w (q + length a + v) 0 → w₁ ≡ set w (q + length a + 2 * n + s) x → z ≡ set w₁ (q + length a + v) s → RoadWords n a b q z s 0 0
-  unfolding run
   thread-more {x} {w₁} {z} ex e₁ e₂ =
       let r = g .room in
       let d = thread-fits in
@@ -83,7 +81,6 @@ module _ {n q v s h : ℕ} {a b w : List ℕ} (g : RoadWords n a b q w 0 v s) (l
 
   module _ {f : ℕ} (ef : f ≡ getD w (q + length a + n + h) 0) where
     first-is : f ≡ run (q + length a + n) w (high (pairs a b) s)
-    unfolding run
     first-is = ef ∙ ap (λ (y : ℕ). getD w (q + length a + n + y) 0) eh
 
     -- by the one that is kept
@@ -131,12 +128,10 @@ along g f = record {
 }
 
 pub along-start : {n q v s : ℕ} {a b w : List ℕ} → RoadWords n a b q w 0 v 0 → v < n → s ≡ getD w (q + length a + v) 0 → Along n a b q w v s
-unfolding run
 along-start {n} {q} {v} {s} g l e = along g (rw e (g .threads .heads v l))
 
 pub along-more : {n q v s t : ℕ} {a b w z : List ℕ} → Along n a b q w v s → s < length a → RoadWords n a b q z 0 v (s + 1) → t ≡ getD z (q + length a + 2 * n + s) 0
     → Along n a b q z v t × (s < t)
-unfolding run
 along-more {n} {q} {v} {s} {t} {a} {b} {w} {z} g l h e =
     let f : FirstFrom (low (pairs a b)) v (s + 1) (length a) t = rw (e, ← g .at l) (h .threads .links s (omega arith) l) in
     (along h f, omega (arith, f .past))

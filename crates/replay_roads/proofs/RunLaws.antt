@@ -20,7 +20,6 @@ pub record Stored (f i x : ℕ) (w z : List ℕ) : Type 0 where
   pub else : (g u : ℕ) → ¬ (g + u ≡ f + i) → run g z u ≡ run g w u
 
 pub stored : (f i x : ℕ) (w : List ℕ) {z : List ℕ} → z ≡ set w (f + i) x → f + i < length w → Stored f i x w z
-unfolding run
 stored f i x w e l = rw e (record {
   long = length-set w (f + i) x;
   here = λ u. sym (update-at (λ u y. y ≡ getD (set w (f + i) x) (f + u) 0) (λ u. getD w (f + u) 0) i x

@@ -6,7 +6,7 @@ use mathlib.Core.Path.{_≡_}
 use lib.ListN.{getD, length}
 
 -- word i of the run that begins at place f
-unfoldable pub run : ℕ → List ℕ → ℕ → ℕ
+abbrev pub run : ℕ → List ℕ → ℕ → ℕ
 run f w i = getD w (f + i) 0
 
 -- the k words from place f on are x, and the words before them are as they were
