@@ -9,6 +9,7 @@ use lib.ListN.{getD, length}
 use native.Mathlib.Numerals.{add-one}
 use native.Mathlib.Omega.{arith}
 use borrow.Author.Tests.{eqb-true, ltb-true, ne-eqb}
+use Rattle.theory_timeline.proofs.Counting.{bit-most}
 use Rattle.theory_timeline.specs.Events.{Event, SegmentSet, asks, closes, ends, kindOf, opens}
 use Rattle.theory_timeline.specs.Replay.{eventFault}
 use Rattle.theory_timeline.specs.Steps.{Sound}
@@ -76,11 +77,7 @@ pub queries-more : (n : ℕ) (x : List ℕ) (i k r : ℕ) → k ≡ queriesBy n 
 unfolding queriesBy
 queries-more n x i k r e h = ap₂ (λ (a b : ℕ). a + b) e h ∙ sym (ap (queriesBy n x) (add-one i))
 
-pub query-most : (b : Bool) (r : ℕ) → r ≡ cond b 1 0 → r ≤ 1
-query-most true r e = omega arith
-query-most false r e = omega arith
-
 pub queries-most : (n : ℕ) (x : List ℕ) (i : ℕ) → queriesBy n x i ≤ i
 unfolding queriesBy
 queries-most n x zero = omega arith
-queries-most n x (suc i) = omega (arith, queries-most n x i, query-most (isQuery (kindAt n x i)) _ refl)
+queries-most n x (suc i) = omega (arith, queries-most n x i, bit-most (isQuery (kindAt n x i)))

@@ -19,14 +19,15 @@ use Rattle.theory_graph.proofs.TableLaws.{pairs-at, pairs-length, sets-append}
 use Rattle.theory_graph.specs.Graph.{Edge}
 use Rattle.theory_graph.specs.Lists.{pairs}
 use Rattle.theory_graph.specs.SmallGraph.{endsIn}
-use Rattle.theory_timeline.proofs.Acceptance.{sound-segment}
+use Rattle.theory_timeline.proofs.Acceptance.{pairs-equal, pairs-most, sound-segment}
 use Rattle.theory_timeline.proofs.CountLaws.{open-most}
+use Rattle.theory_timeline.proofs.Counting.{bit-most}
 use Rattle.theory_timeline.proofs.RoadLaws.{road-most}
 use Rattle.theory_timeline.proofs.TagLaws.{names-none, tag-says, word-change, word-query, words-at, words-length}
 use Rattle.theory_timeline.specs.Events.{Event, activeOf, asks, closes, ends, kindOf, opens}
 use Rattle.theory_timeline.specs.Roads.{road}
 use Rattle.theory_timeline.specs.Steps.{Sound}
-use Rattle.theory_timeline.specs.Tags.{bit, eventWords, key, last, namesKey, next, seekLast, tag, word}
+use Rattle.theory_timeline.specs.Tags.{eventWords, key, last, namesKey, next, seekLast, tag, word}
 use Rattle.theory_timeline.specs.Windows.{Timeline, active, during, event, openBefore, roadsBefore, size}
 use Rattle.replay_step.proofs.WordLaws.{map-self, mid-sets}
 use Rattle.replay_step.specs.Area.{EventsIn}
@@ -137,15 +138,6 @@ junctions-more n segs x y i w z l q e =
     ∙ ap (λ (k : ℕ). sets (sets w 0 A) k (endsBy n segs ev .0 ∷ endsBy n segs ev .1 ∷ [])) (sym la)
     ∙ sym (sets-append A w 0 (endsBy n segs ev .0 ∷ endsBy n segs ev .1 ∷ []))
     ∙ ap (sets w 0) (sym (ap (junctionsBy n segs) t ∙ junctions-snoc n segs (take i (pairs x y)) ev))
-
-pairs-most : (x y : List ℕ) (i : ℕ) → length x ≤ i → length (pairs x y) ≤ i
-pairs-most [] y i l = omega arith
-pairs-most (u ∷ x) [] i l = omega arith
-pairs-most (u ∷ x) (v ∷ y) zero l = absurd (omega arith)
-pairs-most (u ∷ x) (v ∷ y) (suc i) l = omega (arith, pairs-most x y i (omega arith))
-
-pub pairs-equal : (x y : List ℕ) → length y ≡ length x → length (pairs x y) ≡ length x
-pairs-equal x y e = omega (arith, pairs-length x y (length x) (omega arith) (omega arith), pairs-most x y (length x) (omega arith))
 
 junctions-all : (n : ℕ) (segs : List Edge) (x y : List ℕ) (i : ℕ) (w z : List ℕ) → i ≡ length x → z ≡ sets w 0 (junctionsBy n segs (take i (pairs x y)))
     → z ≡ sets w 0 (junctionsBy n segs (pairs x y))
@@ -332,10 +324,6 @@ module _ {t i : ℕ} {w₀ heads w : List ℕ} (fit : TagsFit t w₀) where
       }
 
 -- ---- the whole
-bit-most : (b : Bool) → bit b ≤ 1
-bit-most true = omega arith
-bit-most false = omega arith
-
 tag-most : (g : Timeline) (j : ℕ) → tag g j ≤ 4 * key g j + 4
 unfolding tag
 tag-most g j = omega (arith, bit-most (roadsBefore g j (key g j)), bit-most (roadsBefore g (j + 1) (key g j)))

@@ -1,4 +1,4 @@
--- Laws of counting: of the first numbers that pass a test, one more number; one more segment is counted; the whole.
+-- Laws of the counts of the starting table: one more segment, by names; one more segment is counted in the words; the whole.
 -- Assumes nothing.
 use Prim.Native.Nat.{_*_, _+_, _<_, _≤_, suc, zero, ℕ}
 use mathlib.Core.Bool.{Bool, _&&_, and-false, cond, false, true}
@@ -6,15 +6,14 @@ use mathlib.Core.List.{List}
 use mathlib.Core.Path.{_∙_, _≡_, ap, ap₂, refl, subst, sym}
 use lib.Dec.{eqb}
 use lib.ListN.{getD, length, set}
-use lib.Seq.{take-all}
 use native.Mathlib.Numerals.{add-one}
 use native.Mathlib.Omega.{arith}
 use borrow.Author.Tests.{eq-eqb, ne-eqb}
 use Rattle.core_words.proofs.FieldLaws.{update-at}
 use Rattle.theory_graph.proofs.Booleans.{onBool}
 use Rattle.theory_graph.specs.Lists.{filter, pairs, range}
-use Rattle.theory_timeline.proofs.Acceptance.{length-pairs}
-use Rattle.theory_timeline.proofs.Counting.{count-suc}
+use Rattle.theory_timeline.proofs.Acceptance.{pairs-equal}
+use Rattle.theory_timeline.proofs.Counting.{count-most, count-suc}
 use Rattle.theory_timeline.proofs.RoadLaws.{road-most}
 use Rattle.theory_timeline.specs.Events.{SegmentSet}
 use Rattle.theory_timeline.specs.Roads.{road}
@@ -25,8 +24,7 @@ use Rattle.replay_roads.specs.Counting.{CanCount, Counting, RoadTables, 
 use Rattle.replay_roads.specs.Naming.{RoadsNamed}
 use Rattle.replay_roads.specs.Runs.{Filled, run}
 
--- ---- one more number
--- by names
+-- ---- one more segment, by names
 module _ (o : SegmentSet) (name : ℕ → ℕ) where
   open-suc : (k r : ℕ) → countOpen o name (suc k) r ≡ countOpen o name k r + bit (o k && eqb r (name k))
   unfolding countOpen
@@ -38,12 +36,7 @@ module _ (o : SegmentSet) (name : ℕ → ℕ) where
 
   open-most : (k r : ℕ) → countOpen o name k r ≤ k
   unfolding countOpen
-  open-most zero r = omega arith
-  open-most (suc k) r = omega (arith, open-suc k r, open-most k r, most (o k && eqb r (name k)))
-    where
-      most : (b : Bool) → bit b ≤ 1
-      most true = omega arith
-      most false = omega arith
+  open-most k r = count-most (λ s. o s && eqb r (name s)) 0 k
 
   -- one more segment of the road
   open-more : (k r : ℕ) → o k ≡ true → r ≡ name k → countOpen o name (k + 1) r ≡ countOpen o name k r + 1
@@ -152,10 +145,7 @@ module _ {n q : ℕ} {a b start w w₁ w₂ : List ℕ} (k : RoadTables n a b st
 
   -- there are as many segments as entries
   segments-long : length start ≡ length (pairs a b)
-  segments-long =
-      let e : length b ≤ length a = omega (arith, k .b-long) in
-      k .start-long ∙ sym (length-pairs (length a) a b (omega arith) (omega (arith, k .b-long)))
-      ∙ ap₂ (λ (x y : List ℕ). length (pairs x y)) (take-all (length a) a (omega arith)) (take-all (length a) b e)
+  segments-long = k .start-long ∙ sym (pairs-equal a b (k .b-long))
 
   pub roads-counted : {z : List ℕ} → Counting start q w₂ z (length start) → RoadsCounted a b start q w z
   unfolding countOpen openSegments

@@ -13,7 +13,7 @@ use borrow.Author.Tests.{le-ltb}
 use Rattle.core_reduce.specs.Core.{edgesIn}
 use Rattle.core_reduce.specs.declared.Counts.{Counts}
 use Rattle.core_words.specs.Fields.{ACTIVE, MARK}
-use Rattle.replay_events.proofs.WritingLaws.{ends-low, names-tag, pairs-equal, same-front, word-key}
+use Rattle.replay_events.proofs.WritingLaws.{ends-low, names-tag, same-front, word-key}
 use Rattle.replay_events.specs.Writing.{keyOf, namesTag}
 use Rattle.replay_start.proofs.StartLaws.{any-same, pick-numbers}
 use Rattle.replay_start.specs.Start.{Cleared, LoadReady, fixed, namedBy, segment, tagsFrom}
@@ -33,7 +33,7 @@ use Rattle.theory_graph.specs.Cut.{cut}
 use Rattle.theory_graph.specs.Graph.{Edge, NodeSet}
 use Rattle.theory_graph.specs.Lists.{any, pairs, range}
 use Rattle.theory_graph.specs.SmallGraph.{endsIn}
-use Rattle.theory_timeline.proofs.Acceptance.{sound-good}
+use Rattle.theory_timeline.proofs.Acceptance.{pairs-equal, sound-good}
 use Rattle.theory_timeline.proofs.CountLaws.{road-open}
 use Rattle.theory_timeline.proofs.EventLaws.{pick-same}
 use Rattle.theory_timeline.proofs.TagLaws.{named-during, quiet, words-at}

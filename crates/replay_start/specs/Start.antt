@@ -9,6 +9,7 @@ use lib.Dec.{ltb}
 use lib.ListN.{drop, getD, length}
 use Rattle.core_words.specs.Fields.{TO, half}
 use Rattle.replay_events.specs.Writing.{keyOf, namesTag}
+use Rattle.replay_roads.specs.Runs.{run}
 use Rattle.theory_graph.specs.Graph.{Edge}
 use Rattle.theory_graph.specs.Lists.{any, range}
 
@@ -32,12 +33,12 @@ pub record ClearReady (from t counts : ℕ) (w : List ℕ) : Type 0 where
 pub record Cleared (from i j counts : ℕ) (w z : List ℕ) : Type 0 where
   pub long : length z ≡ length w
   pub front : (d : ℕ) → d < counts → getD z d 0 ≡ getD w d 0
-  pub left : (r : ℕ) → counts + r < length w → getD z (counts + r) 0 ≡ cond (namedBy from i j w r) 0 (getD w (counts + r) 0)
+  pub left : (r : ℕ) → counts + r < length w → run counts z r ≡ cond (namedBy from i j w r) 0 (run counts w r)
 
 -- ---- the roads that are loaded
 -- road j has a count
 abbrev pub fixed : ℕ → List ℕ → ℕ → Bool
-fixed counts w j = ltb 0 (getD w (counts + j) 0)
+fixed counts w j = ltb 0 (run counts w j)
 
 abbrev pub segment : List ℕ → List ℕ → ℕ → Edge
 segment a b j = (getD a j 0, getD b j 0)

@@ -7,6 +7,7 @@ use mathlib.Core.Path.{_≡_}
 use lib.Dec.{ltb}
 use lib.ListN.{drop, getD, length, take}
 use Rattle.core_reduce.specs.Core.{edgesIn}
+use Rattle.replay_roads.specs.Runs.{run}
 use Rattle.replay_start.specs.Start.{ClearReady, namedBy}
 use Rattle.replay_step.specs.Area.{EventsIn, SmallArea}
 use Rattle.replay_step.specs.Load.{ActiveReady, MakeReady, scratch}
@@ -38,7 +39,7 @@ pub record WholeLoaded (n : ℕ) (p : Part) (a b : List ℕ) (counts : ℕ) (v z
   pub front : take counts z ≡ take counts v
   pub ready : MakeReady p l z
   pub edges : (U : NodeSet) → cut U (edgesIn (l .nodes) (l .edges) (drop (scratch p) z))
-      ≡ cut U (pick (λ r. ltb 0 (getD v (counts + r) 0) && not (namedBy (p .words) 0 (p .events) v r)) 0 (pairs a b))
+      ≡ cut U (pick (λ r. ltb 0 (run counts v r) && not (namedBy (p .words) 0 (p .events) v r)) 0 (pairs a b))
 
 -- ---- the whole list
 -- a list of t events with these segments stands in the words
@@ -48,7 +49,7 @@ pub record ListIn (n t : ℕ) (a b : List ℕ) (counts : ℕ) (v : List ℕ) (g 
   pub segments : g .segments ≡ pairs a b
   pub all : size g ≡ t
   pub events : EventsIn g (0, t) (λ u. u) (take (5 * t) v)
-  pub counted : (r : ℕ) → r < length a → getD v (counts + r) 0 ≡ openCount g t r
+  pub counted : (r : ℕ) → r < length a → run counts v r ≡ openCount g t r
 
 pub record WholeReady (n t : ℕ) (a b : List ℕ) (counts area : ℕ) (v : List ℕ) : Type 0 where
   pub g : Timeline

@@ -13,26 +13,15 @@ use test_replay_calls::calls::Work;
 use test_slow_replay::replay;
 ghost use Prim.Native.Nat.{_<_};
 
-// X from which on an event names a segment: the even number closes and the odd one opens.
-const CLOSES: usize = 65534;
-
-// Copies the network and the starting table.
-fn copy_network(r: &mut List, l: &List) {
+// Copies the network, with the segments that are open before the first event as its starting table.
+fn copy_network(r: &mut List, l: &List, first: usize) {
     let m = lists::size(l, lists::B);
+    let mut open = [false; 8192];
+    replay::mark_open(&mut open, l, first);
     for e in 0..m {
         lists::set(r, lists::A, e, lists::at(l, lists::A, e));
         lists::set(r, lists::B, e, lists::at(l, lists::B, e));
-        lists::set(r, lists::START, e, lists::at(l, lists::START, e));
-    }
-}
-
-// Changes the starting table by the first events.
-fn change_start(r: &mut List, l: &List, first: usize) {
-    for i in 0..first {
-        let x = lists::at(l, lists::X, i);
-        if x >= CLOSES {
-            lists::set(r, lists::START, lists::at(l, lists::Y, i), x % 2);
-        }
+        lists::set(r, lists::START, e, tables::marked(&open, e) as usize);
     }
 }
 
@@ -54,8 +43,7 @@ fn cut(r: &mut List, l: &List, first: usize, n: usize) {
         n,
         lists::size(l, lists::Y),
     );
-    copy_network(r, l);
-    change_start(r, l, first);
+    copy_network(r, l, first);
     copy_events(r, l, first, n);
 }
 

@@ -34,8 +34,8 @@ pub(crate) fn mark_start(open: &mut Marks, l: &List) {
     }
 }
 
-// Marks the segments that are open before event i.
-fn mark_open(open: &mut Marks, l: &List, i: usize) {
+// Internal: marks the segments that are open before event i.
+pub fn mark_open(open: &mut Marks, l: &List, i: usize) {
     mark_start(open, l);
     for j in 0..i {
         change(open, l, j);

@@ -13,6 +13,7 @@ use native.Mathlib.Omega.{arith}
 use borrow.Author.Tests.{eqb-false, eqb-true, le-ltb, leb-false, lt-ltb, ltb-false, ltb-true, ne-eqb, not-false, not-true}
 use Rattle.theory_graph.proofs.Booleans.{and-elim, contradict, onBool}
 use Rattle.theory_graph.proofs.Ends.{endsIn-all, endsIn-at}
+use Rattle.theory_graph.proofs.TableLaws.{pairs-length}
 use Rattle.theory_graph.specs.Graph.{Edge, NodeSet}
 use Rattle.theory_graph.specs.Lists.{pairs}
 use Rattle.theory_graph.specs.SmallGraph.{endsIn}
@@ -93,6 +94,15 @@ fault-fine n m o e few h = go (ltb (e .0) n) (eqb (e .0) 65535) (eqb (e .0) 6553
     go false false false eq ea ec h = absurd (omega arith)
 
 -- ---- two parallel arrays
+pub pairs-most : (x y : List ℕ) (i : ℕ) → length x ≤ i → length (pairs x y) ≤ i
+pairs-most [] y i l = omega arith
+pairs-most (u ∷ x) [] i l = omega arith
+pairs-most (u ∷ x) (v ∷ y) zero l = absurd (omega arith)
+pairs-most (u ∷ x) (v ∷ y) (suc i) l = omega (arith, pairs-most x y i (omega arith))
+
+pub pairs-equal : (x y : List ℕ) → length y ≡ length x → length (pairs x y) ≡ length x
+pairs-equal x y e = omega (arith, pairs-length x y (length x) (omega arith) (omega arith), pairs-most x y (length x) (omega arith))
+
 pub length-pairs : (k : ℕ) (x y : List ℕ) → k ≤ length x → k ≤ length y → length (pairs (take k x) (take k y)) ≡ k
 length-pairs zero x y a b = refl
 length-pairs (suc k) [] y a b = absurd (omega arith)

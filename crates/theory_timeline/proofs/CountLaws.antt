@@ -10,11 +10,8 @@ use lib.ListN.{length}
 use native.Mathlib.Omega.{arith}
 use borrow.Author.Tests.{eq-eqb, eqb-false, eqb-true, ne-eqb, not-true}
 use Rattle.theory_graph.proofs.Booleans.{onBool}
-use Rattle.theory_graph.proofs.Lists.{filter-length}
 use Rattle.theory_graph.specs.Graph.{Edge}
-use Rattle.theory_graph.specs.Lists.{range}
-use Rattle.theory_timeline.proofs.Counting.{any-count, count-more, count-same}
-use Rattle.theory_timeline.proofs.RoadLaws.{range-length}
+use Rattle.theory_timeline.proofs.Counting.{any-count, count-more, count-most, count-same}
 use Rattle.theory_timeline.proofs.TagLaws.{open-next}
 use Rattle.theory_timeline.specs.Events.{SegmentSet, asks, closes, openRoads, opens}
 use Rattle.theory_timeline.specs.Roads.{road}
@@ -30,7 +27,7 @@ road-open segs o r = any-count (λ s. o s && eqb r (road segs s)) 0 (length segs
 -- and no road has more than there are segments
 pub open-most : (segs : List Edge) (o : SegmentSet) (r : ℕ) → openSegments segs o r ≤ length segs
 unfolding openSegments
-open-most segs o r = omega (arith, filter-length (λ s. o s && eqb r (road segs s)) (range 0 (length segs)), range-length 0 (length segs))
+open-most segs o r = count-most (λ s. o s && eqb r (road segs s)) 0 (length segs)
 
 -- ---- the counts of a list
 module _ (g : Timeline) where

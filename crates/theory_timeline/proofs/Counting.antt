@@ -10,6 +10,7 @@ use native.Mathlib.Omega.{arith}
 use borrow.Author.Tests.{eqb-false, eqb-true, le-ltb, lt-ltb}
 use Rattle.theory_graph.proofs.Booleans.{onBool}
 use Rattle.theory_graph.specs.Lists.{any, filter, range}
+use Rattle.theory_timeline.specs.Tags.{bit}
 
 abbrev pub count : (ℕ → Bool) → ℕ → ℕ → ℕ
 count f i k = length (filter f (range i k))
@@ -38,6 +39,14 @@ count-split f i (suc a) k =
 pub count-suc : (f : ℕ → Bool) (i k : ℕ) → count f i (suc k) ≡ count f i k + cond (f (i + k)) 1 0
 count-suc f i k = let z : suc k ≡ k + 1 = omega arith in
     ap (count f i) z ∙ count-split f i k 1 ∙ ap (λ (c : ℕ). count f i k + c) (count-cons f (i + k) 0 ∙ omega arith)
+
+pub bit-most : (b : Bool) → bit b ≤ 1
+bit-most true = omega arith
+bit-most false = omega arith
+
+pub count-most : (f : ℕ → Bool) (i n : ℕ) → count f i n ≤ n
+count-most f i zero = omega arith
+count-most f i (suc n) = omega (arith, count-cons f i n, bit-most (f i), count-most f (suc i) n)
 
 -- some number passes just where the count is not 0
 pub any-count : (f : ℕ → Bool) (i n : ℕ) → any f (range i n) ≡ ltb 0 (count f i n)

@@ -1,6 +1,6 @@
 -- The proof of demand 3, stated in specs/DemandThree: first one window, then two replays.
 -- Assumes nothing.
-use Prim.Native.Nat.{ℕ}
+use Prim.Native.Nat.{suc, zero, ℕ}
 use mathlib.Core.Bool.{Bool, _&&_, false, true}
 use mathlib.Core.List.{List, List·Memᴰ, List·Memᴰ·head, List·Memᴰ·tail, [], _++_, _∷_, map}
 use mathlib.Core.Logic.{_↔_}
@@ -24,7 +24,7 @@ use Rattle.theory_graph.specs.SmallGraph.{endsIn, image}
 use Rattle.call_sizes.specs.Refusal.{Refusal}
 use Rattle.theory_timeline.proofs.Acceptance.{Accepted, Good, accepted-from, accepted-good, events-length, fault-share, pick-inside}
 use Rattle.theory_timeline.proofs.Networks.{network-different}
-use Rattle.theory_timeline.proofs.RoadLaws.{different-answer, different-append, range-length}
+use Rattle.theory_timeline.proofs.RoadLaws.{different-answer, different-append}
 use Rattle.theory_timeline.specs.DemandThree.{Alike, Allowed, Among, Demand-3, Demand-3-of-calls, Demand3, Faithful, NewRoads, outcomeOf}
 use Rattle.theory_timeline.specs.Events.{networkOf}
 use Rattle.theory_timeline.specs.Replay.{Lent, Outcome, bytes, done, fault, given, openAtEnd, queries, refused, replay}
@@ -92,6 +92,10 @@ done-verdict l p = go (eqb (fault l p .0) 0) refl
     go : (b : Bool) → eqb (fault l p .0) 0 ≡ b → (elim b as (λ x. Outcome) [ true ↦ done l p | false ↦ refused l (fault l p) ]) .code ≡ 0 → fault l p .0 ≡ 0
     go true e h = eqb-true (fault l p .0) 0 e
     go false e h = h
+
+range-length : (i n : ℕ) → length (range i n) ≡ n
+range-length i zero = refl
+range-length i (suc n) = ap suc (range-length (suc i) n)
 
 -- the first T entries of the answer table are the answer bytes
 pub bytes-length : (l : Lent) (p : ℕ) → Accepted l p → length (bytes (given l)) ≡ l .t

@@ -1,5 +1,6 @@
--- Laws of roads, in order: having the same ends is an equivalence; the name of a road; the edges of different roads, where the loss of a road is the removal of an entry;
--- edges of the same roads, which have the same answers; open roads, and the reader's law: the answer over the open roads is by the loss of all open segments of each road in turn.
+-- Laws of roads, in order: having the same ends is an equivalence; the name of a road; the edges of different roads, where the loss of a road is the
+-- removal of an entry; edges of the same roads, which have the same answers; open roads, and the reader's law: the answer over the open roads is by the loss
+-- of all open segments of each road in turn.
 -- Assumes nothing.
 use Prim.Native.Nat.{_+_, _<_, _≤_, max, min, suc, zero, ℕ}
 use mathlib.Core.Bool.{Bool, _&&_, _||_, cond, false, not, or-true, true}
@@ -46,7 +47,7 @@ ends-trans e f h a b =
     (λ p q. onEnds f h b (λ r s. ends-fore e h (p ∙ r) (q ∙ s)) (λ r s. ends-back e h (p ∙ r) (q ∙ s)))
     (λ p q. onEnds f h b (λ r s. ends-back e h (p ∙ s) (q ∙ r)) (λ r s. ends-fore e h (p ∙ s) (q ∙ r)))
 
--- by the smaller and the larger end
+-- by the lower and the higher end
 pub ends-ordered : (e f : Edge) → (sameEnds e f ≡ true) ↔ ((min (e .0) (e .1) ≡ min (f .0) (f .1)) × (max (e .0) (e .1) ≡ max (f .0) (f .1)))
 ends-ordered e f = (
   λ h. onEnds e f h (λ p q. (omega arith, omega arith)) (λ p q. (omega arith, omega arith)),
@@ -231,10 +232,6 @@ range-high : (z i n : ℕ) → List·Memᴰ z (range i n) → z < i + n
 range-high z i zero m = absurd (elim m [ ])
 range-high z i (suc n) (List·Memᴰ·head p) = omega arith
 range-high z i (suc n) (List·Memᴰ·tail m) = omega (arith, range-high z (suc i) n m)
-
-pub range-length : (i n : ℕ) → length (range i n) ≡ n
-range-length i zero = refl
-range-length i (suc n) = ap suc (range-length (suc i) n)
 
 -- ---- open roads
 module _ (segs : List Edge) (o : SegmentSet) where

@@ -20,6 +20,7 @@ use Rattle.theory_graph.specs.Cut.{crosses, cut}
 use Rattle.theory_graph.specs.Graph.{Edge, NodeSet}
 use Rattle.theory_graph.specs.Lists.{any, range}
 use Rattle.theory_graph.specs.SmallGraph.{image}
+use Rattle.theory_timeline.proofs.Counting.{bit-most}
 use Rattle.theory_timeline.proofs.EventLaws.{pick-ext, pick-sum, roads-stay}
 use Rattle.theory_timeline.proofs.Networks.{after-append}
 use Rattle.theory_timeline.proofs.RoadLaws.{ends-cross, road-most, road-same}
@@ -76,13 +77,9 @@ pub record Says (t k : ℕ) (a b : Bool) : Type 0 where
 
 pub says : (t k : ℕ) (a b : Bool) → t ≡ 1 + 4 * k + 2 * bit a + bit b → Says t k a b
 says t k a b e =
-    let la = most a in
-    let lb = most b in
+    let la = bit-most a in
+    let lb = bit-most b in
     record { change = lt-ltb 0 t (omega arith); named = omega arith; was = odd ((t - 1) / 2) k a (omega arith); is = odd (t - 1) (2 * k + bit a) b (omega arith) }
-  where
-    most : (b : Bool) → bit b ≤ 1
-    most true = omega arith
-    most false = omega arith
 
 module _ (g : Timeline) (i : ℕ) where
   pub tag-says : Says (tag g i) (key g i) (roadsBefore g i (key g i)) (roadsBefore g (i + 1) (key g i))

@@ -5,7 +5,8 @@ use mathlib.Core.Path.{_≡_}
 use lib.ListN.{getD}
 use native.Mathlib.Omega.{arith}
 use Rattle.theory_timeline.specs.Events.{kindOf}
-use Rattle.replay_events.proofs.KindLaws.{queries-more, queries-most, queries-none, query-most}
+use Rattle.replay_events.proofs.KindLaws.{queries-more, queries-most, queries-none}
+use Rattle.theory_timeline.proofs.Counting.{bit-most}
 use Rattle.replay_events.specs.Kinds.{isQuery, queriesBy}
 use Rattle.replay_events.proofs.count_queries.Statement.{statement}
 use Rattle.replay_events.proofs.count_queries.Tie as tie
@@ -28,7 +29,8 @@ add-k c =
       arith,
       queries-most (start .args .n) (start .args .x .now) (l .i),
       l .inv .1,
-      query-most (isQuery (kindOf (start .args .n) (getD (start .args .x .now) (l .i) 0))) _ (c .one-if-query .ensures),
+      c .one-if-query .ensures,
+      bit-most (isQuery (kindOf (start .args .n) (getD (start .args .x .now) (l .i) 0))),
     )
 
 loop-again : tie.Need-loop-again Inv-loop μ-loop
