@@ -1,5 +1,6 @@
 //! The rivals of the proved replay, and the lists and graphs that they are timed on.
 
+pub mod check_number;
 pub mod contraction;
 pub mod core;
 pub mod graphs;

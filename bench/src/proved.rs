@@ -77,3 +77,7 @@ pub fn contract(
     let r = tables::contract(lent).map_err(refusal)?;
     Ok((r.nodes, r.edges))
 }
+
+pub fn check_number(table: &[u8], t: usize) -> Result<u32, Refusal> {
+    tables::check_number(table, t).map_err(refusal)
+}

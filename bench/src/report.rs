@@ -1,6 +1,8 @@
 //! The tables, as Markdown.
 
-use crate::timing::{ContractionRow, ReplayRow, Time, GRAPHS, LISTS, ROUNDS, SHARES};
+use crate::timing::{
+    ContractionRow, NumberRow, ReplayRow, Time, GRAPHS, LISTS, ROUNDS, SHARES, TABLES,
+};
 use std::fmt::Write;
 
 /// Three figures, or all that stand before the point.
@@ -24,7 +26,11 @@ fn both(t: Time) -> String {
     format!("{} ({})", figures(t.median), figures(t.least))
 }
 
-pub fn markdown(replays: &[ReplayRow], contractions: &[ContractionRow]) -> String {
+pub fn markdown(
+    replays: &[ReplayRow],
+    contractions: &[ContractionRow],
+    numbers: &[NumberRow],
+) -> String {
     let mut out = String::new();
     let mut worst: (f64, String) = (0.0, String::new());
     let mut worst_least: (f64, String) = (0.0, String::new());
@@ -41,7 +47,7 @@ pub fn markdown(replays: &[ReplayRow], contractions: &[ContractionRow]) -> Strin
 
     let _ = write!(
         out,
-        "# Results\n\nWritten by `bench/run`. Times are microseconds a call: the average over {LISTS} lists, or over {GRAPHS} graphs, of each one's median in {ROUNDS} rounds; \
+        "# Results\n\nWritten by `bench/run`. Times are microseconds a call: the average over {LISTS} lists, {GRAPHS} graphs or {TABLES} tables of each one's median in {ROUNDS} rounds; \
          in brackets that of its least. Ratios are those of the medians, in brackets those of the least times.\n\n\
          ## The replay of a list\n\n\
          The searches do not depend on the share p.\n\n\
@@ -93,6 +99,21 @@ pub fn markdown(replays: &[ReplayRow], contractions: &[ContractionRow]) -> Strin
             ratio(r.proved, r.plain, what),
             a_node(r.proved),
             a_node(r.plain),
+        );
+    }
+    let _ = write!(
+        out,
+        "\n## The check number\n\nOf random answers.\n\n| bytes | proved | plain Rust | proved / plain |\n|---|---|---|---|\n"
+    );
+    for r in numbers {
+        let what = format!("the check number of {} bytes", r.bytes);
+        let _ = writeln!(
+            out,
+            "| {} | {} | {} | {} |",
+            r.bytes,
+            both(r.proved),
+            both(r.plain),
+            ratio(r.proved, r.plain, what),
         );
     }
     let _ = write!(

@@ -5,13 +5,14 @@ use crate::proved;
 use bench::graphs::{self, Shape};
 use bench::lists::{self, Kind, List};
 use bench::random::Random;
-use bench::{contraction, replay, search};
+use bench::{check_number, contraction, replay, search};
 use std::hint::black_box;
 use std::time::Instant;
 
 pub const ROUNDS: usize = 9;
 pub const LISTS: usize = 8;
 pub const GRAPHS: usize = 64;
+pub const TABLES: usize = 64;
 pub const SIZES: [usize; 4] = [512, 1024, 2048, 4096];
 pub const SHARES: [usize; 3] = [4, 8, 12];
 
@@ -300,4 +301,44 @@ pub fn contractions() -> Result<Vec<ContractionRow>, String> {
         }
     }
     Ok(rows)
+}
+
+pub struct NumberRow {
+    pub bytes: usize,
+    pub proved: Time,
+    pub plain: Time,
+}
+
+type CheckNumber = fn(&[u8], usize) -> Result<u32, bench::Refusal>;
+
+fn number_row(bytes: usize) -> Result<NumberRow, String> {
+    let mut random = Random::new(bytes as u64);
+    let mut table = || (0..bytes).map(|_| random.below(4) as u8).collect();
+    let tables: Vec<Vec<u8>> = (0..TABLES).map(|_| table()).collect();
+    for table in &tables {
+        let by_proved = proved::check_number(table, bytes);
+        let by_plain = check_number::check_number(table, bytes);
+        if by_proved.is_err() || by_proved != by_plain {
+            return Err(format!(
+                "the check numbers differ: {by_proved:?} and {by_plain:?}"
+            ));
+        }
+    }
+    let times = measure(2, TABLES, |rival, i| {
+        let f: CheckNumber = if rival == 0 {
+            proved::check_number
+        } else {
+            check_number::check_number
+        };
+        let _ = black_box(f(black_box(&tables[i]), bytes));
+    });
+    Ok(NumberRow {
+        bytes,
+        proved: times[0],
+        plain: times[1],
+    })
+}
+
+pub fn numbers() -> Result<Vec<NumberRow>, String> {
+    SIZES.into_iter().map(number_row).collect()
 }

@@ -1,14 +1,16 @@
 /*
  * Lumzhasel from C and C++: the replay of a road network, the contraction, the
- * check of sizes and the reader's call. Each call is proved, for all inputs, to
- * return and to leave in the lent tables exactly what the definitions say
+ * check of sizes, the reader's call and the check number of answers. Each call is
+ * proved, for all inputs, to return and to leave in the lent tables exactly what the
+ * definitions say
  * (crates/call_exports/src/lib.rt). Link target/staticlib/libcall_exports.a, which
  * `rt staticlib call_exports` writes; it is for x86-64 Linux and needs only memcpy and
  * memset of the C library.
  *
  * VERSIONS. What a call is lent gains fields, and replies gain numbers, from one version
  * to the next; their names stay. Version 5 has the tables of version 4, but its answers
- * are about roads (lum_replay), where those before were about segments. A program that
+ * are about roads (lum_replay), where those before were about segments; version 6 has
+ * lum_check_number more. A program that
  * was built with the header of one version and linked with the archive of another would
  * hand over its tables in the wrong places, and nothing else would notice. So compare
  * lum_version() with LUM_VERSION before the first other call, and make none where they
@@ -67,7 +69,7 @@ extern "C" {
 #endif
 
 /* The version of the calls below. */
-#define LUM_VERSION 5u
+#define LUM_VERSION 6u
 
 /* The limits. */
 #define LUM_MOST_JUNCTIONS 4096u
@@ -101,6 +103,11 @@ extern "C" {
 struct lum_sizes_reply {
     size_t code, place;
     size_t n, m, t, k; /* the sizes as they were given */
+};
+
+struct lum_check_number_reply {
+    size_t code, place;
+    uint32_t number; /* any number, 0 too: `code` alone tells a refusal */
 };
 
 struct lum_contract_reply {
@@ -174,6 +181,19 @@ struct lum_sizes_reply lum_sizes(size_t n, size_t m, size_t t, size_t k);
  * refused and nothing written.
  */
 size_t lum_answers(const uint8_t *table, size_t table_len, size_t t);
+
+/*
+ * A number to compare answers by voice: the check number of the table's first t bytes. It
+ * starts at 1, and each byte a turns h into 31h + a + 1, reduced modulo 4,294,967,296. The
+ * table is only read. Refused by 1 where t is above 4,096, then by 2 where the table is
+ * shorter than t.
+ *
+ * Two tables with the same first t bytes have the same number, and two that differ in one
+ * of these bytes alone have different ones. Tables that differ in two bytes or more may
+ * share a number, so equal numbers do not show that the tables are equal. Where the numbers
+ * of the first t bytes agree and those of the first t + 1 do not, byte t differs.
+ */
+struct lum_check_number_reply lum_check_number(const uint8_t *table, size_t table_len, size_t t);
 
 /*
  * Contracts the graph of n nodes and m edges, edge s between from[s] and to[s], to its

@@ -62,6 +62,25 @@
 //! # Ok::<(), lumzhasel::Error>(())
 //! ```
 //!
+//! Two offices with the same list compare their answers by voice: each reads the check number of the first so many
+//! events. Where the numbers of the first t agree and those of one more do not, the answers to event t differ:
+//!
+//! ```
+//! # use lumzhasel::{tables, List, Network};
+//! let network = Network::with_segments(3, [(0, 1), (1, 2), (2, 0)]);
+//! let mut list = List::new();
+//! list.open(0).open(1).query(0, 2).open(2).query(0, 2);
+//! let ours = network.replay(&list)?;
+//! // The other office's bytes, with another answer to event 2.
+//! let theirs = [3, 3, 2, 3, 2];
+//!
+//! assert_eq!(ours.check_number(5)?, 32444448);
+//! assert_eq!(tables::check_number(&theirs, 5)?, 32445409);
+//! assert_eq!(ours.check_number(2)?, tables::check_number(&theirs, 2)?);
+//! assert_ne!(ours.check_number(3)?, tables::check_number(&theirs, 3)?);
+//! # Ok::<(), lumzhasel::Error>(())
+//! ```
+//!
 //! There are two layers. The one above has [`Network`], [`List`] and [`Event`] as values, and results
 //! that own what they hold; it makes the tables of each call. The module [`tables`] has the calls as
 //! they are: the caller lends every table, and nothing is allocated.
@@ -99,7 +118,7 @@ pub const MOST_EVENTS: usize = 4096;
 pub const MOST_ENTRIES: usize = 8192;
 
 /// The version of the calls that this package was written for.
-pub const VERSION: u32 = 5;
+pub const VERSION: u32 = 6;
 
 /// The version of the calls in the archive.
 pub fn version() -> u32 {

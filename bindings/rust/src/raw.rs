@@ -1,5 +1,5 @@
 //! The exported calls of the archive, each lent a struct of numbers and tables, a table as a pointer and a length. All unsafe code
-//! stands here. These declarations are those of version 5, [`crate::VERSION`]: whoever changes one changes both.
+//! stands here. These declarations are those of version 6, [`crate::VERSION`]: whoever changes one changes both.
 #![allow(unsafe_code)]
 
 use crate::tables::{ContractTables, ReplayTables};
@@ -12,6 +12,13 @@ pub(crate) struct SizesReply {
     pub m: usize,
     pub t: usize,
     pub k: usize,
+}
+
+#[repr(C)]
+pub(crate) struct CheckNumberReply {
+    pub code: usize,
+    pub place: usize,
+    pub number: u32,
 }
 
 #[repr(C)]
@@ -96,6 +103,8 @@ extern "C" {
 
     fn lum_answers(table: *const u8, table_len: usize, t: usize) -> usize;
 
+    fn lum_check_number(table: *const u8, table_len: usize, t: usize) -> CheckNumberReply;
+
     fn lum_contract(lent: ContractLent) -> ContractReply;
 
     fn lum_replay(lent: ReplayLent) -> ReplayReply;
@@ -115,6 +124,11 @@ pub(crate) fn answers(table: &[u8], t: usize) -> usize {
     // SAFETY: the pointer and the length are those of one slice, so that the pointer is non-null and
     // aligned and all entries are initialised. The call writes nothing.
     unsafe { lum_answers(table.as_ptr(), table.len(), t) }
+}
+
+pub(crate) fn check_number(table: &[u8], t: usize) -> CheckNumberReply {
+    // SAFETY: as in `answers`: the pointer and the length of one slice, which is only read.
+    unsafe { lum_check_number(table.as_ptr(), table.len(), t) }
 }
 
 pub(crate) fn contract(lent: ContractTables<'_>) -> ContractReply {

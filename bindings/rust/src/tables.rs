@@ -200,6 +200,31 @@ pub fn answers(table: &[u8], t: usize) -> Result<&[u8], Error> {
     Ok(&table[..raw::answers(table, t)])
 }
 
+/// A number to compare answers by voice: the check number of the table's first `t` bytes. It starts at 1, and each
+/// byte a turns h into 31h + a + 1, reduced modulo 4,294,967,296.
+///
+/// Equal bytes have equal numbers, and two tables that differ in one of the first `t` bytes alone have different ones.
+/// Tables that differ in more of them may share a number: equal numbers do not show that the bytes are equal.
+///
+/// ```
+/// use lumzhasel::tables::check_number;
+///
+/// assert_eq!(check_number(&[3, 3, 1, 3, 2], 5)?, 32444448);
+/// assert_eq!(check_number(&[3, 3, 1, 3, 2], 0)?, 1);
+/// // Two tables that share a number.
+/// assert_eq!(check_number(&[0, 31], 2)?, check_number(&[1, 0], 2)?);
+/// # Ok::<(), lumzhasel::Error>(())
+/// ```
+///
+/// # Errors
+///
+/// [`Reason::Sizes`] where `t` is above 4,096, then [`Reason::Short`] where the table is shorter than `t`, at place 0.
+pub fn check_number(table: &[u8], t: usize) -> Result<u32, Error> {
+    check_version()?;
+    let r = raw::check_number(table, t);
+    reply(r.code, r.place, r.number)
+}
+
 /// Contracts a graph to its active entries. The new nodes are numbered from 0: those that hold an active node in
 /// order of first appearance in `active`, then the others by their smallest node. Connected pieces are numbered from
 /// 0 in order of first appearance in `active`. What is not said to be written does not change.
@@ -263,7 +288,7 @@ mod tests {
             let error = fits(archive).unwrap_err();
             assert_eq!(error, Error::Version { archive });
             assert_eq!(error.refusal(), None);
-            let words = format!("the archive has version {archive} of the calls, this package is for version 5");
+            let words = format!("the archive has version {archive} of the calls, this package is for version 6");
             assert_eq!(error.to_string(), words);
         }
     }

@@ -305,6 +305,14 @@ impl Answer {
             byte => Some(Answer::Other(byte)),
         }
     }
+
+    // The byte of an event's answer, or of an event that has none.
+    const fn to_byte(answer: Option<Answer>) -> u8 {
+        match answer {
+            Some(answer) => answer.byte(),
+            None => tables::NO_QUERY,
+        }
+    }
 }
 
 /// The result of a replay.
@@ -322,6 +330,18 @@ impl Replayed {
     pub fn queries(&self) -> impl Iterator<Item = (usize, Answer)> + '_ {
         let each = self.answers.iter().enumerate();
         each.filter_map(|(i, answer)| answer.map(|a| (i, a)))
+    }
+
+    /// The check number of the first `events` answers, by their bytes, to compare them by voice; see
+    /// [`tables::check_number`].
+    ///
+    /// # Errors
+    ///
+    /// [`Reason::Sizes`](crate::Reason::Sizes) above 4,096 events, then [`Reason::Short`](crate::Reason::Short) where
+    /// there are fewer answers.
+    pub fn check_number(&self, events: usize) -> Result<u32, Error> {
+        let bytes: Vec<u8> = self.answers.iter().map(|&answer| Answer::to_byte(answer)).collect();
+        tables::check_number(&bytes, events)
     }
 }
 
@@ -362,6 +382,7 @@ mod tests {
                 Some(answer) => assert_eq!(answer.byte(), byte),
                 None => assert_eq!(byte, tables::NO_QUERY),
             }
+            assert_eq!(Answer::to_byte(Answer::from_byte(byte)), byte);
         }
     }
 

@@ -1,5 +1,5 @@
 -- What a struct says is what the reply does that it was written from. A refusal's number is not 0, so that the code 0 is the one of accepted calls alone.
--- In order: the sizes, the contraction, the replay, of each the accepted reply and the refusal; the reader's part. Assumes nothing.
+-- In order: the sizes, the check number, the contraction, the replay, of each the accepted reply and the refusal; the reader's part. Assumes nothing.
 use Prim.Native.Nat.{ℕ}
 use mathlib.Core.Bool.{Bool, false, true}
 use mathlib.Core.List.{List}
@@ -14,6 +14,9 @@ use Rattle.call_contract.specs.declared.ContractReply.{ContractReply}
 use Rattle.call_contract.specs.declared.ContractReply.the-variants as contracts
 use Rattle.theory_graph.proofs.Booleans.{contradict, onBool}
 use Rattle.call_answers.specs.Reader.{firstOrNone}
+use Rattle.call_check_number.specs.CheckNumber.{CheckNumberOutcome, checkNumberOutcome, numberOfFirst}
+use Rattle.call_check_number.specs.declared.CheckNumberReply.{CheckNumberReply}
+use Rattle.call_check_number.specs.declared.CheckNumberReply.the-variants as numbers
 use Rattle.call_sizes.specs.Sizes.{SizesOutcome, checkSizes, sizesOutcome}
 use Rattle.call_sizes.specs.declared.Sizes.{Sizes}
 use Rattle.call_sizes.specs.declared.SizesReply.{SizesReply}
@@ -23,7 +26,7 @@ use Rattle.theory_timeline.specs.Replay as timeline
 use Rattle.theory_timeline.specs.declared.ReplayReply.{ReplayReply}
 use Rattle.theory_timeline.specs.declared.ReplayReply.the-variants as replays
 use Rattle.theory_timeline.specs.declared.Totals.{Totals}
-use Rattle.call_exports.specs.Exports.{contractedOf, replayedOf, sizesOf}
+use Rattle.call_exports.specs.Exports.{checkNumberOf, contractedOf, replayedOf, sizesOf}
 
 -- ---- the sizes
 module _ (n m t k : ℕ) {r : SizesReply} (e : sizesOutcome r ≡ checkSizes n m t k) where
@@ -38,6 +41,20 @@ module _ (n m t k : ℕ) {r : SizesReply} (e : sizesOutcome r ≡ checkSizes n m
 
       code : eqb c 0 ≡ false
       code = ap (λ (o : SizesOutcome). eqb (o .code) 0) says ∙ sym (ap (λ (o : SizesOutcome). o .accepted) says)
+
+-- ---- the check number
+module _ (table : List ℕ) (t : ℕ) {r : CheckNumberReply} (e : checkNumberOutcome r ≡ numberOfFirst table t) where
+  pub number-given : {h : ℕ} → r ≡ numbers.Number h → checkNumberOf record { code = 0; place = 0; number = h } ≡ numberOfFirst table t
+  number-given g = ap checkNumberOutcome (sym g) ∙ e
+
+  pub number-refused : {c i : ℕ} → r ≡ numbers.Refused c i → checkNumberOf record { code = c; place = i; number = 0 } ≡ numberOfFirst table t
+  number-refused {c} {i} g = ap (λ (b : Bool). record { accepted = b; code = c; place = i; number = 0 }) code ∙ says
+    where
+      says : checkNumberOutcome (numbers.Refused c i) ≡ numberOfFirst table t
+      says = ap checkNumberOutcome (sym g) ∙ e
+
+      code : eqb c 0 ≡ false
+      code = ap (λ (o : CheckNumberOutcome). eqb (o .code) 0) says ∙ sym (ap (λ (o : CheckNumberOutcome). o .accepted) says)
 
 -- ---- the contraction
 contract-code : (l : contraction.Lent) (map outFrom outTo pieces work : List ℕ) {c i : ℕ} →

@@ -6,9 +6,11 @@ use Prim.Native.Nat.{ℕ}
 use lib.Dec.{eqb}
 use denote.Ref.{RefT, now}
 use Rattle.theory_contraction.specs.Contraction as contraction
+use Rattle.call_check_number.specs.CheckNumber.{CheckNumberOutcome}
 use Rattle.call_sizes.specs.Sizes.{SizesOutcome}
 use Rattle.theory_timeline.specs.Replay as timeline
 use Rattle.theory_timeline.specs.Call as replaying
+use Rattle.call_exports.specs.declared.LumCheckNumberReply.{LumCheckNumberReply}
 use Rattle.call_exports.specs.declared.LumContractLent.{LumContractLent}
 use Rattle.call_exports.specs.declared.LumContractReply.{LumContractReply}
 use Rattle.call_exports.specs.declared.LumReplayLent.{LumReplayLent}
@@ -17,6 +19,9 @@ use Rattle.call_exports.specs.declared.LumSizesReply.{LumSizesReply}
 
 abbrev pub sizesOf : LumSizesReply → SizesOutcome
 sizesOf r = record { accepted = eqb (r .code) 0; code = r .code; place = r .place; n = r .n; m = r .m; t = r .t; k = r .k }
+
+abbrev pub checkNumberOf : LumCheckNumberReply → CheckNumberOutcome
+checkNumberOf r = record { accepted = eqb (r .code) 0; code = r .code; place = r .place; number = r .number }
 
 -- with the tables that may be written as they are afterwards
 abbrev pub contractedOf : LumContractReply → List ℕ → List ℕ → List ℕ → List ℕ → List ℕ → contraction.Outcome

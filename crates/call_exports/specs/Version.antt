@@ -1,7 +1,7 @@
 -- The version of the exported calls. It goes up by one whenever the tables or the numbers that a call takes or returns change,
 -- or what they mean, and with it LUM_VERSION in bindings/c/lumzhasel.h and VERSION in bindings/rust. Version 1 had no such call.
--- Since version 5 answers are about roads; its tables are those of version 4.
+-- Since version 5 answers are about roads; its tables are those of version 4. Version 6 has the check number more.
 use Prim.Native.Nat.{ℕ}
 
 abbrev pub version : ℕ
-version = 5
+version = 6

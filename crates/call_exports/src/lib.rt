@@ -1,5 +1,6 @@
 // The calls as C sees them: a slice is a pointer and a length, what a call is lent is a struct of numbers and slices, a reply a struct of numbers.
 // Each call hands on to the product's own and writes its reply out.
+use call_check_number::CheckNumberReply;
 use call_contract::ContractReply;
 use call_sizes::Sizes;
 use call_sizes::SizesReply;
@@ -9,10 +10,11 @@ ghost use lib.ListN.{length, take};
 ghost use Rattle.theory_contraction.specs.Contraction as contracting;
 ghost use Rattle.theory_contraction.specs.Contraction.{contraction};
 ghost use Rattle.call_answers.specs.Reader.{firstOrNone};
+ghost use Rattle.call_check_number.specs.CheckNumber.{numberOfFirst};
 ghost use Rattle.call_sizes.specs.Sizes.{checkSizes};
 ghost use Rattle.theory_timeline.specs.Call as replaying;
 ghost use Rattle.theory_timeline.specs.Replay.{replay};
-ghost use Rattle.call_exports.specs.Exports.{sizesOf, contractedOf, replayedOf, contractLent, contractLeft, replayLent, replayLeft};
+ghost use Rattle.call_exports.specs.Exports.{sizesOf, checkNumberOf, contractedOf, replayedOf, contractLent, contractLeft, replayLent, replayLeft};
 ghost use Rattle.call_exports.specs.Version.{version};
 
 // What a contraction is lent.
@@ -59,6 +61,13 @@ pub struct LumSizesReply {
 }
 
 #[repr(C)]
+pub struct LumCheckNumberReply {
+    pub code: usize,
+    pub place: usize,
+    pub number: u32,
+}
+
+#[repr(C)]
 pub struct LumContractReply {
     pub code: usize,
     pub place: usize,
@@ -81,7 +90,7 @@ pub struct LumReplayReply {
 pub extern "C" fn lum_version() -> u32
     ensures { λ r. ⌜ r ≡ version ⌝ }
 {
-    5
+    6
 }
 
 // The sizes' check.
@@ -122,6 +131,30 @@ pub extern "C" fn lum_answers(table: &[u8], t: usize) -> usize
 {
     let part = call_answers::answers(table, t);
     part.len()
+}
+
+// The check number of the table's first t bytes.
+#[no_mangle]
+pub extern "C" fn lum_check_number(table: &[u8], t: usize) -> LumCheckNumberReply
+    ensures { λ r. ⌜ checkNumberOf r ≡ numberOfFirst (now (table .entry)) t ⌝ }
+{
+    let reply = call_check_number::check_number(table, t);
+    match reply {
+        CheckNumberReply::Number(number) => {
+            return LumCheckNumberReply {
+                code: 0,
+                place: 0,
+                number: number,
+            };
+        }
+        CheckNumberReply::Refused(code, place) => {
+            return LumCheckNumberReply {
+                code: code,
+                place: place,
+                number: 0,
+            };
+        }
+    }
 }
 
 // The contraction on the fields of the struct that it is lent, in their order.

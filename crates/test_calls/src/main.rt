@@ -1,4 +1,6 @@
-// Runs the small calls: the sizes at their limits, the open set against a table of marks, the reader's call. Prints replies and counts.
+// Runs the small calls: the sizes at their limits, the open set against a table of marks, the reader's call, the check number against a fold by the
+// remainder. Prints replies and counts.
+use test_library::calls::Bytes;
 use test_library::counts;
 use test_library::print;
 use test_library::random;
@@ -46,9 +48,70 @@ fn compare(seed: usize) -> usize {
     counts::least(counts::counted(differ(held, &marks), wrong), 1)
 }
 
+// The check number of the first t bytes, or the number by which it is refused.
+fn check_number(table: &[u8], t: usize) -> usize {
+    let r = call_check_number::check_number(table, t);
+    match r {
+        call_check_number::CheckNumberReply::Number(h) => counts::word(h),
+        call_check_number::CheckNumberReply::Refused(c, _) => c,
+    }
+}
+
+// The check number of the first t bytes of a large table.
+fn number(table: &Bytes, t: usize) -> usize {
+    check_number(table, t)
+}
+
+// The same by document 02's words: it starts at 1, and each byte a turns h into 31h + a + 1, reduced modulo 4,294,967,296.
+fn fold(table: &Bytes, t: usize) -> usize {
+    let mut h: usize = 1;
+    for i in 0..t {
+        let a = counts::byte(table[i % 4104]);
+        h = (31 * (h % 4294967296) + a % 256 + 1) % 4294967296;
+    }
+    h
+}
+
+// Random bytes below `most`.
+fn fill(table: &mut Bytes, seed: usize, most: usize) {
+    for i in 0..4104 {
+        table[i] = (random::at(seed, 2, i, most) % 256) as u8;
+    }
+}
+
+// Changes one of the first t bytes.
+fn change_byte(table: &mut Bytes, seed: usize, t: usize) {
+    let i = random::at(seed, 5, 0, t) % 4104;
+    let a = counts::byte(table[i]) % 256;
+    let more = random::at(seed, 6, 0, 255) % 255 + 1;
+    table[i] = ((a + more) % 256) as u8;
+}
+
+// Of 512 random tables: how many have a check number that differs from the fold, and how many keep theirs where one byte is changed. Half of them have any
+// bytes and half have answers; t is 1 to 4,096.
+fn compare_numbers() -> [usize; 2] {
+    let mut table = [0u8; 4104];
+    let mut differing: usize = 0;
+    let mut staying: usize = 0;
+    for seed in 0..512 {
+        fill(&mut table, seed, seed % 2 * 252 + 4);
+        let t = random::at(seed, 4, 0, 4096) % 4096 + 1;
+        let before = number(&table, t);
+        differing = counts::counted(differing, before != fold(&table, t));
+        change_byte(&mut table, seed, t);
+        staying = counts::counted(staying, before == number(&table, t));
+    }
+    [differing, staying]
+}
+
 fn main() {
     let table = [2u8, 0, 1, 3];
     let differing = counts::plus(compare(1), counts::plus(compare(2), compare(3)));
+    let example = [3u8, 3, 1, 3, 2];
+    let largest = [117u8, 30, 18, 28, 23, 2];
+    let one = [0u8, 1, 2, 0, 2, 0, 0, 0, 0, 1, 0, 0, 1];
+    let other = [1u8, 0, 0, 0, 0, 0, 2, 1, 0, 0, 2, 1, 0];
+    let numbers = compare_numbers();
     let mut t = [0u32; 512];
     print::add(
         &mut t,
@@ -63,14 +126,24 @@ fn main() {
             call_answers::answers(&table, 3).len(),
             call_answers::answers(&table, 4).len(),
             call_answers::answers(&table, 5).len(),
-            0,
-            0,
+            numbers[0],
+            numbers[1],
             0,
             0,
             0,
             0,
         ],
     );
+    // Check numbers, which `add` would cut.
+    tables::put(&mut t, 12, check_number(&example, 0));
+    tables::put(&mut t, 13, check_number(&example, 1));
+    tables::put(&mut t, 14, check_number(&example, 5));
+    tables::put(&mut t, 15, check_number(&largest, 6));
+    tables::put(&mut t, 16, check_number(&one, 13));
+    tables::put(&mut t, 17, check_number(&other, 13));
+    tables::put(&mut t, 18, check_number(&example, 6));
+    tables::put(&mut t, 19, check_number(&example, 4096));
+    tables::put(&mut t, 20, check_number(&example, 4097));
     print::report(
         b"\
 4096 junctions refused by #\n\
@@ -83,6 +156,17 @@ open sets that differ from a table: #\n\
 first 3 of 4 answers: #\n\
 first 4 of 4 answers: #\n\
 first 5 of 4 answers: #\n\
+check numbers that differ from a fold: #\n\
+check numbers that stay where one byte changes: #\n\
+check number of no bytes: #\n\
+of one byte, 3: #\n\
+of the example's five: #\n\
+of six bytes that have the largest: #\n\
+of thirteen answers: #\n\
+of thirteen other answers: #\n\
+first 6 of 5 bytes refused by #\n\
+first 4096 of 5 bytes refused by #\n\
+first 4097 of 5 bytes refused by #\n\
 ",
         &t,
     );
