@@ -1,7 +1,7 @@
-//! The plain Rust replay and contraction, and the searches, against slow versions written from the definitions, and against vectors.
+//! The plain Rust replay, contraction and check number, and the searches, against slow versions written from the definitions, and against vectors.
 
 use bench::random::Random;
-use bench::{contraction, lists, replay, roads, search, Refusal, CLOSES, OPENS};
+use bench::{check_number, contraction, lists, replay, roads, search, Refusal, CLOSES, OPENS};
 use std::fmt::Debug;
 use std::str::FromStr;
 
@@ -510,4 +510,21 @@ fn replay_vectors() {
         count += 1;
     }
     assert_eq!(count, 107);
+}
+
+#[test]
+fn check_numbers() {
+    let mut random = Random::new(4);
+    for _ in 0..2000 {
+        let long = random.below(40);
+        let table: Vec<u8> = (0..long).map(|_| random.below(256) as u8).collect();
+        let t = random.below(long + 1);
+        let number = table[..t]
+            .iter()
+            .fold(1, |h: u64, &a| (31 * h + u64::from(a) + 1) % 4294967296);
+        let call = check_number::check_number;
+        assert_eq!(call(&table, t).map(u64::from), Ok(number));
+        assert_eq!(call(&table, long + 1), Err(Refusal::new(2, 0)));
+        assert_eq!(call(&table, 4097), Err(Refusal::new(1, 0)));
+    }
 }

@@ -8,7 +8,9 @@ use lumzhasel::{Answer, Error, List, Network, Reason};
 
 /// By document 02's words: it starts at 1, and each byte a turns h into 31h + a + 1, reduced modulo 4,294,967,296.
 fn fold(bytes: &[u8]) -> u32 {
-    let number = bytes.iter().fold(1, |h: u64, &a| (31 * h + u64::from(a) + 1) % 4_294_967_296);
+    let number = bytes
+        .iter()
+        .fold(1, |h: u64, &a| (31 * h + u64::from(a) + 1) % 4_294_967_296);
     number as u32
 }
 

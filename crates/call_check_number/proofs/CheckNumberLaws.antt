@@ -1,20 +1,19 @@
--- Laws of the check number. For the user: equal first bytes have equal outcomes, and bytes that differ in one place have different numbers. For the code: a
--- step of sums and a difference that wrap is the remainder formula; the bytes that are left turn h into the number of all.
+-- Laws of the check number. For the code: a step of sums and a difference that wrap is the remainder formula; the bytes that are left turn h into the number
+-- of all; the reply. For the user: equal first bytes have equal outcomes, bytes that differ in one place have different numbers, and where the numbers part
+-- a byte differs.
 -- Assumes nothing.
-use Prim.Native.Nat.{_%_, _*_, _+_, _-_, _/_, _<_, _≤_, min, ℕ}
-use mathlib.Core.Bool.{Bool, cond}
+use Prim.Native.Nat.{_%_, _*_, _+_, _-_, _/_, _<_, _≤_, ℕ}
 use mathlib.Core.List.{List, [], _++_, _∷_, foldl, foldl-append}
 use mathlib.Core.Path.{_∙_, _≡_, ap, refl, sym}
-use lib.Dec.{eqb, ltb}
+use lib.Dec.{ltb}
 use lib.ListN.{drop, getD, length, length-take, take}
-use lib.Seq.{drop-cons, drop-length, take-suc}
+use lib.Seq.{drop-cons, drop-length, take-suc, take-take}
 use native.Mathlib.Numerals.{add-one}
 use native.Mathlib.Omega.{arith}
 use borrow.Author.Tests.{le-ltb, lt-ltb, ltb-false, ltb-true}
 use Rattle.theory_graph.proofs.Booleans.{onBool}
-use Rattle.call_sizes.specs.Refusal.{Refusal}
-use Rattle.call_sizes.specs.Sizes.{ifAccepted}
-use Rattle.call_check_number.specs.CheckNumber.{CheckNumberOutcome, checkNumber, numberOfFirst, withByte}
+use Rattle.call_check_number.specs.CheckNumber.{checkNumber, checkNumberOutcome, numberOfFirst, withByte}
+use Rattle.call_check_number.specs.declared.CheckNumberReply.the-variants.{Number}
 
 -- ---- sums and differences that wrap at 2 ^ 32, one at a time: x stands for z, and y for what the step makes of z
 wrap-double : (z : ℕ) {x y : ℕ} → x ≡ z % 4294967296 → y ≡ (x + x) % 4294967296 → y ≡ (2 * z) % 4294967296
@@ -52,21 +51,23 @@ left-more h bytes i l = rw (add-one, drop-cons bytes i 0 l) refl
 pub left-none : (h : ℕ) (bytes : List ℕ) (i : ℕ) → i ≡ length bytes → foldl withByte h (drop i bytes) ≡ h
 left-none h bytes i e = rw (e, drop-length bytes) refl
 
+-- ---- the call's reply where nothing is refused
+pub number-accepted : (table : List ℕ) (t : ℕ) {h : ℕ} → t ≤ 4096 → t ≤ length table → h ≡ checkNumber (take t table) → checkNumberOutcome (Number h) ≡ numberOfFirst table t
+number-accepted table t l m e = simp (le-ltb 4096 t l, le-ltb (length table) t m, e)
+
 -- ---- for the user: equal bytes
 -- two tables with the same first t bytes have the same outcome, number and refusal alike
 pub same-bytes : (t : ℕ) (xs ys : List ℕ) → take t xs ≡ take t ys → numberOfFirst xs t ≡ numberOfFirst ys t
-same-bytes t xs ys e = ap (λ (b : Bool). of b (take t xs)) (short xs ∙ ap (λ (bs : List ℕ). ltb (length bs) t) e ∙ sym (short ys)) ∙ ap (of (ltb (length ys) t)) e
+same-bytes t xs ys e = first xs ∙ ap (λ (bytes : List ℕ). numberOfFirst bytes t) e ∙ sym (first ys)
   where
-    of : Bool → List ℕ → CheckNumberOutcome
-    of b bytes =
-        let f : Refusal = cond (ltb 4096 t) (1, 0) (cond b (2, 0) (0, 0)) in
-        record { accepted = eqb (f .0) 0; code = f .0; place = f .1; number = ifAccepted f (checkNumber bytes) }
-
     -- a table is too short just where its first t bytes are
-    short : (xs : List ℕ) → ltb (length xs) t ≡ ltb (length (take t xs)) t
-    short xs = onBool (ltb (length xs) t)
-        (λ q. let l = ltb-true (length xs) t q in q ∙ sym (lt-ltb (length (take t xs)) t (rw (length-take t xs) (omega arith))))
-        (λ q. let l = ltb-false (length xs) t q in q ∙ sym (le-ltb (length (take t xs)) t (rw (length-take t xs) (omega arith))))
+    short : (table : List ℕ) → ltb (length table) t ≡ ltb (length (take t table)) t
+    short table = onBool (ltb (length table) t)
+        (λ q. let l = ltb-true (length table) t q in q ∙ sym (lt-ltb (length (take t table)) t (rw (length-take t table) (omega arith))))
+        (λ q. let l = ltb-false (length table) t q in q ∙ sym (le-ltb (length (take t table)) t (rw (length-take t table) (omega arith))))
+
+    first : (table : List ℕ) → numberOfFirst table t ≡ numberOfFirst (take t table) t
+    first table = simp (short table, take-take t t table (omega arith))
 
 -- ---- for the user: bytes that differ
 -- 31 has an inverse modulo 2 ^ 32, so a byte keeps different numbers apart

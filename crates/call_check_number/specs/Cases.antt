@@ -2,8 +2,7 @@
 -- proofs/Cases proves every row.
 -- Assumes nothing: these are definitions.
 use Prim.Native.Nat.{ℕ}
-use mathlib.Core.Bool.{false, true}
-use mathlib.Core.List.{List, [], _++_, _∷_, map}
+use mathlib.Core.List.{List, [], _++_, _∷_}
 use lib.ListN.{replicate}
 use Rattle.call_check_number.specs.CheckNumber.{CheckNumberOutcome, checkNumberOutcome, numberOfFirst}
 use Rattle.call_check_number.specs.declared.CheckNumberReply.the-variants.{Number, Refused}

@@ -2,8 +2,8 @@
 -- Assumes nothing.
 use Prim.Native.Nat.{_-_, _≤_}
 use mathlib.Core.List.{foldl}
-use mathlib.Core.Path.{_∙_, _≡_, ap, sym}
-use lib.ListN.{drop, getD, length}
+use mathlib.Core.Path.{_∙_, _≡_, sym}
+use lib.ListN.{drop, length}
 use native.Mathlib.Omega.{arith}
 use borrow.Author.Needs.{needs}
 use Rattle.call_check_number.proofs.CheckNumberLaws.{left-more, left-none, left-start}
