@@ -2,21 +2,19 @@
  * Lumzhasel from C and C++: the replay of a road network, the contraction, the
  * check of sizes, the reader's call and the check number of answers. Each call is
  * proved, for all inputs, to return and to leave in the lent tables exactly what the
- * definitions say
- * (crates/call_exports/src/lib.rt). Link target/staticlib/libcall_exports.a, which
- * `rt staticlib call_exports` writes; it is for x86-64 Linux and needs only memcpy and
- * memset of the C library.
+ * definitions say (crates/call_exports/src/lib.rt). Link
+ * target/staticlib/libcall_exports.a, which `rt staticlib call_exports` writes; it is for
+ * x86-64 Linux and needs only memcpy and memset of the C library.
  *
  * VERSIONS. What a call is lent gains fields, and replies gain numbers, from one version
  * to the next; their names stay. Version 5 has the tables of version 4, but its answers
- * are about roads (lum_replay), where those before were about segments; version 6 has
- * lum_check_number more. A program that
- * was built with the header of one version and linked with the archive of another would
- * hand over its tables in the wrong places, and nothing else would notice. So compare
- * lum_version() with LUM_VERSION before the first other call, and make none where they
- * differ. lum_version takes nothing and returns one number in every version. Set the
- * fields of a struct by their names, all of them. A code above those below is a refusal
- * too, by a reason that a later version names.
+ * are about roads (lum_replay), where those before were about segments; version 6 has one
+ * call more, lum_check_number. A program that was built with the header of one version and
+ * linked with the archive of another would hand over its tables in the wrong places, and
+ * nothing else would notice. So compare lum_version() with LUM_VERSION before the first
+ * other call, and make none where they differ. lum_version takes nothing and returns one
+ * number in every version. Set the fields of a struct by their names, all of them. A code
+ * above those below is a refusal too, by a reason that a later version names.
  *
  * WHAT THE CALLER OWES. The proofs begin where these hold, and no call can check them:
  *  - Each pointer points to at least as many entries as the length after it says,

@@ -30,7 +30,7 @@ pub step-wraps : (h a : ℕ) {h2 h4 h8 h16 h32 h31 r : ℕ} → h < 4294967296 �
     → h16 ≡ (h8 + h8) % 4294967296 → h32 ≡ (h16 + h16) % 4294967296 → (h31 + h) % 4294967296 ≡ h32 → h31 < 4294967296 → r ≡ (h31 + (a + 1)) % 4294967296
     → r ≡ withByte h a
 unfolding withByte
-step-wraps h a f p2 p4 p8 p16 p32 p31 b p =
+step-wraps h a {r = r} f p2 p4 p8 p16 p32 p31 b p =
     let q = wrap-more _ _ (wrap-less _ h (wrap-double _ (wrap-double _ (wrap-double _ (wrap-double _ (wrap-double h (same h f) p2) p4) p8) p16) p32) p31 b (omega arith)) p in
     rw (sums h a) at q
   where
@@ -51,9 +51,10 @@ left-more h bytes i l = rw (add-one, drop-cons bytes i 0 l) refl
 pub left-none : (h : ℕ) (bytes : List ℕ) (i : ℕ) → i ≡ length bytes → foldl withByte h (drop i bytes) ≡ h
 left-none h bytes i e = rw (e, drop-length bytes) refl
 
--- ---- the call's reply where nothing is refused
-pub number-accepted : (table : List ℕ) (t : ℕ) {h : ℕ} → t ≤ 4096 → t ≤ length table → h ≡ checkNumber (take t table) → checkNumberOutcome (Number h) ≡ numberOfFirst table t
-number-accepted table t l m e = simp (le-ltb 4096 t l, le-ltb (length table) t m, e)
+-- ---- the call's reply where nothing is refused, by the part of the table that was folded
+pub number-accepted : (table : List ℕ) (t : ℕ) {h : ℕ} {part : List ℕ} → t ≤ 4096 → t ≤ length table → h ≡ checkNumber part → part ≡ take t table
+    → checkNumberOutcome (Number h) ≡ numberOfFirst table t
+number-accepted table t l m e f = simp (le-ltb 4096 t l, le-ltb (length table) t m, e, f)
 
 -- ---- for the user: equal bytes
 -- two tables with the same first t bytes have the same outcome, number and refusal alike

@@ -1,6 +1,6 @@
 -- `check_number` meets its contract: what each test left is what the definition names, and the part that is lent on is the first t bytes.
 -- Assumes nothing.
-use mathlib.Core.Path.{sym}
+use mathlib.Core.Path.{refl, sym}
 use lib.Seq.{length-take-le}
 use borrow.Author.Needs.{needs}
 use borrow.Author.Tests.{le-ltb, lt-ltb}
@@ -18,7 +18,7 @@ returns-3 : tie.Need-returns-3
 returns-3 c =
     let at-if2 = c .before .before in
     let args = at-if2 .before .before .before .args in
-    number-accepted (args .table .now) (args .t) (at-if2 .before .if1 .left) (at-if2 .if2 .left) (c .number-of .ensures)
+    number-accepted (args .table .now) (args .t) (at-if2 .before .if1 .left) (at-if2 .if2 .left) (c .number-of .ensures) refl
 
 pub check-number-spec : {M : Type 1} → statement M
 check-number-spec = tie.close (tie.spec returns returns-2 (λ c. sym (length-take-le _ _ (c .before .if2 .left))) (λ c κs. search needs) returns-3)
