@@ -57,12 +57,12 @@ fn check_number(table: &[u8], t: usize) -> usize {
     }
 }
 
-// The check number of the first t bytes of a large table.
+// The same of a large table. Here its length is known by its type; within the loop below it is not.
 fn number(table: &Bytes, t: usize) -> usize {
     check_number(table, t)
 }
 
-// The same by document 02's words: it starts at 1, and each byte a turns h into 31h + a + 1, reduced modulo 4,294,967,296.
+// The check number by document 02's words: it starts at 1, and each byte a turns h into 31h + a + 1, reduced modulo 4,294,967,296.
 fn fold(table: &Bytes, t: usize) -> usize {
     let mut h: usize = 1;
     for i in 0..t {
