@@ -1,13 +1,12 @@
--- Laws of the check number. For the code: a step of sums and a difference that wrap is the remainder formula; the bytes that are left turn h into the number
--- of all; the reply. For the user: equal first bytes have equal outcomes, bytes that differ in one place have different numbers, and where the numbers part
+-- Laws of the check number. For the code: a step of sums and a difference that wrap is the remainder formula; no byte and one more; the reply. For the user: equal first bytes have equal outcomes, bytes that differ in one place have different numbers, and where the numbers part
 -- a byte differs.
 -- Assumes nothing.
 use Prim.Native.Nat.{_%_, _*_, _+_, _-_, _/_, _<_, _≤_, ℕ}
 use mathlib.Core.List.{List, [], _++_, _∷_, foldl, foldl-append}
 use mathlib.Core.Path.{_∙_, _≡_, ap, refl, sym}
 use lib.Dec.{ltb}
-use lib.ListN.{drop, getD, length, length-take, take}
-use lib.Seq.{drop-cons, drop-length, take-suc, take-take}
+use lib.ListN.{getD, length, length-take, take}
+use lib.Seq.{take-suc, take-take}
 use native.Mathlib.Numerals.{add-one}
 use native.Mathlib.Omega.{arith}
 use borrow.Author.Tests.{le-ltb, lt-ltb, ltb-false, ltb-true}
@@ -40,16 +39,14 @@ step-wraps h a {r = r} f p2 p4 p8 p16 p32 p31 b p =
     sums : (h a : ℕ) → 2 * (2 * (2 * (2 * (2 * h)))) - h + (a + 1) ≡ 31 * h + a + 1
     sums h a = omega arith
 
--- ---- the loop: the bytes that are left
-pub left-start : (bytes : List ℕ) → foldl withByte 1 (drop 0 bytes) ≡ checkNumber bytes
+-- ---- byte by byte
+pub check-none : (table : List ℕ) → 1 ≡ checkNumber (take 0 table)
 unfolding checkNumber
-left-start bytes = refl
+check-none table = refl
 
-pub left-more : (h : ℕ) (bytes : List ℕ) (i : ℕ) → i < length bytes → foldl withByte h (drop i bytes) ≡ foldl withByte (withByte h (getD bytes i 0)) (drop (i + 1) bytes)
-left-more h bytes i l = rw (add-one, drop-cons bytes i 0 l) refl
-
-pub left-none : (h : ℕ) (bytes : List ℕ) (i : ℕ) → i ≡ length bytes → foldl withByte h (drop i bytes) ≡ h
-left-none h bytes i e = rw (e, drop-length bytes) refl
+pub check-more : (table : List ℕ) (t : ℕ) → t < length table → checkNumber (take (t + 1) table) ≡ withByte (checkNumber (take t table)) (getD table t 0)
+unfolding checkNumber
+check-more table t l = rw add-one (ap checkNumber (take-suc table t 0 l) ∙ foldl-append withByte 1 (take t table) (getD table t 0 ∷ []))
 
 -- ---- the call's reply where nothing is refused, by the part of the table that was folded
 pub number-accepted : (table : List ℕ) (t : ℕ) {h : ℕ} {part : List ℕ} → t ≤ 4096 → t ≤ length table → h ≡ checkNumber part → part ≡ take t table
@@ -106,11 +103,6 @@ one-differs before after a b l m n e = n (byte-tells h a b l m (follow-tells aft
 
     after-h : foldl withByte h (a ∷ after) ≡ foldl withByte h (b ∷ after)
     after-h = sym (foldl-append withByte 1 before (a ∷ after)) ∙ e ∙ foldl-append withByte 1 before (b ∷ after)
-
--- one more byte
-check-more : (table : List ℕ) (t : ℕ) → t < length table → checkNumber (take (t + 1) table) ≡ withByte (checkNumber (take t table)) (getD table t 0)
-unfolding checkNumber
-check-more table t l = rw add-one (ap checkNumber (take-suc table t 0 l) ∙ foldl-append withByte 1 (take t table) (getD table t 0 ∷ []))
 
 -- where the numbers of the first t bytes agree and those of the first t + 1 do not, byte t differs
 pub differs-there : (t : ℕ) (xs ys : List ℕ) → t < length xs → t < length ys → checkNumber (take t xs) ≡ checkNumber (take t ys)

@@ -28,7 +28,7 @@ fn number_of(bytes: &[u8]) -> u32
 {
     let mut h: u32 = 1;
     let mut i: usize = 0;
-    // The bytes from i on turn h into the number of all.
+    // h is the check number of the first i bytes.
     while i < bytes.len() {
         h = with_byte(h, bytes[i]);
         i += 1;

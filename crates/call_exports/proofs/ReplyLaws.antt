@@ -1,7 +1,7 @@
 -- What a struct says is what the reply does that it was written from. A refusal's number is not 0, so that the code 0 is the one of accepted calls alone.
 -- In order: the sizes, the check number, the contraction, the replay, of each the accepted reply and the refusal; the reader's part. Assumes nothing.
 use Prim.Native.Nat.{ℕ}
-use mathlib.Core.Bool.{Bool, false, true}
+use mathlib.Core.Bool.{Bool, false}
 use mathlib.Core.List.{List}
 use mathlib.Core.Path.{_∙_, _≡_, ap, refl, sym}
 use lib.Dec.{eqb, leb}
@@ -12,7 +12,7 @@ use Rattle.theory_contraction.specs.Contraction as contraction
 use Rattle.call_contract.specs.Reply as contracting
 use Rattle.call_contract.specs.declared.ContractReply.{ContractReply}
 use Rattle.call_contract.specs.declared.ContractReply.the-variants as contracts
-use Rattle.theory_graph.proofs.Booleans.{contradict, onBool}
+use Rattle.theory_graph.proofs.Booleans.{onBool}
 use Rattle.call_answers.specs.Reader.{firstOrNone}
 use Rattle.call_check_number.specs.CheckNumber.{CheckNumberOutcome, checkNumberOutcome, numberOfFirst}
 use Rattle.call_check_number.specs.declared.CheckNumberReply.{CheckNumberReply}
@@ -28,6 +28,10 @@ use Rattle.theory_timeline.specs.declared.ReplayReply.the-variants as replays
 use Rattle.theory_timeline.specs.declared.Totals.{Totals}
 use Rattle.call_exports.specs.Exports.{checkNumberOf, contractedOf, replayedOf, sizesOf}
 
+-- a refusal's number is not 0, as the outcome that it must have is accepted just where its number is 0
+refusal-code : {O : Type 0} (accepted : O → Bool) (code : O → ℕ) {given wanted : O} → given ≡ wanted → accepted wanted ≡ eqb (code wanted) 0 → eqb (code given) 0 ≡ accepted given
+refusal-code accepted code e told = ap (λ o. eqb (code o) 0) e ∙ sym told ∙ sym (ap accepted e)
+
 -- ---- the sizes
 module _ (n m t k : ℕ) {r : SizesReply} (e : sizesOutcome r ≡ checkSizes n m t k) where
   pub sizes-within : {s : Sizes} → r ≡ checks.Within s → sizesOf record { code = 0; place = 0; n = s .n; m = s .m; t = s .t; k = s .k } ≡ checkSizes n m t k
@@ -40,7 +44,7 @@ module _ (n m t k : ℕ) {r : SizesReply} (e : sizesOutcome r ≡ checkSizes n m
       says = ap sizesOutcome (sym g) ∙ e
 
       code : eqb c 0 ≡ false
-      code = ap (λ (o : SizesOutcome). eqb (o .code) 0) says ∙ sym (ap (λ (o : SizesOutcome). o .accepted) says)
+      code = refusal-code (λ (o : SizesOutcome). o .accepted) (λ (o : SizesOutcome). o .code) says refl
 
 -- ---- the check number
 module _ (table : List ℕ) (t : ℕ) {r : CheckNumberReply} (e : checkNumberOutcome r ≡ numberOfFirst table t) where
@@ -54,15 +58,13 @@ module _ (table : List ℕ) (t : ℕ) {r : CheckNumberReply} (e : checkNumberOut
       says = ap checkNumberOutcome (sym g) ∙ e
 
       code : eqb c 0 ≡ false
-      code = ap (λ (o : CheckNumberOutcome). eqb (o .code) 0) says ∙ sym (ap (λ (o : CheckNumberOutcome). o .accepted) says)
+      code = refusal-code (λ (o : CheckNumberOutcome). o .accepted) (λ (o : CheckNumberOutcome). o .code) says refl
 
 -- ---- the contraction
-contract-code : (l : contraction.Lent) (map outFrom outTo pieces work : List ℕ) {c i : ℕ} →
-    contracting.outcome (contracts.Refused c i) map outFrom outTo pieces work ≡ contraction.contraction l → eqb c 0 ≡ false
+-- its outcome is accepted just where the number is 0
+contract-told : (l : contraction.Lent) → contraction.contraction l .accepted ≡ eqb (contraction.contraction l .code) 0
 unfolding contraction.contraction contraction.done contraction.refused
-contract-code l map outFrom outTo pieces work e = onBool (eqb (contraction.fault l .0) 0)
-    (λ h. contradict {b = true} refl (rw (contraction.contraction, h) at (sym (ap (λ (o : contraction.Outcome). o .accepted) e))))
-    (λ h. ap (λ (x : ℕ). eqb x 0) (rw (contraction.contraction, h) at (ap (λ (o : contraction.Outcome). o .code) e)) ∙ h)
+contract-told l = onBool (eqb (contraction.fault l .0) 0) (λ h. rw (contraction.contraction, h) refl) (λ h. rw (contraction.contraction, h) (sym h))
 
 module _ (l : contraction.Lent) (map outFrom outTo pieces work : List ℕ) {r : ContractReply}
     (e : contracting.outcome r map outFrom outTo pieces work ≡ contraction.contraction l) where
@@ -76,14 +78,13 @@ module _ (l : contraction.Lent) (map outFrom outTo pieces work : List ℕ) {r : 
       let says : contracting.outcome (contracts.Refused c i) map outFrom outTo pieces work ≡ contraction.contraction l =
       ap (λ (r : ContractReply). contracting.outcome r map outFrom outTo pieces work) (sym g) ∙ e in
       ap (λ (b : Bool). record { accepted = b; code = c; place = i; nodes = 0; edges = 0; map = map; outFrom = outFrom; outTo = outTo; pieces = pieces; work = work })
-      (contract-code l map outFrom outTo pieces work says) ∙ says
+      (refusal-code (λ (o : contraction.Outcome). o .accepted) (λ (o : contraction.Outcome). o .code) says (contract-told l)) ∙ says
 
 -- ---- the replay
-replay-code : (l : timeline.Lent) (p : ℕ) (answers work : List ℕ) {c i : ℕ} → replaying.outcome (replays.Refused c i) answers work ≡ timeline.replay l p → eqb c 0 ≡ false
+-- likewise
+replay-told : (l : timeline.Lent) (p : ℕ) → timeline.replay l p .accepted ≡ eqb (timeline.replay l p .code) 0
 unfolding timeline.replay timeline.done timeline.refused
-replay-code l p answers work e = onBool (eqb (timeline.fault l p .0) 0)
-    (λ h. contradict {b = true} refl (rw (timeline.replay, h) at (sym (ap (λ (o : timeline.Outcome). o .accepted) e))))
-    (λ h. ap (λ (x : ℕ). eqb x 0) (rw (timeline.replay, h) at (ap (λ (o : timeline.Outcome). o .code) e)) ∙ h)
+replay-told l p = onBool (eqb (timeline.fault l p .0) 0) (λ h. rw (timeline.replay, h) refl) (λ h. rw (timeline.replay, h) (sym h))
 
 module _ (l : timeline.Lent) (p : ℕ) (answers work : List ℕ) {r : ReplayReply} (e : replaying.outcome r answers work ≡ timeline.replay l p) where
   pub replay-done : {s : Totals} → r ≡ replays.Done s →
@@ -96,7 +97,7 @@ module _ (l : timeline.Lent) (p : ℕ) (answers work : List ℕ) {r : ReplayRepl
       let says : replaying.outcome (replays.Refused c i) answers work ≡ timeline.replay l p =
       ap (λ (r : ReplayReply). replaying.outcome r answers work) (sym g) ∙ e in
       ap (λ (b : Bool). record { accepted = b; code = c; place = i; queries = 0; opened = 0; kept = 0; answers = answers; work = work })
-      (replay-code l p answers work says) ∙ says
+      (refusal-code (λ (o : timeline.Outcome). o .accepted) (λ (o : timeline.Outcome). o .code) says (replay-told l p)) ∙ says
 
 -- ---- the reader's part is as many bytes from the table's start as it is long
 pub part-first : (table : List ℕ) (t : ℕ) → take (length (firstOrNone table t)) table ≡ firstOrNone table t

@@ -381,7 +381,11 @@ module _ {n : ℕ} {a b start x y w : List ℕ} (c : CanWriteEvents n a b start 
   event-is i l = pairs-at x y i l (omega (arith, c .events))
 
   pub roads-need : RoadTables n a b start
-  roads-need = record { much = omega (arith, c .sound .segments-few, segments-are); b-long = c .segments; start-long = c .start-long; ends = ends-low n a b (c .segments) (c .sound .ends) }
+  roads-need =
+      record {
+        segments = record { much = omega (arith, c .sound .segments-few, segments-are); b-long = c .segments; ends = ends-low n a b (c .segments) (c .sound .ends) };
+        start-long = c .start-long;
+      }
 
   abbrev J : List ℕ
   J = junctionsBy n (pairs a b) (pairs x y)

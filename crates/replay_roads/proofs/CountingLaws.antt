@@ -134,7 +134,7 @@ module _ {n q : ℕ} {a b start w w₁ w₂ : List ℕ} (k : RoadTables n a b st
   count-start =
       let e = k .start-long in
       record {
-        much = omega (arith, k .much);
+        much = omega (arith, k .segments .much);
         most = omega arith;
         room = omega (arith, g .long, f .long);
         fits = λ s l. omega (arith, names-stay s (omega arith), road-most (pairs a b) s);
@@ -145,7 +145,7 @@ module _ {n q : ℕ} {a b start w w₁ w₂ : List ℕ} (k : RoadTables n a b st
 
   -- there are as many segments as entries
   segments-long : length start ≡ length (pairs a b)
-  segments-long = k .start-long ∙ sym (pairs-equal a b (k .b-long))
+  segments-long = k .start-long ∙ sym (pairs-equal a b (k .segments .b-long))
 
   pub roads-counted : {z : List ℕ} → Counting start q w₂ z (length start) → RoadsCounted a b start q w z
   unfolding countOpen openSegments

@@ -12,15 +12,14 @@ use Rattle.theory_timeline.specs.Events.{SegmentSet}
 use Rattle.theory_timeline.specs.Roads.{road}
 use Rattle.theory_timeline.specs.Tags.{openSegments}
 use Rattle.theory_timeline.specs.Windows.{atStart}
+use Rattle.replay_roads.specs.Naming.{SegmentTables}
 use Rattle.replay_roads.specs.Runs.{run}
 
 -- ---- the whole
 -- the segments of two tables with ends below n, and the starting table
 pub record RoadTables (n : ℕ) (a b start : List ℕ) : Type 0 where
-  pub much : length a ≤ 8192
-  pub b-long : length b ≡ length a
+  pub segments : SegmentTables n a b
   pub start-long : length start ≡ length a
-  pub ends : (s : ℕ) → s < length a → (getD a s 0 < n) × (getD b s 0 < n)
 
 -- from place q on: the name of each segment's road, and behind these names, by the name of a road, how many of its segments are open at the start
 pub record RoadsCounted (a b start : List ℕ) (q : ℕ) (w z : List ℕ) : Type 0 where

@@ -48,12 +48,23 @@ fn compare(seed: usize) -> usize {
     counts::least(counts::counted(differ(held, &marks), wrong), 1)
 }
 
-// The check number of the first t bytes, or the number by which it is refused.
+// The check number of the first t bytes, or 0.
 fn check_number(table: &[u8], t: usize) -> usize {
     let r = call_check_number::check_number(table, t);
     match r {
         call_check_number::CheckNumberReply::Number(h) => counts::word(h),
-        call_check_number::CheckNumberReply::Refused(c, _) => c,
+        call_check_number::CheckNumberReply::Refused(_, _) => 0,
+    }
+}
+
+// The number by which it is refused, 0 where it is accepted; with 100 more for each place, which must be 0.
+fn number_code(table: &[u8], t: usize) -> usize {
+    let r = call_check_number::check_number(table, t);
+    match r {
+        call_check_number::CheckNumberReply::Number(_) => 0,
+        call_check_number::CheckNumberReply::Refused(c, place) => {
+            counts::plus(c, place % 1000 * 100)
+        }
     }
 }
 
@@ -141,9 +152,9 @@ fn main() {
     tables::put(&mut t, 15, check_number(&largest, 6));
     tables::put(&mut t, 16, check_number(&one, 13));
     tables::put(&mut t, 17, check_number(&other, 13));
-    tables::put(&mut t, 18, check_number(&example, 6));
-    tables::put(&mut t, 19, check_number(&example, 4096));
-    tables::put(&mut t, 20, check_number(&example, 4097));
+    tables::put(&mut t, 18, number_code(&example, 6));
+    tables::put(&mut t, 19, number_code(&example, 4096));
+    tables::put(&mut t, 20, number_code(&example, 4097));
     print::report(
         b"\
 4096 junctions refused by #\n\
