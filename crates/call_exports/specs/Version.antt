@@ -1,6 +1,6 @@
--- The version of the exported calls. It goes up by one whenever the tables or the numbers that a call takes or returns change,
+-- The version of the exported calls. It goes up by one whenever a call is added, or the tables or the numbers that one takes or returns change,
 -- or what they mean, and with it LUM_VERSION in bindings/c/lumzhasel.h and VERSION in bindings/rust. Version 1 had no such call.
--- Since version 5 answers are about roads; its tables are those of version 4. Version 6 has the check number more.
+-- Since version 5 answers are about roads; its tables are those of version 4. Since version 6 there is the check number.
 use Prim.Native.Nat.{ℕ}
 
 abbrev pub version : ℕ
