@@ -14,7 +14,7 @@ use Rattle.core_words.specs.Fields.{EDGE, ORDER, PARENT, POSITION, TO, TOP, hal
 pub record CanMergeComponents (n m seen : ℕ) (w : List ℕ) : Type 0 where
   pub few : n ≤ 65536
   pub much : m ≤ 65536
-  pub room : 16 * n + 4 * m ≤ length w
+  pub room : 16 * n + 6 * m ≤ length w
   pub forest : ForestAt n m w
   pub less : seen ≤ n
   pub place : (i : ℕ) → i < seen → (node ORDER w i < n) × (node POSITION w (node ORDER w i) ≡ i + 1)

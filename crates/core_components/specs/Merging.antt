@@ -20,7 +20,7 @@ pub record NonTreeEdge (to pos te : ℕ → ℕ) (e : ℕ) : Type 0 where
 pub record CanMergeEdge (n m e : ℕ) (w : List ℕ) : Type 0 where
   pub few : n ≤ 65536
   pub less : e < m
-  pub room : 16 * n + 4 * m ≤ length w
+  pub room : 16 * n + 6 * m ≤ length w
   pub forest : ForestAt n m w
   pub tops : Tops n (node POSITION w) (node TOP w)
   pub full : (D : NodeSet) → FollowsParents n (node PARENT w) (node TOP w) D → Stable n (node TOP w) D
@@ -43,7 +43,7 @@ pub record EdgesMerged (n m : ℕ) (w₀ : List ℕ) (i : ℕ) (w : List ℕ) : 
 pub record CanMerge (n m : ℕ) (w : List ℕ) : Type 0 where
   pub few : n ≤ 65536
   pub much : m ≤ 65536
-  pub room : 16 * n + 4 * m ≤ length w
+  pub room : 16 * n + 6 * m ≤ length w
   pub forest : ForestAt n m w
   pub self : (u : ℕ) → u < n → node TOP w u ≡ u
 

@@ -7,7 +7,7 @@ use mathlib.Core.List.{List}
 use mathlib.Core.Path.{_≡_}
 use lib.Dec.{eqb}
 use lib.ListN.{length}
-use Rattle.core_words.specs.Fields.{HEAD, NEXT, TO, half, node}
+use Rattle.core_words.specs.Fields.{HEAD, NAME, NEXT, TO, half, node}
 
 -- the other half-edge of an edge, and the node that a half-edge leaves
 unfoldable pub twin : ℕ → ℕ
@@ -26,7 +26,7 @@ pub record LastFrom (out : ℕ → ℕ) (v k c : ℕ) : Type 0 where
 pub record AdjacencyLists (n m : ℕ) (w : List ℕ) : Type 0 where
   pub few : n ≤ 65536
   pub much : m ≤ 32768
-  pub room : 16 * n + 4 * m ≤ length w
+  pub room : 16 * n + 6 * m ≤ length w
   pub ends : (h : ℕ) → h < 2 * m → half n TO w h < n
   pub heads : (v : ℕ) → v < n → LastFrom (origin (half n TO w)) v (2 * m) (node HEAD w v)
   pub nexts : (h : ℕ) → h < 2 * m → LastFrom (origin (half n TO w)) (origin (half n TO w) h) h (half n NEXT w h)
@@ -39,7 +39,7 @@ pub record Links (n i : ℕ) (to head next : ℕ → ℕ) : Type 0 where
 pub record CanLink (n m : ℕ) (w : List ℕ) : Type 0 where
   pub few : n ≤ 65536
   pub much : m ≤ 32768
-  pub room : 16 * n + 4 * m ≤ length w
+  pub room : 16 * n + 6 * m ≤ length w
   pub ends : (h : ℕ) → h < 2 * m → half n TO w h < n
   pub empty : (v : ℕ) → v < n → node HEAD w v ≡ 0
 
@@ -47,10 +47,11 @@ pub record CanLink (n m : ℕ) (w : List ℕ) : Type 0 where
 pub record Linking (n m : ℕ) (a w : List ℕ) (i : ℕ) : Type 0 where
   pub few : n ≤ 65536
   pub much : m ≤ 32768
-  pub room : 16 * n + 4 * m ≤ length w
+  pub room : 16 * n + 6 * m ≤ length w
   pub ends : (h : ℕ) → h < 2 * m → half n TO w h < n
   pub links : Links n i (half n TO w) (node HEAD w) (half n NEXT w)
   pub same : length w ≡ length a
   pub tos : half n TO w ≡ half n TO a
+  pub names : half n NAME w ≡ half n NAME a
   pub past : (h : ℕ) → 2 * m ≤ h → half n NEXT w h ≡ half n NEXT a h
   pub nodes : (j : ℕ) → j < 16 → (j ≡ HEAD → ⊥) → (v : ℕ) → v < n → node j w v ≡ node j a v

@@ -6,7 +6,7 @@ use mathlib.Core.Path.{_≡_}
 use lib.Dec.{eqb}
 use lib.ListN.{getD, length}
 use Rattle.theory_graph.specs.Lists.{firsts, table}
-use Rattle.core_words.specs.Fields.{ACTIVE, MARK, TO, half, node}
+use Rattle.core_words.specs.Fields.{ACTIVE, MARK, NAME, TO, half, node}
 
 -- from the words a to b every entry from i on stays
 abbrev pub Past : ℕ → List ℕ → List ℕ → Type 0
@@ -30,11 +30,13 @@ pub record Entering (n d v : ℕ) (a b : List ℕ) (r : ℕ) : Type 0 where
   pub else : (j : ℕ) → j < 16 → ¬ (j ≡ MARK) → ¬ (j ≡ ACTIVE) → node j b ≡ node j a
   pub more : (S : List ℕ) → Entered n S d (node MARK a) (node ACTIVE a) → Entered n (S ++ (v ∷ [])) r (node MARK b) (node ACTIVE b)
 
--- from w to z edge j is stored, with the ends a and b
-pub record PutEdge (n j a b : ℕ) (w z : List ℕ) : Type 0 where
+-- from w to z edge j is stored, with the ends a and b and the name c
+pub record PutEdge (n j a b c : ℕ) (w z : List ℕ) : Type 0 where
   pub same : length z ≡ length w
-  pub past : Past (16 * n + 4 * j + 4) w z
+  pub past : Past (16 * n + 6 * j + 6) w z
   pub first : half n TO z (2 * j) ≡ a
   pub second : half n TO z (2 * j + 1) ≡ b
+  pub name : half n NAME z (2 * j) ≡ c
   pub else : (h : ℕ) → h < 2 * j → half n TO z h ≡ half n TO w h
+  pub else-name : (h : ℕ) → h < 2 * j → half n NAME z h ≡ half n NAME w h
   pub nodes : (i : ℕ) → i < 16 → (v : ℕ) → v < n → node i z v ≡ node i w v

@@ -21,11 +21,12 @@ pub fn enter(work: &mut [u32], n: usize, d: usize, v: usize) -> usize
     d + 1
 }
 
-// Internal: writes edge j, from a to b, into the half-edges.
-pub fn put_edge(work: &mut [u32], n: usize, j: usize, a: usize, b: usize)
-    requires { ⌜ (16 * n + 4 * j + 4 ≤ length (now work)) × (a < 65536) × (b < 65536) × (n ≤ 65536) × (j < 32768) ⌝ }
-    ensures { λ _. ⌜ PutEdge n j a b (now (work .entry)) (now (work .exit)) ⌝ }
+// Internal: writes edge j, from a to b, with the name c, into the half-edges.
+pub fn put_edge(work: &mut [u32], n: usize, j: usize, a: usize, b: usize, c: usize)
+    requires { ⌜ (16 * n + 6 * j + 6 ≤ length (now work)) × (a < 65536) × (b < 65536) × (c < 65536) × (n ≤ 65536) × (j < 32768) ⌝ }
+    ensures { λ _. ⌜ PutEdge n j a b c (now (work .entry)) (now (work .exit)) ⌝ }
 {
     core_words::put_half(work, n, 2 * j, TO, a);
     core_words::put_half(work, n, 2 * j + 1, TO, b);
+    core_words::put_half(work, n, 2 * j, NAME, c);
 }

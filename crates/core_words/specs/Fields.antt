@@ -1,4 +1,4 @@
--- The layout of the contraction's words: field k of node v stands at 16 v + k, and field k of half-edge h, where there are n nodes, at 16 n + 2 h + k.
+-- The layout of the contraction's words: field k of node v stands at 16 v + k, and field k of half-edge h, where there are n nodes, at 16 n + 3 h + k.
 -- Each field is read as a function from nodes (half-edges) to numbers, and a store changes one function at one place.
 -- Assumes nothing: these are definitions.
 use Prim.Native.Nat.{_*_, _+_, _<_, ℕ}
@@ -8,7 +8,7 @@ use mathlib.Core.Path.{_≡_}
 use lib.Dec.{eqb}
 use lib.ListN.{getD, length}
 
--- Fields of a node. Some have a second use, with a name of its own; 14 and 15 are free.
+-- Fields of a node. Some have a second use, with a name of its own.
 -- 1 + the place of a node among the active nodes, 0 for none (in)
 abbrev pub MARK : ℕ
 MARK = 0
@@ -93,6 +93,14 @@ ROOT = 12
 abbrev pub EDGE : ℕ
 EDGE = 13
 
+-- at a top that is no root: the smallest name between its class and the nearest kept class above
+abbrev pub LEAST : ℕ
+LEAST = 14
+
+-- at j: the name of the j-th edge (out)
+abbrev pub NAMED : ℕ
+NAMED = 15
+
 -- Fields of a half-edge.
 -- the far end of a half-edge (in)
 abbrev pub TO : ℕ
@@ -102,11 +110,15 @@ TO = 0
 abbrev pub NEXT : ℕ
 NEXT = 1
 
+-- at the first half-edge of an edge: the edge's name (in)
+abbrev pub NAME : ℕ
+NAME = 2
+
 unfoldable pub node : ℕ → List ℕ → ℕ → ℕ
 node k w v = getD w (16 * v + k) 0
 
 unfoldable pub half : ℕ → ℕ → List ℕ → ℕ → ℕ
-half n k w h = getD w (16 * n + 2 * h + k) 0
+half n k w h = getD w (16 * n + 3 * h + k) 0
 
 -- f with the value x at v
 unfoldable pub update : (ℕ → ℕ) → ℕ → ℕ → ℕ → ℕ
@@ -119,9 +131,9 @@ pub record Put (k v x : ℕ) (a b : List ℕ) : Type 0 where
   pub else : (j : ℕ) → j < 16 → (j ≡ k → ⊥) → node j b ≡ node j a
   pub halves : (n : ℕ) → v < n → (j : ℕ) → half n j b ≡ half n j a
 
--- from a to b field k of half-edge h is set to x; the other field of each half-edge, and all nodes, stay
+-- from a to b field k of half-edge h is set to x; the other fields of each half-edge, and all nodes, stay
 pub record PutHalf (n k h x : ℕ) (a b : List ℕ) : Type 0 where
   pub same : length b ≡ length a
   pub here : half n k b ≡ update (half n k a) h x
-  pub else : (j : ℕ) → j < 2 → (j ≡ k → ⊥) → half n j b ≡ half n j a
+  pub else : (j : ℕ) → j < 3 → (j ≡ k → ⊥) → half n j b ≡ half n j a
   pub nodes : (j : ℕ) → j < 16 → (v : ℕ) → v < n → node j b v ≡ node j a v

@@ -6,7 +6,7 @@ ghost use Rattle.theory_graph.specs.Lists.{over};
 ghost use Rattle.core_words.specs.Clearing.{Cleared};
 ghost use Rattle.core_words.specs.Fields.{node, half, Put, PutHalf};
 
-// Internal: fields of a node. Some have a second use, with a name of its own; 14 and 15 are free. specs/Fields says what each holds.
+// Internal: fields of a node. Some have a second use, with a name of its own. specs/Fields says what each holds.
 pub const MARK: usize = 0;
 
 pub const MAPPED: usize = 0;
@@ -49,10 +49,16 @@ pub const ROOT: usize = 12;
 
 pub const EDGE: usize = 13;
 
+pub const LEAST: usize = 14;
+
+pub const NAMED: usize = 15;
+
 // Internal: fields of a half-edge.
 pub const TO: usize = 0;
 
 pub const NEXT: usize = 1;
+
+pub const NAME: usize = 2;
 
 // Internal: field k of node v.
 pub fn get(work: &[u32], v: usize, k: usize) -> usize
@@ -72,18 +78,18 @@ pub fn put(work: &mut [u32], v: usize, k: usize, x: usize)
 
 // Internal: field k of half-edge h, where there are n nodes.
 pub fn get_half(work: &[u32], n: usize, h: usize, k: usize) -> usize
-    requires { ⌜ 16 * n + 2 * h + k < length (now work) ⌝ }
+    requires { ⌜ 16 * n + 3 * h + k < length (now work) ⌝ }
     ensures { λ r. ⌜ (r ≡ half n k (now (work .entry)) h) × (r < 4294967296) ⌝ }
 {
-    work[16 * n + 2 * h + k] as usize
+    work[16 * n + 3 * h + k] as usize
 }
 
 // Internal: sets field k of half-edge h to x.
 pub fn put_half(work: &mut [u32], n: usize, h: usize, k: usize, x: usize)
-    requires { ⌜ (16 * n + 2 * h + k < length (now work)) × (x < 4294967296) × (k < 2) ⌝ }
+    requires { ⌜ (16 * n + 3 * h + k < length (now work)) × (x < 4294967296) × (k < 3) ⌝ }
     ensures { λ _. ⌜ PutHalf n k h x (now (work .entry)) (now (work .exit)) ⌝ }
 {
-    work[16 * n + 2 * h + k] = x as u32;
+    work[16 * n + 3 * h + k] = x as u32;
 }
 
 // Internal: sets field k of the first h of n nodes to 0.

@@ -10,11 +10,11 @@ use lib.ListN.{drop, getD, length, take}
 use Rattle.core_loading.specs.Loading.{Entered}
 use Rattle.core_reduce.specs.Core.{edgesIn}
 use Rattle.core_reduce.specs.declared.Counts.{Counts}
-use Rattle.core_words.specs.Fields.{ACTIVE, MARK, TO, half, node}
-use Rattle.theory_graph.specs.Cut.{cut}
-use Rattle.theory_graph.specs.Graph.{Edge, NodeSet}
-use Rattle.theory_graph.specs.SmallGraph.{IsSmallGraph}
-use Rattle.theory_timeline.specs.Tags.{adds, pickEvents}
+use Rattle.core_words.specs.Fields.{ACTIVE, MARK, NAME, TO, half, node}
+use Rattle.theory_graph.specs.Graph.{NodeSet}
+use Rattle.theory_names.specs.Names.{Entry, SameEntries, weigh}
+use Rattle.theory_names.specs.NamedSmallGraph.{IsNamedSmallGraph}
+use Rattle.theory_timeline.specs.Tags.{adds, keyOf, pickEvents}
 use Rattle.replay_step.specs.Area.{areaEdges, span}
 use Rattle.replay_step.specs.declared.Graph.{Graph}
 use Rattle.replay_step.specs.declared.Part.{Part}
@@ -22,7 +22,7 @@ use Rattle.replay_step.specs.declared.Window.{Window}
 
 -- the contraction's words begin behind the part's area
 abbrev pub scratch : Part → ℕ
-scratch p = p .area + 13 * p .events
+scratch p = p .area + 17 * p .events
 
 -- ---- active nodes
 -- the nodes at the `count` words from `from` on, before s, are nodes of a graph that has n and whose words stand from s on
@@ -38,93 +38,98 @@ pub record Actives (from count s n : ℕ) (w z : List ℕ) (k : ℕ) : Type 0 wh
   pub entered : Entered n (take count (drop from w)) k (node MARK (drop s z)) (node ACTIVE (drop s z))
 
 -- ---- edges
--- the m edges of an area of e events, before s, join nodes below n
+-- the m edges of an area of e events, before s, join nodes below n and have names of 16 bits
 pub record EdgesReady (e m s n : ℕ) (w : List ℕ) : Type 0 where
-  pub front : 13 * e ≤ s
-  pub room : s + 16 * n + 4 * m ≤ length w
+  pub front : 17 * e ≤ s
+  pub room : s + 16 * n + 6 * m ≤ length w
   pub few : m ≤ 4 * e
   pub much : e ≤ 4096
   pub many : n ≤ 65536
-  pub nodes : (j : ℕ) → j < m → (getD w (5 * e + j) 0 < n) × (getD w (9 * e + j) 0 < n)
+  pub nodes : (j : ℕ) → j < m → (getD w (5 * e + j) 0 < n) × (getD w (9 * e + j) 0 < n) × (getD w (13 * e + j) 0 < 65536)
 
 -- m edges are loaded; the nodes' fields are as they were
 pub record Edged (s n m : ℕ) (w z : List ℕ) : Type 0 where
   pub front : take s z ≡ take s w
   pub nodes : (j : ℕ) → j < 16 → (v : ℕ) → v < n → node j (drop s z) v ≡ node j (drop s w) v
   pub ends : (h : ℕ) → h < 2 * m → half n TO (drop s z) h < n
+  pub names : (j : ℕ) → j < m → half n NAME (drop s z) (2 * j) < 65536
 
 -- from v to z, of the numbers from i up to j those that pass have their edges loaded behind the m that are there: r edges then
-pub record AddedBy (s n : ℕ) (f : ℕ → Bool) (E : ℕ → Edge) (i j m : ℕ) (v z : List ℕ) (r : ℕ) : Type 0 where
+pub record AddedBy (s n : ℕ) (f : ℕ → Bool) (E : ℕ → Entry) (i j m : ℕ) (v z : List ℕ) (r : ℕ) : Type 0 where
   pub long : length z ≡ length v
   pub edged : Edged s n r v z
-  pub more : (U : NodeSet) → cut U (edgesIn n r (drop s z)) ≡ cut U (edgesIn n m (drop s v)) + cut U (pickEvents f E i (j - i))
+  pub more : (q : ℕ → ℕ) (U : NodeSet) → weigh q U (edgesIn n r (drop s z)) ≡ weigh q U (edgesIn n m (drop s v)) + weigh q U (pickEvents f E i (j - i))
   pub most : r ≤ m + (j - i)
 
 -- those of an area of e events
 pub record Copied (e m s n : ℕ) (w z : List ℕ) : Type 0 where
   pub edged : Edged s n m w z
-  pub same : (U : NodeSet) → cut U (edgesIn n m (drop s z)) ≡ cut U (areaEdges e m (take (13 * e) w))
+  pub same : SameEntries (edgesIn n m (drop s z)) (areaEdges e m (take (17 * e) w))
 
 -- ---- the events beside the part
--- event i of the window adds its key, and its two nodes, by the words of the area
+-- event i of the window adds its key, by the words of the area
 abbrev pub addsIn : Window → Part → List ℕ → ℕ → Bool
 addsIn w p v i =
     adds (span w) (p .at, p .events) (w .at + i)
     (getD v (2 * w .events + 3 * i) 0) (getD v (2 * w .events + 3 * i + 1) 0) (getD v (2 * w .events + 3 * i + 2) 0)
 
-abbrev pub placesIn : List ℕ → ℕ → Edge
-placesIn v i = (getD v (2 * i) 0, getD v (2 * i + 1) 0)
+-- the edge between its two nodes, with its key as the name
+abbrev pub entryIn : ℕ → List ℕ → ℕ → Entry
+entryIn e v i = ((getD v (2 * i) 0, getD v (2 * i + 1) 0), keyOf (getD v (2 * e + 3 * i) 0))
 
--- m edges are loaded, and the window's places and words stand before the contraction's words; the events from i up to j are to be added
+-- m edges are loaded, and the window's places and words, with keys of 16 bits, stand before the contraction's words; the events from i up to j are to be added
 pub record AddReady (w : Window) (p : Part) (i j m : ℕ) (v : List ℕ) : Type 0 where
   pub order : i ≤ j
   pub inside : j ≤ w .events
   pub much : w .at + w .events ≤ 4096
   pub front : 5 * w .events ≤ scratch p
-  pub room : scratch p + 16 * w .nodes + 4 * (m + (j - i)) ≤ length v
+  pub room : scratch p + 16 * w .nodes + 6 * (m + (j - i)) ≤ length v
   pub few : m + (j - i) ≤ 32768
   pub many : w .nodes ≤ 65536
   pub nodes : (k : ℕ) → k < 2 * w .events → getD v k 0 < w .nodes
+  pub keys : (k : ℕ) → k < w .events → keyOf (getD v (2 * w .events + 3 * k) 0) < 65536
   pub ends : (h : ℕ) → h < 2 * m → half (w .nodes) TO (drop (scratch p) v) h < w .nodes
+  pub names : (k : ℕ) → k < m → half (w .nodes) NAME (drop (scratch p) v) (2 * k) < 65536
 
 abbrev pub Added : Window → Part → ℕ → ℕ → ℕ → List ℕ → List ℕ → ℕ → Type 0
-Added w p i j m v z r = AddedBy (scratch p) (w .nodes) (addsIn w p v) (placesIn v) i j m v z r
+Added w p i j m v z r = AddedBy (scratch p) (w .nodes) (addsIn w p v) (entryIn (w .events) v) i j m v z r
 
 -- ---- the part's area
 -- A graph is loaded: its active nodes are those at the part's places, each once.
 pub record MakeReady (p : Part) (l : Graph) (w : List ℕ) : Type 0 where
   pub places : p .places + 2 * p .events ≤ p .area
   pub words : p .words + 3 * p .events ≤ p .area
-  pub room : scratch p + 16 * l .nodes + 4 * l .edges ≤ length w
+  pub room : scratch p + 16 * l .nodes + 6 * l .edges ≤ length w
   pub much : p .events ≤ 4096
   pub many : l .nodes ≤ 65536
   pub few : l .edges ≤ 32768
   pub nodes : (i : ℕ) → i < 2 * p .events → getD w (p .places + i) 0 < l .nodes
   pub entered : Entered (l .nodes) (take (2 * p .events) (drop (p .places) w)) (l .active) (node MARK (drop (scratch p) w)) (node ACTIVE (drop (scratch p) w))
   pub ends : (h : ℕ) → h < 2 * l .edges → half (l .nodes) TO (drop (scratch p) w) h < l .nodes
+  pub names : (j : ℕ) → j < l .edges → half (l .nodes) NAME (drop (scratch p) w) (2 * j) < 65536
 
 -- It is contracted, and stands in the part's area with the part's events; before the area nothing changes.
 pub record AreaMade (p : Part) (l : Graph) (w z : List ℕ) (r : Counts) : Type 0 where
   pub front : take (p .area) z ≡ take (p .area) w
   pub ρ : ℕ → ℕ
   pub σ : ℕ → ℕ
-  pub small : IsSmallGraph (edgesIn (l .nodes) (l .edges) (drop (scratch p) w)) (take (2 * p .events) (drop (p .places) w)) (r .nodes)
-      (areaEdges (p .events) (r .edges) (take (13 * p .events) (drop (p .area) z))) ρ σ
-  pub places : take (2 * p .events) (take (13 * p .events) (drop (p .area) z)) ≡ map σ (take (2 * p .events) (drop (p .places) w))
-  pub words : take (3 * p .events) (drop (2 * p .events) (take (13 * p .events) (drop (p .area) z))) ≡ take (3 * p .events) (drop (p .words) w)
+  pub small : IsNamedSmallGraph (edgesIn (l .nodes) (l .edges) (drop (scratch p) w)) (take (2 * p .events) (drop (p .places) w)) (r .nodes)
+      (areaEdges (p .events) (r .edges) (take (17 * p .events) (drop (p .area) z))) ρ σ
+  pub places : take (2 * p .events) (take (17 * p .events) (drop (p .area) z)) ≡ map σ (take (2 * p .events) (drop (p .places) w))
+  pub words : take (3 * p .events) (drop (2 * p .events) (take (17 * p .events) (drop (p .area) z))) ≡ take (3 * p .events) (drop (p .words) w)
 
 -- ---- what is loaded
 -- where a step takes the part's places and words from, and where it puts the part's area
 pub record IsPart (w : Window) (p : Part) : Type 0 where
   pub places : p .places ≡ 2 * (p .at - w .at)
   pub words : p .words ≡ 2 * w .events + 3 * (p .at - w .at)
-  pub area : p .area ≡ 13 * w .events
+  pub area : p .area ≡ 17 * w .events
 
 pub record PartLoaded (w : Window) (p : Part) (v z : List ℕ) (l : Graph) : Type 0 where
   pub nodes : l .nodes ≡ w .nodes
   pub front : take (scratch p) z ≡ take (scratch p) v
   pub ready : MakeReady p l z
-  pub edges : (U : NodeSet) → cut U (edgesIn (l .nodes) (l .edges) (drop (scratch p) z))
-      ≡ cut U (areaEdges (w .events) (w .edges) (take (13 * w .events) v))
-      + (cut U (pickEvents (addsIn w p v) (placesIn v) 0 (p .at - w .at)) + cut U
-      (pickEvents (addsIn w p v) (placesIn v) (p .at - w .at + p .events) (w .events - (p .at - w .at + p .events))))
+  pub edges : (q : ℕ → ℕ) (U : NodeSet) → weigh q U (edgesIn (l .nodes) (l .edges) (drop (scratch p) z))
+      ≡ weigh q U (areaEdges (w .events) (w .edges) (take (17 * w .events) v))
+      + (weigh q U (pickEvents (addsIn w p v) (entryIn (w .events) v) 0 (p .at - w .at)) + weigh q U
+      (pickEvents (addsIn w p v) (entryIn (w .events) v) (p .at - w .at + p .events) (w .events - (p .at - w .at + p .events))))

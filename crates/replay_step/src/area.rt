@@ -1,4 +1,4 @@
-// Makes the area of a part out of a graph that is loaded: contracts it, and writes the part's places, the words of its events and its edges.
+// Makes the area of a part out of a graph that is loaded: contracts it, and writes the part's places, the words of its events and its edges with their names.
 ghost use mathlib.Core.Path.{_≡_};
 ghost use mathlib.Core.List.{map};
 ghost use Prim.Native.Nat.{ℕ, _+_, _*_, _<_, _≤_};
@@ -60,12 +60,13 @@ pub fn make_area(part: crate::Part, l: crate::Graph, work: &mut [u32]) -> core_r
 {
     let q = part.area;
     let c = part.events;
-    let s = q + 13 * c;
+    let s = q + 17 * c;
     let n = l.nodes;
     let r = core_reduce::reduce(&mut work[s..], n, l.edges, l.active);
     put_map(work, part.places, 2 * c, s, q, n);
     copy_words(work, part.words, 3 * c, q + 2 * c);
     put_field(work, r.edges, core_words::LOWER, s, q + 5 * c);
     put_field(work, r.edges, core_words::UPPER, s, q + 9 * c);
+    put_field(work, r.edges, core_words::NAMED, s, q + 13 * c);
     r
 }

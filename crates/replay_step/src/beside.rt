@@ -54,7 +54,7 @@ pub(crate) fn event_adds(w: crate::Window, part: crate::Part, i: usize, work: &[
     adds_key(w, part, w.at + i, tag, next, last)
 }
 
-// Event i of the window: where it adds its key its edge is loaded as the m-th. The edges then.
+// Event i of the window: where it adds its key its edge is loaded as the m-th, with the key as its name. The edges then.
 pub(crate) fn add_event(
     w: crate::Window,
     part: crate::Part,
@@ -71,9 +71,11 @@ pub(crate) fn add_event(
     }
     let a = word(work, 2 * i);
     let b = word(work, 2 * i + 1);
-    let s = part.area + 13 * part.events;
+    let tag = word(work, 2 * w.events + 3 * i);
+    let c = (tag - 1) / 4;
+    let s = part.area + 17 * part.events;
     let n = w.nodes;
-    core_loading::put_edge(&mut work[s..], n, m, a, b);
+    core_loading::put_edge(&mut work[s..], n, m, a, b, c);
     m + 1
 }
 

@@ -39,7 +39,7 @@ fn load_part(w: Window, part: Part, work: &mut [u32]) -> Graph
 {
     let n = w.nodes;
     let e = w.events;
-    let s = part.area + 13 * part.events;
+    let s = part.area + 17 * part.events;
     let k = load::enter_places(work, part.places, 2 * part.events, s, n);
     load::copy_edges(work, e, w.edges, s, n);
     let a = part.at - w.at;
@@ -63,7 +63,7 @@ pub fn step(w: Window, lo: usize, c: usize, work: &mut [u32]) -> Window
         events: c,
         places: 2 * a,
         words: 2 * w.events + 3 * a,
-        area: 13 * w.events,
+        area: 17 * w.events,
     };
     let l = load_part(w, part, work);
     let small = area::make_area(part, l, work);

@@ -39,7 +39,8 @@ pub(crate) fn copy_edges(work: &mut [u32], e: usize, m: usize, s: usize, n: usiz
     while j < m {
         let a = work[5 * e + j] as usize;
         let b = work[9 * e + j] as usize;
-        core_loading::put_edge(&mut work[s..], n, j, a, b);
+        let c = work[13 * e + j] as usize;
+        core_loading::put_edge(&mut work[s..], n, j, a, b, c);
         j += 1;
     }
 }

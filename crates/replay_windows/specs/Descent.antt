@@ -1,4 +1,4 @@
--- What a window promises: the bytes of its events, and kept over it and all windows below it.
+-- What a window promises: the bytes and the names of its events, and kept over it and all windows below it.
 -- Assumes nothing: these are definitions.
 use Prim.Native.Nat.{_*_, _+_, _<_, _≤_, ℕ}
 use mathlib.Core.Bool.{cond}
@@ -9,30 +9,40 @@ use lib.ListN.{length, set, take}
 use lib.Seq.{sets}
 use Rattle.theory_graph.specs.Lists.{sum, table}
 use Rattle.theory_timeline.specs.DemandThree.{Allowed}
-use Rattle.theory_timeline.specs.Replay.{byte}
+use Rattle.theory_timeline.specs.Replay.{byte, nameAt}
 use Rattle.theory_timeline.specs.Steps.{Sound}
 use Rattle.theory_timeline.specs.Windows.{Timeline, size, small, windowsFrom}
 use Rattle.replay_step.specs.Area.{SmallArea}
 use Rattle.replay_step.specs.declared.Window.{Window}
 
 -- ---- a window whose area is at the front of the words
-pub record WindowReady (w : Window) (p : ℕ) (answers work : List ℕ) : Type 0 where
+pub record WindowReady (w : Window) (p : ℕ) (answers names work : List ℕ) : Type 0 where
   pub g : Timeline
   pub sound : Sound g
   pub inside : w .at + w .events ≤ size g
-  pub area : SmallArea g w (take (13 * w .events) work)
+  pub area : SmallArea g w (take (17 * w .events) work)
   pub some : 0 < w .events
   pub much : w .at + w .events ≤ 4096
   pub share : Allowed p
   pub long : w .at + w .events ≤ length answers
+  pub names-long : w .at + w .events ≤ length names
   pub room : 143 * w .events ≤ length work
 
--- the bytes of n events from `at` on are written; kept counts their window and all windows below it
-pub record Replied (g : Timeline) (at n p : ℕ) (before after : List ℕ) (k : ℕ) : Type 0 where
-  pub answers : after ≡ sets before at (table (byte g) at n)
+-- the two tables that the windows write, as they are before or afterwards
+pub record Written : Type 0 where
+  pub answers : List ℕ
+  pub names : List ℕ
+
+abbrev pub written : List ℕ → List ℕ → Written
+written answers names = record { answers = answers; names = names }
+
+-- the bytes and the names of n events from `at` on are written; kept counts their window and all windows below it
+pub record Replied (g : Timeline) (at n p : ℕ) (before after : Written) (k : ℕ) : Type 0 where
+  pub answers : after .answers ≡ sets (before .answers) at (table (byte g) at n)
+  pub names : after .names ≡ sets (before .names) at (table (nameAt g) at n)
   pub kept : k ≡ sum (map (λ w. (small g w) .nodes) (windowsFrom p n at n))
 
-pub record WindowDone (w : Window) (p : ℕ) (v before after : List ℕ) (kept : ℕ) : Type 0 where
+pub record WindowDone (w : Window) (p : ℕ) (v : List ℕ) (before after : Written) (kept : ℕ) : Type 0 where
   pub few : kept + 16384 ≤ 32768 * w .events
   pub replied : (g : Timeline) → Sound g → w .at + w .events ≤ size g → SmallArea g w v → Replied g (w .at) (w .events) p before after kept
 
@@ -41,5 +51,10 @@ pub record WindowDone (w : Window) (p : ℕ) (v before after : List ℕ) (kept :
 abbrev pub byteBy : ℕ → ℕ → ℕ → ℕ
 byteBy tag nodes edges = cond (eqb tag 0) (cond (eqb nodes 1) 2 (cond (eqb edges 0) 0 1)) 3
 
-abbrev pub OneDone : Window → List ℕ → List ℕ → List ℕ → Type 0
-OneDone w v before after = (g : Timeline) → Sound g → w .at < size g → SmallArea g w v → after ≡ set before (w .at) (byte g (w .at))
+-- its name: that of the small graph's one edge where the byte is 1, else 65,535
+abbrev pub nameBy : ℕ → ℕ → ℕ
+nameBy byte name = cond (eqb byte 1) name 65535
+
+pub record OneDone (w : Window) (v : List ℕ) (before after : Written) : Type 0 where
+  pub answers : (g : Timeline) → Sound g → w .at < size g → SmallArea g w v → after .answers ≡ set (before .answers) (w .at) (byte g (w .at))
+  pub names : (g : Timeline) → Sound g → w .at < size g → SmallArea g w v → after .names ≡ set (before .names) (w .at) (nameAt g (w .at))

@@ -1,5 +1,6 @@
 -- The contraction as a public call: what it is lent, its faults in their order, what it returns, and what each lent table holds afterwards.
--- The contraction itself is defined in the crate theory_graph, specs/Contraction, and the pieces in its specs/Pieces. Assumes nothing: these are definitions.
+-- The contraction itself is defined in the crate theory_graph, specs/Contraction, the pieces in its specs/Pieces, and the names of its edges in the crate
+-- theory_names, specs/Names. Assumes nothing: these are definitions.
 use Prim.Native.Nat.{ℕ, _+_, _*_}
 use mathlib.Core.Bool.{Bool, true, false}
 use mathlib.Core.List.{List, [], _∷_, _++_, map}
@@ -10,6 +11,7 @@ use Rattle.theory_graph.specs.Lists.{pairs, over}
 use Rattle.theory_graph.specs.Graph.{Edge}
 use Rattle.theory_graph.specs.Contraction.{Contracted, contract}
 use Rattle.theory_graph.specs.Pieces as graph
+use Rattle.theory_names.specs.Names.{Entry, Named, contractNamed}
 use Rattle.call_sizes.specs.Refusal.{Row, row, Refusal, badEnds, firstFault, seek, shortRows}
 use Rattle.call_sizes.specs.Sizes.{sizeFaults}
 
@@ -20,17 +22,32 @@ pub record Lent : Type 0 where
   pub k : ℕ
   pub from : List ℕ
   pub to : List ℕ
+  pub names : List ℕ
   pub active : List ℕ
   pub map : List ℕ
   pub outFrom : List ℕ
   pub outTo : List ℕ
+  pub outNames : List ℕ
   pub pieces : List ℕ
   pub work : List ℕ
 
 -- the sizes and the tables of a call as one record
-abbrev pub lent : ℕ → ℕ → ℕ → List ℕ → List ℕ → List ℕ → List ℕ → List ℕ → List ℕ → List ℕ → List ℕ → Lent
-lent n m k from to active map outFrom outTo pieces work =
-    record { n = n; m = m; k = k; from = from; to = to; active = active; map = map; outFrom = outFrom; outTo = outTo; pieces = pieces; work = work }
+abbrev pub lent : ℕ → ℕ → ℕ → List ℕ → List ℕ → List ℕ → List ℕ → List ℕ → List ℕ → List ℕ → List ℕ → List ℕ → List ℕ → Lent
+lent n m k from to names active map outFrom outTo outNames pieces work = record {
+  n = n;
+  m = m;
+  k = k;
+  from = from;
+  to = to;
+  names = names;
+  active = active;
+  map = map;
+  outFrom = outFrom;
+  outTo = outTo;
+  outNames = outNames;
+  pieces = pieces;
+  work = work;
+}
 
 -- the words that a contraction of n nodes and m edges needs
 abbrev pub required : ℕ → ℕ → ℕ
@@ -39,6 +56,10 @@ required n m = 16 * n + 8 * m + 512
 -- the edges and the active entries that count: entries past the sizes are ignored
 unfoldable pub edges : Lent → List Edge
 edges l = pairs (take (l .m) (l .from)) (take (l .m) (l .to))
+
+-- the edges with their names
+unfoldable pub namedEdges : Lent → Named
+namedEdges l = pairs (edges l) (take (l .m) (l .names))
 
 unfoldable pub entries : Lent → List ℕ
 entries l = take (l .k) (l .active)
@@ -53,10 +74,12 @@ abbrev pub tableLengths : Lent → List (ℕ × ℕ)
 tableLengths l =
     (length (l .from), l .m)
     ∷ (length (l .to), l .m)
+    ∷ (length (l .names), l .m)
     ∷ (length (l .active), l .k)
     ∷ (length (l .map), l .k)
     ∷ (length (l .outFrom), 2 * l .k)
     ∷ (length (l .outTo), 2 * l .k)
+    ∷ (length (l .outNames), 2 * l .k)
     ∷ (length (l .pieces), l .k)
     ∷ (length (l .work), required (l .n) (l .m))
     ∷ []
@@ -92,6 +115,7 @@ pub record Outcome : Type 0 where
   pub map : List ℕ
   pub outFrom : List ℕ
   pub outTo : List ℕ
+  pub outNames : List ℕ
   pub pieces : List ℕ
   pub work : List ℕ
 
@@ -107,6 +131,7 @@ done l =
       map = over (c .map) (l .map);
       outFrom = over (map (λ (e : Edge). e .0) (c .edges)) (l .outFrom);
       outTo = over (map (λ (e : Edge). e .1) (c .edges)) (l .outTo);
+      outNames = over (map (λ (e : Entry). e .1) (contractNamed (l .n) (namedEdges l) (entries l))) (l .outNames);
       pieces = over (graph.pieces (edges l) (entries l)) (l .pieces);
       work = over (replicate (required (l .n) (l .m)) 0) (l .work);
     }
@@ -122,6 +147,7 @@ refused l f =
       map = l .map;
       outFrom = l .outFrom;
       outTo = l .outTo;
+      outNames = l .outNames;
       pieces = l .pieces;
       work = l .work;
     }

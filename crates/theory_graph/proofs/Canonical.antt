@@ -97,7 +97,8 @@ module _ (E : List Edge) (S : List ℕ) (h : ℕ) (H : List Edge) (ρ σ : ℕ �
       rest [] = []
       rest (x ∷ l) = l
 
-  same-two : (i : ℕ) → i < h → TwoEdgeConnected E (ρ i) (ρ′ i)
+  -- then each number stands for the same class in both
+  pub same-two : (i : ℕ) → i < h → TwoEdgeConnected E (ρ i) (ρ′ i)
   same-two i l =
       let ps = places-same E S h H ρ σ g h H′ ρ′ σ′ g′ in
       by-idle i

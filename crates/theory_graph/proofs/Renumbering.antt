@@ -123,6 +123,11 @@ module _ (E : List Edge) (S : List ℕ) (h : ℕ) (H : List Edge) (ρ σ : ℕ �
           let (_, q) = there j lj in
           g .once i j li lj (insep-trans E (subst (λ (k : ℕ). TwoEdgeConnected E (ρ i) (ρ′ k)) e p) (insep-sym E q))
 
+  -- a number becomes that of its class
+  pub renumbered-class : (i : ℕ) → i < h → TwoEdgeConnected E (ρ i) (ρ′ (renumbered .π i))
+  unfolding renumbered
+  renumbered-class i l = there i l .1
+
 -- ---- what is renumbered from a small graph is one
 module _ {E : List Edge} {S : List ℕ} {h : ℕ} {H : List Edge} {ρ σ : ℕ → ℕ} (g : SmallGraph E S h H ρ σ) {h′ : ℕ} {H′ : List Edge} {σ′ : ℕ → ℕ} (r : Renumbered S h H σ h′ H′ σ′) where
   abbrev classes : ℕ → ℕ

@@ -51,7 +51,7 @@ sum [] = 0
 sum (x ∷ xs) = x + sum xs
 
 -- two parallel arrays as a list of pairs
-abbrev pub pairs : List ℕ → List ℕ → List (ℕ × ℕ)
+abbrev pub pairs : {A B : Type 0} → List A → List B → List (A × B)
 pairs [] ys = []
 pairs (x ∷ xs) [] = []
 pairs (x ∷ xs) (y ∷ ys) = (x, y) ∷ pairs xs ys

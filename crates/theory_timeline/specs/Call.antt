@@ -8,12 +8,13 @@ use Rattle.theory_timeline.specs.declared.ReplayReply.{ReplayReply}
 use Rattle.theory_timeline.specs.declared.ReplayReply.the-variants.{Done, Refused}
 
 -- the sizes and tables of a call
-abbrev pub lent : ℕ → ℕ → ℕ → List ℕ → List ℕ → List ℕ → List ℕ → List ℕ → List ℕ → List ℕ → Lent
-lent n m t a b start x y answers work = record { n = n; m = m; t = t; a = a; b = b; start = start; x = x; y = y; answers = answers; work = work }
+abbrev pub lent : ℕ → ℕ → ℕ → List ℕ → List ℕ → List ℕ → List ℕ → List ℕ → List ℕ → List ℕ → List ℕ → Lent
+lent n m t a b start x y answers names work =
+    record { n = n; m = m; t = t; a = a; b = b; start = start; x = x; y = y; answers = answers; names = names; work = work }
 
--- what a reply says, with the two tables that may be written as they are afterwards
-abbrev pub outcome : ReplayReply → List ℕ → List ℕ → Outcome
-outcome (Done r) answers work = record {
+-- what a reply says, with the three tables that may be written as they are afterwards
+abbrev pub outcome : ReplayReply → List ℕ → List ℕ → List ℕ → Outcome
+outcome (Done r) answers names work = record {
   accepted = true;
   code = 0;
   place = 0;
@@ -21,6 +22,17 @@ outcome (Done r) answers work = record {
   opened = r .«open»;
   kept = r .kept;
   answers = answers;
+  names = names;
   work = work;
 }
-outcome (Refused c i) answers work = record { accepted = false; code = c; place = i; queries = 0; opened = 0; kept = 0; answers = answers; work = work }
+outcome (Refused c i) answers names work = record {
+  accepted = false;
+  code = c;
+  place = i;
+  queries = 0;
+  opened = 0;
+  kept = 0;
+  answers = answers;
+  names = names;
+  work = work;
+}

@@ -1,5 +1,5 @@
 -- Demand 3: one statement about two replays, with its parts (a) to (e). Its proof is proofs/DemandThree.
--- It cites, of Replay: Lent, given, Outcome, replay; of Call: outcome; of Windows: windows, network, active, small, stands; of Roads: roadAnswer, the
+-- It cites, of Replay: Lent, given, Outcome, replay; of Call: outcome; of Windows: windows, network, active, small, smallNamed, stands; of Roads: roadAnswer, the
 -- answer of two junctions by the loss of roads, DifferentRoads, Apart; of the crate theory_graph: answer, the answer of two nodes by the loss of edges, image,
 -- the edges of a list with their ends moved, different, the number of different entries, and mostNodes, the bound 2k - 2 (k where k is below 2).
 -- Assumes nothing: these are definitions.
@@ -11,10 +11,12 @@ use lib.ListN.{take}
 use Rattle.theory_graph.specs.Graph.{Edge, answer}
 use Rattle.theory_graph.specs.Lists.{sum}
 use Rattle.theory_graph.specs.SmallGraph.{different, image, mostNodes}
+use Rattle.theory_names.specs.Names.{Named, hangs, plain}
+use Rattle.theory_names.specs.NamedSmallGraph.{imageNamed}
 use Rattle.theory_timeline.specs.Call.{outcome}
 use Rattle.theory_timeline.specs.Replay.{Lent, Outcome, given, replay}
 use Rattle.theory_timeline.specs.Roads.{Apart, DifferentRoads, roadAnswer}
-use Rattle.theory_timeline.specs.Windows.{Timeline, Window, active, kept, network, small, stands, windows}
+use Rattle.theory_timeline.specs.Windows.{Timeline, Window, active, kept, network, small, smallNamed, stands, windows}
 use Rattle.theory_timeline.specs.declared.ReplayReply.{ReplayReply}
 
 -- ---- the words of the statement
@@ -33,12 +35,15 @@ pub record NewRoads (E F : List Edge) : Type 0 where
 
 -- (a), (b): a window's small graph answers as its network does, whatever roads are added between its active junctions, and it is small.
 -- In the network the answer is by the loss of roads; "in the small graph each edge, an added one too, counts as a road of its own".
+-- And two active junctions hang on the same name in both, the least of an edge whose loss parts them, whatever edges are added with whatever names.
 pub record Faithful (g : Timeline) (w : Window) : Type 0 where
-  pub answers : (F : List Edge) → Among (active g w) F → NewRoads (network g w) F → (x y : ℕ) → List·Memᴰ x (active g w) → List·Memᴰ y (active g w)
-      → roadAnswer (network g w ++ F) x y ≡ answer ((small g w) .edges ++ image (stands g w) F) (stands g w x) (stands g w y)
+  pub answers : (F : List Edge) → Among (active g w) F → NewRoads (plain (network g w)) F → (x y : ℕ) → List·Memᴰ x (active g w) → List·Memᴰ y (active g w)
+      → roadAnswer (plain (network g w) ++ F) x y ≡ answer ((small g w) .edges ++ image (stands g w) F) (stands g w x) (stands g w y)
+  pub names : (F : Named) → Among (active g w) (plain F) → (x y : ℕ) → List·Memᴰ x (active g w) → List·Memᴰ y (active g w)
+      → hangs (network g w ++ F) x y ≡ hangs (smallNamed g w ++ imageNamed (stands g w) F) (stands g w x) (stands g w y)
   pub nodes : (small g w) .nodes ≤ mostNodes (different (active g w))
 
--- lent alike but for ignored entries, the answer table and the work table (that M is the same follows where both are accepted)
+-- lent alike but for ignored entries, the answer table, the name table and the work table (that M is the same follows where both are accepted)
 pub record Alike (l k : Lent) : Type 0 where
   pub n : l .n ≡ k .n
   pub t : l .t ≡ k .t
@@ -56,9 +61,10 @@ pub record Demand3 (l k : Lent) (p q : ℕ) (r s : Outcome) : Type 0 where
   pub kept : r .code ≡ 0 → r .kept ≡ sum (map (λ w. (small (given l) w) .nodes) (windows p (l .t)))
   -- (d)
   pub alike : r .code ≡ 0 → s .code ≡ 0 → Alike l k
-      → (take (l .t) (r .answers) ≡ take (l .t) (s .answers)) × (r .queries ≡ s .queries) × (r .opened ≡ s .opened)
+      → (take (l .t) (r .answers) ≡ take (l .t) (s .answers)) × (take (l .t) (r .names) ≡ take (l .t) (s .names))
+      × (r .queries ≡ s .queries) × (r .opened ≡ s .opened)
   -- (e)
-  pub tables : l ≡ k → (r .code ≡ 0 ↔ s .code ≡ 0) × (r .code ≡ 0 → (r .answers ≡ s .answers) × (r .work ≡ s .work))
+  pub tables : l ≡ k → (r .code ≡ 0 ↔ s .code ≡ 0) × (r .code ≡ 0 → (r .answers ≡ s .answers) × (r .names ≡ s .names) × (r .work ≡ s .work))
 
 abbrev pub Demand-3 : Type 0
 Demand-3 = (l k : Lent) (p q : ℕ) → Allowed p → Allowed q → (r s : Outcome) → r ≡ replay l p → s ≡ replay k q → Demand3 l k p q r s
@@ -68,17 +74,18 @@ abbrev pub KeepsDemand3 : Lent → ℕ → Outcome → Type 0
 KeepsDemand3 l p r = (k : Lent) (q : ℕ) → Allowed p → Allowed q → Demand3 l k p q r (replay k q)
 
 -- ---- the same of calls that were made
--- a call of the public `replay` (crate call_replay): its share, what it was lent, its reply, and the two tables that it may write as they were afterwards
+-- a call of the public `replay` (crate call_replay): its share, what it was lent, its reply, and the three tables that it may write as they were afterwards
 pub record Call : Type 0 where
   pub share : ℕ
   pub lends : Lent
   pub reply : ReplayReply
   pub answers : List ℕ
+  pub names : List ℕ
   pub work : List ℕ
 
 -- the call's outcome, and what its own `ensures` says of it
 abbrev pub outcomeOf : Call → Outcome
-outcomeOf c = outcome (c .reply) (c .answers) (c .work)
+outcomeOf c = outcome (c .reply) (c .answers) (c .names) (c .work)
 
 abbrev pub Promised : Call → Type 0
 Promised c = outcomeOf c ≡ replay (c .lends) (c .share)

@@ -7,6 +7,7 @@ use lib.Dec.{eqb, ltb}
 use lib.ListN.{getD, length}
 use Rattle.theory_graph.specs.Graph.{Edge}
 use Rattle.theory_graph.specs.Lists.{any, range}
+use Rattle.theory_names.specs.Names.{Named}
 use Rattle.theory_timeline.specs.Roads.{road}
 use Rattle.theory_timeline.specs.declared.Kind.{Kind}
 use Rattle.theory_timeline.specs.declared.Kind.the-variants.{Closes, Nothing, Opens, Query}
@@ -64,18 +65,19 @@ abbrev pub namedRoads : List Edge → List Event → SegmentSet
 namedRoads segs [] r = false
 namedRoads segs (e ∷ evs) r = namesRoad segs e r || namedRoads segs evs r
 
--- the edges of the segments of a set, or of the roads of a set of names, in ascending order; the first of the list has the number i
-abbrev pub pick : SegmentSet → ℕ → List Edge → List Edge
+-- the edges of the segments of a set, or of the roads of a set of names, in ascending order, each with its number as its name; the first of the list has the
+-- number i
+abbrev pub pick : SegmentSet → ℕ → List Edge → Named
 pick t i [] = []
-pick t i (e ∷ es) = cond (t i) (e ∷ pick t (suc i) es) (pick t (suc i) es)
+pick t i (e ∷ es) = cond (t i) ((e, i) ∷ pick t (suc i) es) (pick t (suc i) es)
 
 -- the two junctions of an event: those that a query names, or both ends of the segment that it names
 abbrev pub ends : List Edge → Event → ℕ × ℕ
 ends segs e = cond (opens e || closes e) (getD segs (e .1) (0, 0)) e
 
 -- ---- a list of events, where the segments of o are open before it
--- its network: "one edge for each road that is open before it and that has no segment named in it"
-unfoldable pub networkOf : List Edge → List Event → SegmentSet → List Edge
+-- its network: "one edge for each road that is open before it and that has no segment named in it", with the road's name
+unfoldable pub networkOf : List Edge → List Event → SegmentSet → Named
 networkOf segs evs o = pick (λ r. openRoads segs o r && not (namedRoads segs evs r)) 0 segs
 
 -- its active junctions, in the order of its events

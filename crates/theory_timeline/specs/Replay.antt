@@ -1,4 +1,5 @@
--- The replay as a public call: what it is lent, its faults in their order, the answer bytes and the three numbers, and what each lent table holds afterwards.
+-- The replay as a public call: what it is lent, its faults in their order, the answer bytes, the names and the three numbers, and what each lent table holds
+-- afterwards.
 -- Assumes nothing: these are definitions.
 use Prim.Native.Nat.{_*_, _+_, ℕ}
 use mathlib.Core.Bool.{Bool, cond, false, not, true}
@@ -8,6 +9,7 @@ use lib.Dec.{eqb, ltb}
 use lib.ListN.{length, replicate, take}
 use Rattle.theory_graph.specs.Graph.{answer}
 use Rattle.theory_graph.specs.Lists.{filter, over, pairs, range}
+use Rattle.theory_names.specs.Names.{hangs, plain}
 use Rattle.call_sizes.specs.Refusal.{Refusal, Row, firstFault, row, seek, shortRows, badEnds, badStart}
 use Rattle.call_sizes.specs.Sizes.{sizeFaults}
 use Rattle.theory_timeline.specs.Events.{Event, SegmentSet, asks, kindOf}
@@ -17,10 +19,17 @@ use Rattle.theory_timeline.specs.declared.Kind.the-variants.{Closes, Not
 -- ---- what a replay finds
 -- the answer byte of event i: 3 where it opens or closes, else the answer over the roads open before it, each of them one edge
 unfoldable pub byte : Timeline → ℕ → ℕ
-byte g i = cond (asks (event g i)) (answer (openGraph g i) (event g i .0) (event g i .1)) 3
+byte g i = cond (asks (event g i)) (answer (plain (openGraph g i)) (event g i .0) (event g i .1)) 3
 
 unfoldable pub bytes : Timeline → List ℕ
 bytes g = map (byte g) (range 0 (size g))
+
+-- the name that event i gets: "at a query with answer 1, the smallest name of an open road whose loss parts the two junctions; at every other event 65,535"
+unfoldable pub nameAt : Timeline → ℕ → ℕ
+nameAt g i = cond (asks (event g i)) (hangs (openGraph g i) (event g i .0) (event g i .1)) 65535
+
+unfoldable pub namesAt : Timeline → List ℕ
+namesAt g = map (nameAt g) (range 0 (size g))
 
 -- the queries, and the segments open at the end
 unfoldable pub queries : Timeline → ℕ
@@ -40,6 +49,7 @@ pub record Lent : Type 0 where
   pub x : List ℕ
   pub y : List ℕ
   pub answers : List ℕ
+  pub names : List ℕ
   pub work : List ℕ
 
 -- the network and the list that count: entries past the sizes are ignored
@@ -78,6 +88,7 @@ tableLengths l =
     ∷ (length (l .x), l .t)
     ∷ (length (l .y), l .t)
     ∷ (length (l .answers), l .t)
+    ∷ (length (l .names), l .t)
     ∷ (length (l .work), required (l .t) (l .n) (l .m))
     ∷ []
 
@@ -118,6 +129,7 @@ pub record Outcome : Type 0 where
   pub kept : ℕ
   -- the tables that may be written; the others are only read
   pub answers : List ℕ
+  pub names : List ℕ
   pub work : List ℕ
 
 unfoldable pub done : Lent → ℕ → Outcome
@@ -129,11 +141,22 @@ done l p = record {
   opened = openAtEnd (given l);
   kept = kept (given l) p;
   answers = over (bytes (given l)) (l .answers);
+  names = over (namesAt (given l)) (l .names);
   work = over (replicate (required (l .t) (l .n) (l .m)) 0) (l .work);
 }
 
 unfoldable pub refused : Lent → Refusal → Outcome
-refused l f = record { accepted = false; code = f .0; place = f .1; queries = 0; opened = 0; kept = 0; answers = l .answers; work = l .work }
+refused l f = record {
+  accepted = false;
+  code = f .0;
+  place = f .1;
+  queries = 0;
+  opened = 0;
+  kept = 0;
+  answers = l .answers;
+  names = l .names;
+  work = l .work;
+}
 
 -- the outcome that a call with these sizes, tables and share must have
 unfoldable pub replay : Lent → ℕ → Outcome

@@ -6,8 +6,9 @@ use mathlib.Core.List.{List, _++_, map}
 use mathlib.Core.Path.{_≡_}
 use lib.Dec.{ltb}
 use lib.ListN.{length}
-use Rattle.theory_graph.specs.Graph.{Edge}
-use Rattle.theory_graph.specs.SmallGraph.{IsSmallGraph, endsIn, image}
+use Rattle.theory_graph.specs.SmallGraph.{endsIn}
+use Rattle.theory_names.specs.Names.{Named}
+use Rattle.theory_names.specs.NamedSmallGraph.{IsNamedSmallGraph, imageNamed}
 use Rattle.theory_timeline.specs.Events.{after, namedRoads}
 use Rattle.theory_timeline.specs.Replay.{eventFault}
 use Rattle.theory_timeline.specs.Windows.{Timeline, Window, active, during, edgesOf, event, network, openBefore, roadsBefore, size}
@@ -24,13 +25,13 @@ pub record Part (w c : Window) : Type 0 where
   pub after : w .0 ≤ c .0
   pub before : c .0 + c .1 ≤ w .0 + w .1
 
--- the roads that w names a segment of, c does not, and that are open before c: one edge each
-unfoldable pub added : Timeline → Window → Window → List Edge
+-- the roads that w names a segment of, c does not, and that are open before c: one edge each, with its name
+unfoldable pub added : Timeline → Window → Window → Named
 added g w c = edgesOf g (λ r. roadsBefore g (c .0) r && (namedRoads (g .segments) (during g w) r && not (namedRoads (g .segments) (during g c) r)))
 
--- A graph of n nodes with the edges H, in which junction a stands at σ a, is made for a window:
+-- A graph of n nodes with the named edges H, in which junction a stands at σ a, is made for a window:
 -- for the whole list out of its network, for a part out of the graph above it and the added roads.
-pub data Made (g : Timeline) : Window → ℕ → List Edge → (ℕ → ℕ) → Type 0 where
-  top : {n : ℕ} {H : List Edge} {σ : ℕ → ℕ} (ρ : ℕ → ℕ) → IsSmallGraph (network g (0, size g)) (active g (0, size g)) n H ρ σ → Made g (0, size g) n H σ
-  down : {w : Window} {n : ℕ} {H : List Edge} {σ : ℕ → ℕ} {c : Window} {n′ : ℕ} {H′ : List Edge} {σ′ : ℕ → ℕ} → Made g w n H σ → Part w c
-      → (ρ′ : ℕ → ℕ) → IsSmallGraph (H ++ image σ (added g w c)) (map σ (active g c)) n′ H′ ρ′ σ′ → Made g c n′ H′ (λ a. σ′ (σ a))
+pub data Made (g : Timeline) : Window → ℕ → Named → (ℕ → ℕ) → Type 0 where
+  top : {n : ℕ} {H : Named} {σ : ℕ → ℕ} (ρ : ℕ → ℕ) → IsNamedSmallGraph (network g (0, size g)) (active g (0, size g)) n H ρ σ → Made g (0, size g) n H σ
+  down : {w : Window} {n : ℕ} {H : Named} {σ : ℕ → ℕ} {c : Window} {n′ : ℕ} {H′ : Named} {σ′ : ℕ → ℕ} → Made g w n H σ → Part w c
+      → (ρ′ : ℕ → ℕ) → IsNamedSmallGraph (H ++ imageNamed σ (added g w c)) (map σ (active g c)) n′ H′ ρ′ σ′ → Made g c n′ H′ (λ a. σ′ (σ a))

@@ -10,6 +10,7 @@ use lib.ListN.{length}
 use Rattle.call_sizes.specs.Refusal.{seek}
 use Rattle.theory_graph.specs.Graph.{Edge}
 use Rattle.theory_graph.specs.Lists.{filter, range}
+use Rattle.theory_names.specs.Names.{Entry, Named}
 use Rattle.theory_timeline.specs.Events.{SegmentSet, asks, ends, namesRoad}
 use Rattle.theory_timeline.specs.Roads.{road}
 use Rattle.theory_timeline.specs.Windows.{Timeline, Window, event, openBefore, roadsBefore, size}
@@ -63,6 +64,9 @@ eventWords g i (suc n) = word g 0 i ∷ word g 1 i ∷ word g 2 i ∷ eventWords
 
 -- ---- what a step adds
 -- what a tag says
+abbrev pub keyOf : ℕ → ℕ
+keyOf t = (t - 1) / 4
+
 abbrev pub wasOpen : ℕ → Bool
 wasOpen t = eqb ((t - 1) / 2 % 2) 1
 
@@ -78,11 +82,15 @@ adds w c i t x y = ltb 0 t && cond (ltb i (c .0)) (leb (c .0 + c .1) x && isOpen
 abbrev pub addsEvent : Timeline → Window → Window → ℕ → Bool
 addsEvent g w c i = adds w c i (word g 0 i) (word g 1 i) (word g 2 i)
 
--- of n events from i on, the edges of those that pass
-abbrev pub pickEvents : (ℕ → Bool) → (ℕ → Edge) → ℕ → ℕ → List Edge
+-- of n events from i on, the entries of those that pass
+abbrev pub pickEvents : (ℕ → Bool) → (ℕ → Entry) → ℕ → ℕ → Named
 pickEvents f E i zero = []
 pickEvents f E i (suc n) = cond (f i) (E i ∷ pickEvents f E (suc i) n) (pickEvents f E (suc i) n)
 
 -- the two junctions of event i
 abbrev pub endsAt : Timeline → ℕ → Edge
 endsAt g i = ends (g .segments) (event g i)
+
+-- the edge between them, with the key of event i as its name
+abbrev pub entryAt : Timeline → ℕ → Entry
+entryAt g i = (endsAt g i, key g i)

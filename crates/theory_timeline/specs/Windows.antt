@@ -8,6 +8,7 @@ use lib.ListN.{drop, getD, length, take}
 use Rattle.theory_graph.specs.Contraction.{Contracted, contract, number}
 use Rattle.theory_graph.specs.Graph.{Edge}
 use Rattle.theory_graph.specs.Lists.{sum}
+use Rattle.theory_names.specs.Names.{Named, contractNamed, plain}
 use Rattle.theory_timeline.specs.Events.{Event, SegmentSet, activeOf, afterAll, networkOf, openRoads, pick}
 
 -- a network, the segments open at the start, and the list of events
@@ -31,15 +32,15 @@ atStart start s = eqb (getD start s 0) 1
 unfoldable pub openBefore : Timeline → ℕ → SegmentSet
 openBefore g i = afterAll (take i (g .events)) (g .start)
 
--- the edges of a set of segments, or of roads by their names
-abbrev pub edgesOf : Timeline → SegmentSet → List Edge
+-- the edges of a set of segments, or of roads by their names, each with its number as its name
+abbrev pub edgesOf : Timeline → SegmentSet → Named
 edgesOf g o = pick o 0 (g .segments)
 
--- the roads open before event i, and the graph of what is open then: one edge for each open road, in ascending order of their names
+-- the roads open before event i, and the graph of what is open then: one edge for each open road, in ascending order of their names, and with them
 abbrev pub roadsBefore : Timeline → ℕ → SegmentSet
 roadsBefore g i = openRoads (g .segments) (openBefore g i)
 
-abbrev pub openGraph : Timeline → ℕ → List Edge
+abbrev pub openGraph : Timeline → ℕ → Named
 openGraph g i = edgesOf g (roadsBefore g i)
 
 -- ---- windows
@@ -70,7 +71,7 @@ unfoldable pub during : Timeline → Window → List Event
 during g w = take (w .1) (drop (w .0) (g .events))
 
 -- its network, and its active junctions
-unfoldable pub network : Timeline → Window → List Edge
+unfoldable pub network : Timeline → Window → Named
 network g w = networkOf (g .segments) (during g w) (openBefore g (w .0))
 
 unfoldable pub active : Timeline → Window → List ℕ
@@ -78,10 +79,14 @@ active g w = activeOf (g .segments) (during g w)
 
 -- its small graph, and the node at which a junction stands in it
 unfoldable pub small : Timeline → Window → Contracted
-small g w = contract (g .junctions) (network g w) (active g w)
+small g w = contract (g .junctions) (plain (network g w)) (active g w)
 
 unfoldable pub stands : Timeline → Window → ℕ → ℕ
-stands g w = number (g .junctions) (network g w) (active g w)
+stands g w = number (g .junctions) (plain (network g w)) (active g w)
+
+-- the edges of its small graph with their names: each has the smallest name of a road of the network whose loss parts its two classes
+unfoldable pub smallNamed : Timeline → Window → Named
+smallNamed g w = contractNamed (g .junctions) (network g w) (active g w)
 
 -- kept: the sum of small-graph nodes over all windows
 unfoldable pub kept : Timeline → ℕ → ℕ

@@ -1,0 +1,12 @@
+pub mod NamedCuts
+pub mod Hangs
+pub mod NamedSmallCuts
+pub mod NamedTransfer
+pub mod NamedComposition
+pub mod NamedContraction
+pub mod NamedUniqueness
+pub mod NamedReading
+pub mod Along
+pub mod Trails
+pub mod Published
+pub mod NamedCanonical

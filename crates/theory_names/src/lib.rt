@@ -1,0 +1,1 @@
+// Names on edges: definitions in specs/, laws in proofs/. No code.
