@@ -5,20 +5,21 @@ use mathlib.Core.Bool.{_&&_, true}
 use mathlib.Core.List.{List, List·Memᴰ, [], _++_, _∷_}
 use mathlib.Core.Path.{_∙_, _≡_, ap, ap₂, refl, subst, sym}
 use lib.Dec.{eqb, leb, ltb}
-use lib.ListN.{getD, length}
+use lib.ListN.{getD, length, take}
 use lib.Seq.{length-take-le}
 use native.Mathlib.Omega.{arith}
 use borrow.Author.Tests.{eq-eqb, eqb-false, eqb-true, leb-false, lt-ltb, ltb-false, ne-eqb}
 use Rattle.call_sizes.proofs.RefusalLaws.{accepted-long, fault-silent, numbered-append, seek-none, short-numbered, silent-fault, silent-left, silent-right, sizes-numbered}
 use Rattle.call_sizes.specs.Refusal.{Refusal, Row, badEnds, firstFault, row, seek}
 use Rattle.call_sizes.specs.Sizes.{sizeFaults}
-use Rattle.theory_contraction.specs.Contraction.{Faultless, Lent, Outcome, badEntry, contraction, done, edges, entries, fault, faults, refused, required}
+use Rattle.theory_contraction.specs.Contraction.{Faultless, Lent, Outcome, badEntry, contraction, done, edges, entries, fault, faults, namedEdges, refused, required}
 use Rattle.theory_contraction.specs.Contraction.{shortTables, tableLengths}
 use Rattle.theory_graph.proofs.Booleans.{contradict, onBool, or-neither}
-use Rattle.theory_graph.proofs.Lists.{table-in, table-mem}
-use Rattle.theory_graph.proofs.TableLaws.{pairs-table, take-table}
+use Rattle.theory_graph.proofs.Lists.{table-in, table-length, table-mem}
+use Rattle.theory_graph.proofs.TableLaws.{pairs-first, pairs-table, take-table}
 use Rattle.theory_graph.specs.Lists.{table}
 use Rattle.theory_graph.specs.SmallGraph.{endsIn}
+use Rattle.theory_names.specs.Names.{plain}
 
 -- ---- the rows of the call
 -- what the sizes' check leaves
@@ -31,10 +32,12 @@ pub record Within (n m k : ℕ) : Type 0 where
 pub record LongTables (l : Lent) : Type 0 where
   pub from-length : l .m ≤ length (l .from)
   pub to-length : l .m ≤ length (l .to)
+  pub names-length : l .m ≤ length (l .names)
   pub active-length : l .k ≤ length (l .active)
   pub map-length : l .k ≤ length (l .map)
   pub out-from-length : 2 * l .k ≤ length (l .outFrom)
   pub out-to-length : 2 * l .k ≤ length (l .outTo)
+  pub out-names-length : 2 * l .k ≤ length (l .outNames)
   pub pieces-length : l .k ≤ length (l .pieces)
   pub work-length : required (l .n) (l .m) ≤ length (l .work)
 
@@ -52,14 +55,16 @@ sizes-within {n} {m} {k} e z =
 
 pub lengths-long : (l : Lent) {c p : ℕ} → (c, p) ≡ firstFault (shortTables l) → c ≡ 0 → LongTables l
 lengths-long l e z =
-    let (from, (to, (active, (map, (outFrom, (outTo, (pieces, (work, _)))))))) = accepted-long (tableLengths l) (sym (ap (λ (f : Refusal). f .0) e) ∙ z) in
+    let (from, (to, (names, (active, (map, (outFrom, (outTo, (outNames, (pieces, (work, _)))))))))) = accepted-long (tableLengths l) (sym (ap (λ (f : Refusal). f .0) e) ∙ z) in
     record {
       from-length = from;
       to-length = to;
+      names-length = names;
       active-length = active;
       map-length = map;
       out-from-length = outFrom;
       out-to-length = outTo;
+      out-names-length = outNames;
       pieces-length = pieces;
       work-length = work;
     }
@@ -122,6 +127,13 @@ module _ (l : Lent) (s : Accepted l) where
   edges-below =
       ap (endsIn (λ v. ltb v (l .n))) (pairs-table (l .m) (l .from) (l .to) (s .long .from-length) (s .long .to-length))
       ∙ endsIn-table (l .n) (λ i. getD (l .from) i 0) (λ i. getD (l .to) i 0) 0 (l .m) (λ j a b. s .ends j (omega arith))
+
+  -- the edges with their names, without the names, are the edges
+  pub named-plain : plain (namedEdges l) ≡ edges l
+  unfolding namedEdges edges
+  named-plain = pairs-first (edges l) (take (l .m) (l .names))
+      (ap length (pairs-table (l .m) (l .from) (l .to) (s .long .from-length) (s .long .to-length)) ∙ table-length (λ e. (getD (l .from) e 0, getD (l .to) e 0)) 0 (l .m)
+      ∙ sym (length-take-le (l .m) (l .names) (s .long .names-length)))
 
   pub entries-table : entries l ≡ table (λ i. getD (l .active) i 0) 0 (l .k)
   unfolding entries

@@ -29,7 +29,7 @@ pairs-ends (e ∷ E) = ap (λ (l : List Edge). e ∷ l) (pairs-ends E)
 -- ---- an example: edges 0-2 and 1-3; the entries 3, 0, 1, 2 meet the two pieces in turn, and node 3's is the first
 two-pieces : Lent
 two-pieces =
-    lent 4 2 4 (0 ∷ 1 ∷ []) (2 ∷ 3 ∷ []) (3 ∷ 0 ∷ 1 ∷ 2 ∷ []) (replicate 4 9) (replicate 8 9) (replicate 8 9) (replicate 5 9) (replicate (required 4 2) 7)
+    lent 4 2 4 (0 ∷ 1 ∷ []) (2 ∷ 3 ∷ []) (5 ∷ 6 ∷ []) (3 ∷ 0 ∷ 1 ∷ 2 ∷ []) (replicate 4 9) (replicate 8 9) (replicate 8 9) (replicate 8 9) (replicate 5 9) (replicate (required 4 2) 7)
 
 example : contraction two-pieces .pieces ≡ 0 ∷ 1 ∷ 0 ∷ 1 ∷ 9 ∷ []
 unfolding two-pieces contraction fault faults done edges entries pieces numbered joined rep

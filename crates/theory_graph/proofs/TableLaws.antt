@@ -10,7 +10,6 @@ use native.Mathlib.Nat.{add-zero}
 use native.Mathlib.Numerals.{add-one}
 use native.Mathlib.Omega.{arith}
 use Rattle.theory_graph.proofs.Lists.{table-length}
-use Rattle.theory_graph.specs.Graph.{Edge}
 use Rattle.theory_graph.specs.Lists.{over, pairs, table}
 
 -- ---- table
@@ -49,18 +48,23 @@ pub table-map : {A B : Type 0} (g : A → B) (f : ℕ → A) (i k : ℕ) → map
 table-map g f i zero = refl
 table-map g f i (suc k) = ap (λ l. g (f i) ∷ l) (table-map g f (suc i) k)
 
--- ---- the first entries of a list, and two parallel lists, as tables
+-- ---- the first entries of a list, and parallel lists, as tables
 pub take-table : (k : ℕ) (xs : List ℕ) → k ≤ length xs → take k xs ≡ table (λ i. getD xs i 0) 0 k
 take-table zero xs l = refl
 take-table (suc k) [] l = absurd (omega arith)
 take-table (suc k) (x ∷ xs) l = ap (λ t. x ∷ t) (take-table k xs (omega arith) ∙ sym (table-shift (λ i. getD (x ∷ xs) i 0) 0 k))
 
+pub pairs-tables : {A B : Type 0} (f : ℕ → A) (g : ℕ → B) (i k : ℕ) → pairs (table f i k) (table g i k) ≡ table (λ j. (f j, g j)) i k
+pairs-tables f g i zero = refl
+pairs-tables f g i (suc k) = ap (λ l. (f i, g i) ∷ l) (pairs-tables f g (suc i) k)
+
 pub pairs-table : (m : ℕ) (xs ys : List ℕ) → m ≤ length xs → m ≤ length ys → pairs (take m xs) (take m ys) ≡ table (λ e. (getD xs e 0, getD ys e 0)) 0 m
-pairs-table zero xs ys a b = refl
-pairs-table (suc m) [] ys a b = absurd (omega arith)
-pairs-table (suc m) (x ∷ xs) [] a b = absurd (omega arith)
-pairs-table (suc m) (x ∷ xs) (y ∷ ys) a b =
-    ap (λ (t : List Edge). (x, y) ∷ t) (pairs-table m xs ys (omega arith) (omega arith) ∙ sym (table-shift (λ e. (getD (x ∷ xs) e 0, getD (y ∷ ys) e 0)) 0 m))
+pairs-table m xs ys a b = ap₂ pairs (take-table m xs a) (take-table m ys b) ∙ pairs-tables (λ i. getD xs i 0) (λ i. getD ys i 0) 0 m
+
+-- and three, the third beside the pairs of the first two
+pub triples-table : (m : ℕ) (xs ys zs : List ℕ) → m ≤ length xs → m ≤ length ys → m ≤ length zs
+    → pairs (pairs (take m xs) (take m ys)) (take m zs) ≡ table (λ e. ((getD xs e 0, getD ys e 0), getD zs e 0)) 0 m
+triples-table m xs ys zs a b c = ap₂ pairs (pairs-table m xs ys a b) (take-table m zs c) ∙ pairs-tables (λ e. (getD xs e 0, getD ys e 0)) (λ i. getD zs i 0) 0 m
 
 -- ---- two parallel lists
 pub pairs-length : (x y : List ℕ) (n : ℕ) → n ≤ length x → n ≤ length y → n ≤ length (pairs x y)
@@ -68,6 +72,11 @@ pairs-length [] y n a b = a
 pairs-length (x ∷ xs) [] n a b = b
 pairs-length (x ∷ xs) (y ∷ ys) zero a b = omega arith
 pairs-length (x ∷ xs) (y ∷ ys) (suc n) a b = omega (arith, pairs-length xs ys n (omega arith) (omega arith))
+
+pub pairs-first : {A B : Type 0} (xs : List A) (ys : List B) → length xs ≡ length ys → map (λ (e : A × B). e .0) (pairs xs ys) ≡ xs
+pairs-first [] ys e = refl
+pairs-first (x ∷ xs) [] e = absurd (omega arith)
+pairs-first (x ∷ xs) (y ∷ ys) e = ap (λ l. x ∷ l) (pairs-first xs ys (omega arith))
 
 pub pairs-at : (x y : List ℕ) (i : ℕ) → i < length x → i < length y → getD (pairs x y) i (0, 0) ≡ (getD x i 0, getD y i 0)
 pairs-at [] y i a b = absurd (omega arith)

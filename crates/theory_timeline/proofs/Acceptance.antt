@@ -17,6 +17,7 @@ use Rattle.theory_graph.proofs.TableLaws.{pairs-length}
 use Rattle.theory_graph.specs.Graph.{Edge, NodeSet}
 use Rattle.theory_graph.specs.Lists.{pairs}
 use Rattle.theory_graph.specs.SmallGraph.{endsIn}
+use Rattle.theory_names.specs.Names.{plain}
 use Rattle.call_sizes.proofs.RefusalLaws.{Numbered, Silent, fault-silent, numbered-append, seek-found, seek-none}
 use Rattle.call_sizes.proofs.RefusalLaws.{short-long, short-numbered, silent-left, silent-right, sizes-numbered, skip-silent}
 use Rattle.call_sizes.specs.Refusal.{Refusal, Row, firstFault, badEnds, badStart}
@@ -121,11 +122,11 @@ pub record Good (g : Timeline) : Type 0 where
   pub segments : endsIn (λ v. ltb v (g .junctions)) (g .segments) ≡ true
   pub active : (w : Window) (a : ℕ) → List·Memᴰ a (active g w) → a < g .junctions
 
-pub pick-inside : (N : NodeSet) (t : SegmentSet) (i : ℕ) (es : List Edge) → endsIn N es ≡ true → endsIn N (pick t i es) ≡ true
+pub pick-inside : (N : NodeSet) (t : SegmentSet) (i : ℕ) (es : List Edge) → endsIn N es ≡ true → endsIn N (plain (pick t i es)) ≡ true
 pick-inside N t i [] h = refl
 pick-inside N t i (e ∷ es) h = and-elim (N (e .0)) (N (e .1) && endsIn N es) h λ p q. and-elim (N (e .1)) (endsIn N es) q λ r s. go (t i) p r (pick-inside N t (suc i) es s)
   where
-    go : (b : Bool) → N (e .0) ≡ true → N (e .1) ≡ true → endsIn N (pick t (suc i) es) ≡ true → endsIn N (cond b (e ∷ pick t (suc i) es) (pick t (suc i) es)) ≡ true
+    go : (b : Bool) → N (e .0) ≡ true → N (e .1) ≡ true → endsIn N (plain (pick t (suc i) es)) ≡ true → endsIn N (plain (cond b ((e, i) ∷ pick t (suc i) es) (pick t (suc i) es))) ≡ true
     go true p r s = ap₂ _&&_ p (ap₂ _&&_ r s)
     go false p r s = s
 
@@ -198,6 +199,7 @@ pub record Accepted (l : Lent) (p : ℕ) : Type 0 where
   pub x-long : l .t ≤ length (l .x)
   pub y-long : l .t ≤ length (l .y)
   pub answers-long : l .t ≤ length (l .answers)
+  pub names-long : l .t ≤ length (l .names)
   pub work-long : required (l .t) (l .n) (l .m) ≤ length (l .work)
   pub share : Allowed p
   pub ends-fit : (s : ℕ) → s < l .m → badEnds (l .n) (l .a) (l .b) s ≡ false
@@ -224,7 +226,7 @@ accepted-from l p h =
     let s = fault-silent (faults l p) (faults-numbered l p) h in
     let a = silent-left (sizeFaults (l .n) (l .m) (l .t) 0) (shortTables l ++ shareFaults p ++ listFaults l) s in
     let r = silent-right (sizeFaults (l .n) (l .m) (l .t) 0) (shortTables l ++ shareFaults p ++ listFaults l) s in
-    let (la, (lb, (ls, (lx, (ly, (lr, (lw, _))))))) = short-long (tableLengths l) .0 (silent-left (shortTables l) (shareFaults p ++ listFaults l) r) in
+    let (la, (lb, (ls, (lx, (ly, (lr, (ln, (lw, _)))))))) = short-long (tableLengths l) .0 (silent-left (shortTables l) (shareFaults p ++ listFaults l) r) in
     let q = silent-right (shortTables l) (shareFaults p ++ listFaults l) r in
     let c = silent-left (shareFaults p) (listFaults l) q in
     let e = silent-right (shareFaults p) (listFaults l) q in
@@ -238,6 +240,7 @@ accepted-from l p h =
       x-long = lx;
       y-long = ly;
       answers-long = lr;
+      names-long = ln;
       work-long = lw;
       share = (ltb-false p 4 (c .0), ltb-false 12 p (c .1 .0));
       ends-fit = λ s k. seek-none (badEnds (l .n) (l .a) (l .b)) (l .m) s (e .0) k;

@@ -21,15 +21,20 @@ use Rattle.theory_graph.specs.Contraction.{contract, keptClasses, number}
 use Rattle.theory_graph.specs.Graph.{Edge, answer}
 use Rattle.theory_graph.specs.Lists.{member, pairs, range, sum}
 use Rattle.theory_graph.specs.SmallGraph.{endsIn, image}
+use Rattle.theory_names.proofs.NamedContraction.{contract-is-named-small}
+use Rattle.theory_names.proofs.NamedSmallCuts.{named-small-carries}
+use Rattle.theory_names.proofs.NamedTransfer.{hangs-transfer}
+use Rattle.theory_names.specs.Names.{Named, classNode, hangs, plain}
+use Rattle.theory_names.specs.NamedSmallGraph.{IsNamedSmallGraph, imageNamed}
 use Rattle.call_sizes.specs.Refusal.{Refusal}
 use Rattle.theory_timeline.proofs.Acceptance.{Accepted, Good, accepted-from, accepted-good, events-length, fault-share, pick-inside}
 use Rattle.theory_timeline.proofs.Networks.{network-different}
 use Rattle.theory_timeline.proofs.RoadLaws.{different-answer, different-append}
 use Rattle.theory_timeline.specs.DemandThree.{Alike, Allowed, Among, Demand-3, Demand-3-of-calls, Demand3, Faithful, NewRoads, outcomeOf}
 use Rattle.theory_timeline.specs.Events.{networkOf}
-use Rattle.theory_timeline.specs.Replay.{Lent, Outcome, bytes, done, fault, given, openAtEnd, queries, refused, replay}
+use Rattle.theory_timeline.specs.Replay.{Lent, Outcome, bytes, done, fault, given, namesAt, openAtEnd, queries, refused, replay}
 use Rattle.theory_timeline.specs.Roads.{DifferentRoads}
-use Rattle.theory_timeline.specs.Windows.{Timeline, Window, active, atStart, kept, network, size, small, stands, windows}
+use Rattle.theory_timeline.specs.Windows.{Timeline, Window, active, atStart, kept, network, size, small, smallNamed, stands, windows}
 
 -- ---- one window
 within-among : (S : List ℕ) (F : List Edge) → Among S F → endsIn (member S) F ≡ true
@@ -39,35 +44,51 @@ within-among S (e ∷ F) h =
     ap₂ _&&_ (mem-member (e .0) S p) (ap₂ _&&_ (mem-member (e .1) S q) (within-among S F (λ f m. h f (List·Memᴰ·tail m))))
 
 module _ (g : Timeline) (good : Good g) (w : Window) where
-  pub network-inside : endsIn (λ v. ltb v (g .junctions)) (network g w) ≡ true
+  pub network-inside : endsIn (λ v. ltb v (g .junctions)) (plain (network g w)) ≡ true
   unfolding network networkOf
   network-inside = pick-inside (λ v. ltb v (g .junctions)) _ 0 (g .segments) (good .segments)
 
-  pub small-is : SmallGraph (network g w) (active g w) ((small g w) .nodes) ((small g w) .edges) (entry 0 (keptClasses (g .junctions) (network g w) (active g w))) (stands g w)
+  -- the window's small graph with its names
+  pub named-is : IsNamedSmallGraph (network g w) (active g w) ((small g w) .nodes) (smallNamed g w) (classNode (g .junctions) (network g w) (active g w)) (stands g w)
+  unfolding small smallNamed stands
+  named-is = contract-is-named-small (g .junctions) (network g w) (active g w) network-inside (good .active w)
+
+  -- and without them
+  pub small-is : SmallGraph (plain (network g w)) (active g w) ((small g w) .nodes) ((small g w) .edges) (entry 0 (keptClasses (g .junctions) (plain (network g w)) (active g w)))
+      (stands g w)
   unfolding small contract stands number
-  small-is = contract-small (g .junctions) (network g w) (active g w) network-inside (good .active w)
+  small-is = contract-small (g .junctions) (plain (network g w)) (active g w) network-inside (good .active w)
+
+  -- two active junctions hang on the same name in both, whatever is added
+  pub faithful-names : (F : Named) → Among (active g w) (plain F) → (x y : ℕ) → List·Memᴰ x (active g w) → List·Memᴰ y (active g w)
+      → hangs (network g w ++ F) x y ≡ hangs (smallNamed g w ++ imageNamed (stands g w) F) (stands g w x) (stands g w y)
+  faithful-names F h x y mx my =
+      hangs-transfer (network g w) (active g w) ((small g w) .nodes) (smallNamed g w) (classNode (g .junctions) (network g w) (active g w)) (stands g w)
+      (named-small-carries (network g w) (active g w) ((small g w) .nodes) (smallNamed g w) (classNode (g .junctions) (network g w) (active g w)) (stands g w) named-is)
+      F (within-among (active g w) (plain F) h) x y mx my
 
   -- each entry by itself, whatever is added
   pub faithful-entries : (F : List Edge) → Among (active g w) F → (x y : ℕ) → List·Memᴰ x (active g w) → List·Memᴰ y (active g w)
-      → answer (network g w ++ F) x y ≡ answer ((small g w) .edges ++ image (stands g w) F) (stands g w x) (stands g w y)
+      → answer (plain (network g w) ++ F) x y ≡ answer ((small g w) .edges ++ image (stands g w) F) (stands g w x) (stands g w y)
   faithful-entries F h x y mx my =
-      let E = network g w ++ F in
+      let E = plain (network g w) ++ F in
       let H = (small g w) .edges ++ image (stands g w) F in
       answer-is E x y
       ∙ answer-unique H (stands g w x) (stands g w y) (answerByCuts E x y) (answerByCuts H (stands g w x) (stands g w y))
-      (answer-transfer (network g w) (active g w) ((small g w) .nodes) ((small g w) .edges) _ (stands g w) (small-carries _ _ _ _ _ _ small-is) F
+      (answer-transfer (plain (network g w)) (active g w) ((small g w) .nodes) ((small g w) .edges) _ (stands g w) (small-carries _ _ _ _ _ _ small-is) F
       (within-among (active g w) F h) x y (answerByCuts E x y) mx my .0 (answerByCuts-is E x y))
       (answerByCuts-is H (stands g w x) (stands g w y))
       ∙ sym (answer-is H (stands g w x) (stands g w y))
 
   -- the network with new roads has one edge for each road: the loss of a road is the removal of an entry
-  pub added-different : (F : List Edge) → NewRoads (network g w) F → DifferentRoads (network g w ++ F)
-  added-different F n = different-append (network g w) F (network-different g w) (n .different) (n .fresh)
+  pub added-different : (F : List Edge) → NewRoads (plain (network g w)) F → DifferentRoads (plain (network g w) ++ F)
+  added-different F n = different-append (plain (network g w)) F (network-different g w) (n .different) (n .fresh)
 
   pub faithful : Faithful g w
   faithful = record {
-    answers = λ F h n x y mx my. different-answer (network g w ++ F) (added-different F n) x y ∙ faithful-entries F h x y mx my;
-    nodes = small-bound (network g w) (active g w) ((small g w) .nodes) ((small g w) .edges) _ (stands g w) small-is;
+    answers = λ F h n x y mx my. different-answer (plain (network g w) ++ F) (added-different F n) x y ∙ faithful-entries F h x y mx my;
+    names = faithful-names;
+    nodes = small-bound (plain (network g w)) (active g w) ((small g w) .nodes) ((small g w) .edges) _ (stands g w) small-is;
   }
 
 -- ---- two replays
@@ -106,6 +127,15 @@ pub answers-first : (l : Lent) (p : ℕ) → Accepted l p → take (l .t) ((done
 unfolding done
 answers-first l p a = take-at (bytes (given l)) (drop (length (bytes (given l))) (l .answers)) (l .t) (bytes-length l p a)
 
+-- and of the name table the names
+pub names-length : (l : Lent) (p : ℕ) → Accepted l p → length (namesAt (given l)) ≡ l .t
+unfolding namesAt
+names-length l p a = length-map (range 0 (size (given l))) _ ∙ range-length 0 (size (given l)) ∙ events-length l p a
+
+pub names-first : (l : Lent) (p : ℕ) → Accepted l p → take (l .t) ((done l p) .names) ≡ namesAt (given l)
+unfolding done
+names-first l p a = take-at (namesAt (given l)) (drop (length (namesAt (given l))) (l .names)) (l .t) (names-length l p a)
+
 alike-given : (l k : Lent) → Alike l k → given l ≡ given k
 unfolding given
 alike-given l k h = λ i. record { junctions = h .n i; segments = pairs (h .a i) (h .b i); start = atStart (h .start i); events = pairs (h .x i) (h .y i) }
@@ -117,9 +147,9 @@ code-done l p = refl
 share-done : (l : Lent) (p q : ℕ) → Allowed p → Allowed q → (replay l p) .code ≡ 0 → (replay l q) .code ≡ 0
 share-done l p q a b h = ap (λ (r : Outcome). r .code) (accepted-done l q (ap (λ (v : Refusal). v .0) (sym (fault-share l p q a b)) ∙ done-verdict l p h)) ∙ code-done l q
 
-share-tables : (l : Lent) (p q : ℕ) → ((done l p) .answers ≡ (done l q) .answers) × ((done l p) .work ≡ (done l q) .work)
+share-tables : (l : Lent) (p q : ℕ) → ((done l p) .answers ≡ (done l q) .answers) × ((done l p) .names ≡ (done l q) .names) × ((done l p) .work ≡ (done l q) .work)
 unfolding done
-share-tables l p q = (refl, refl)
+share-tables l p q = (refl, refl, refl)
 
 both : (l k : Lent) (p q : ℕ) → Allowed p → Allowed q → Demand3 l k p q (replay l p) (replay k q)
 unfolding kept done
@@ -133,21 +163,26 @@ both l k p q a b =
           let g = alike-given l k s in (
             ap (λ (r : Outcome). take (l .t) (r .answers)) e ∙ answers-first l p c ∙ ap bytes g ∙ sym (answers-first k q d)
                 ∙ ap (λ (t : ℕ). take t ((done k q) .answers)) (sym (s .t)) ∙ ap (λ (r : Outcome). take (l .t) (r .answers)) (sym f),
+            ap (λ (r : Outcome). take (l .t) (r .names)) e ∙ names-first l p c ∙ ap namesAt g ∙ sym (names-first k q d)
+                ∙ ap (λ (t : ℕ). take t ((done k q) .names)) (sym (s .t)) ∙ ap (λ (r : Outcome). take (l .t) (r .names)) (sym f),
             ap (λ (r : Outcome). r .queries) e ∙ ap queries g ∙ ap (λ (r : Outcome). r .queries) (sym f),
             ap (λ (r : Outcome). r .opened) e ∙ ap openAtEnd g ∙ ap (λ (r : Outcome). r .opened) (sym f),
           );
       tables = λ e. subst (λ (k : Lent). ((replay l p) .code ≡ 0 ↔ (replay k q) .code ≡ 0)
-          × ((replay l p) .code ≡ 0 → ((replay l p) .answers ≡ (replay k q) .answers) × ((replay l p) .work ≡ (replay k q) .work))) e same;
+          × ((replay l p) .code ≡ 0 → ((replay l p) .answers ≡ (replay k q) .answers) × ((replay l p) .names ≡ (replay k q) .names) × ((replay l p) .work ≡ (replay k q) .work))) e same;
     }
   where
-    same : ((replay l p) .code ≡ 0 ↔ (replay l q) .code ≡ 0) × ((replay l p) .code ≡ 0 → ((replay l p) .answers ≡ (replay l q) .answers) × ((replay l p) .work ≡ (replay l q) .work))
+    same : ((replay l p) .code ≡ 0 ↔ (replay l q) .code ≡ 0) × ((replay l p) .code ≡ 0 → ((replay l p) .answers ≡ (replay l q) .answers) × ((replay l p) .names ≡ (replay l q) .names) × ((replay l p) .work ≡ (replay l q) .work))
     same = (
       (share-done l p q a b, share-done l q p b a),
       λ h.
           let e = replay-done l p h .0 in
           let f = replay-done l q (share-done l p q a b h) .0 in
-          let (x, y) = share-tables l p q in
-          (ap (λ (r : Outcome). r .answers) e ∙ x ∙ ap (λ (r : Outcome). r .answers) (sym f), ap (λ (r : Outcome). r .work) e ∙ y ∙ ap (λ (r : Outcome). r .work) (sym f)),
+          let (x, y, z) = share-tables l p q in (
+            ap (λ (r : Outcome). r .answers) e ∙ x ∙ ap (λ (r : Outcome). r .answers) (sym f),
+            ap (λ (r : Outcome). r .names) e ∙ y ∙ ap (λ (r : Outcome). r .names) (sym f),
+            ap (λ (r : Outcome). r .work) e ∙ z ∙ ap (λ (r : Outcome). r .work) (sym f),
+          ),
     )
 
 -- ---- the theorem

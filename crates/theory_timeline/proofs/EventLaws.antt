@@ -11,10 +11,10 @@ use native.Mathlib.Omega.{arith}
 use borrow.Author.Tests.{eq-eqb, eqb-true}
 use Rattle.theory_graph.proofs.Booleans.{and-elim, contradict, onBool, or-elim}
 use Rattle.theory_graph.proofs.Lists.{here}
-use Rattle.theory_graph.specs.Cut.{cut}
 use Rattle.theory_graph.specs.Graph.{Edge, NodeSet}
 use Rattle.theory_graph.specs.Lists.{any, range}
 use Rattle.theory_graph.specs.SmallGraph.{endsIn}
+use Rattle.theory_names.specs.Names.{Named, plain, weigh}
 use Rattle.theory_timeline.specs.Events.{Event, SegmentSet, activeOf, after, afterAll, closes, ends, named, namedRoads, names, namesRoad, openRoads, opens, pick}
 use Rattle.theory_timeline.specs.Roads.{road}
 
@@ -28,13 +28,13 @@ after-stays (e ∷ evs) o s h = go (names e s) refl h (after-stays evs (after e 
     go true p h rest = contradict refl h
     go false p h rest = rest h ∙ ap (λ b. cond b (opens e) (o s)) p
 
-pub pick-sum : (U : NodeSet) (t a b : NodeSet) → ((s : ℕ) → ((a s ≡ t s) × (b s ≡ false)) ⊎ ((a s ≡ false) × (b s ≡ t s))) → (i : ℕ) (es : List Edge)
-    → cut U (pick t i es) ≡ cut U (pick a i es) + cut U (pick b i es)
-pick-sum U t a b k i [] = refl
-pick-sum U t a b k i (e ∷ es) = go (t i) (a i) (b i) (k i) (pick-sum U t a b k (suc i) es)
+pub pick-sum : (φ : ℕ → ℕ) (U : NodeSet) (t a b : NodeSet) → ((s : ℕ) → ((a s ≡ t s) × (b s ≡ false)) ⊎ ((a s ≡ false) × (b s ≡ t s))) → (i : ℕ) (es : List Edge)
+    → weigh φ U (pick t i es) ≡ weigh φ U (pick a i es) + weigh φ U (pick b i es)
+pick-sum φ U t a b k i [] = refl
+pick-sum φ U t a b k i (e ∷ es) = go (t i) (a i) (b i) (k i) (pick-sum φ U t a b k (suc i) es)
   where
-    go : (x y z : Bool) → ((y ≡ x) × (z ≡ false)) ⊎ ((y ≡ false) × (z ≡ x)) → cut U (pick t (suc i) es) ≡ cut U (pick a (suc i) es) + cut U (pick b (suc i) es)
-        → cut U (cond x (e ∷ pick t (suc i) es) (pick t (suc i) es)) ≡ cut U (cond y (e ∷ pick a (suc i) es) (pick a (suc i) es)) + cut U (cond z (e ∷ pick b (suc i) es) (pick b (suc i) es))
+    go : (x y z : Bool) → ((y ≡ x) × (z ≡ false)) ⊎ ((y ≡ false) × (z ≡ x)) → weigh φ U (pick t (suc i) es) ≡ weigh φ U (pick a (suc i) es) + weigh φ U (pick b (suc i) es)
+        → weigh φ U (cond x ((e, i) ∷ pick t (suc i) es) (pick t (suc i) es)) ≡ weigh φ U (cond y ((e, i) ∷ pick a (suc i) es) (pick a (suc i) es)) + weigh φ U (cond z ((e, i) ∷ pick b (suc i) es) (pick b (suc i) es))
     go true true true (inl (p, q)) h = contradict refl q
     go true true true (inr (p, q)) h = contradict refl p
     go true true false m h = omega arith
@@ -48,7 +48,7 @@ pick-sum U t a b k i (e ∷ es) = go (t i) (a i) (b i) (k i) (pick-sum U t a b k
     go false false false m h = h
 
 pub pick-within : (N : NodeSet) (t : NodeSet) (f : ℕ → Edge) (i : ℕ) (es : List Edge) → ((k : ℕ) → getD es k (0, 0) ≡ f (i + k))
-    → ((s : ℕ) → t s ≡ true → (N (f s .0) ≡ true) × (N (f s .1) ≡ true)) → endsIn N (pick t i es) ≡ true
+    → ((s : ℕ) → t s ≡ true → (N (f s .0) ≡ true) × (N (f s .1) ≡ true)) → endsIn N (plain (pick t i es)) ≡ true
 pick-within N t f i [] g h = refl
 pick-within N t f i (e ∷ es) g h = go (t i) refl (pick-within N t f (suc i) es (λ k. g (suc k) ∙ ap f (shift k)) h)
   where
@@ -58,7 +58,7 @@ pick-within N t f i (e ∷ es) g h = go (t i) refl (pick-within N t f (suc i) es
     here : e ≡ f i
     here = let z : i + 0 ≡ i = omega arith in g 0 ∙ ap f z
 
-    go : (b : Bool) → t i ≡ b → endsIn N (pick t (suc i) es) ≡ true → endsIn N (cond b (e ∷ pick t (suc i) es) (pick t (suc i) es)) ≡ true
+    go : (b : Bool) → t i ≡ b → endsIn N (plain (pick t (suc i) es)) ≡ true → endsIn N (plain (cond b ((e, i) ∷ pick t (suc i) es) (pick t (suc i) es))) ≡ true
     go true p r = let (a, b) = h i p in ap₂ _&&_ (ap (λ (e : Edge). N (e .0)) here ∙ a) (ap₂ _&&_ (ap (λ (e : Edge). N (e .1)) here ∙ b) r)
     go false p r = r
 
@@ -91,7 +91,7 @@ pick-same t u i [] h = refl
 pick-same t u i (e ∷ es) h =
     let z : i + 0 ≡ i = omega arith in
     let n : (k : ℕ) → i + suc k ≡ suc i + k = λ k. omega arith in
-    ap₂ (λ b l. cond b (e ∷ l) l) (subst (λ (k : ℕ). t k ≡ u k) z (h 0 (omega arith)))
+    ap₂ (λ (b : Bool) (l : Named). cond b ((e, i) ∷ l) l) (subst (λ (k : ℕ). t k ≡ u k) z (h 0 (omega arith)))
     (pick-same t u (suc i) es (λ k l. subst (λ (j : ℕ). t j ≡ u j) (n k) (h (suc k) (omega arith))))
 
 pub pick-ext : (t u : NodeSet) → ((s : ℕ) → t s ≡ u s) → (i : ℕ) (es : List Edge) → pick t i es ≡ pick u i es

@@ -10,6 +10,7 @@ use Rattle.theory_graph.specs.Contraction.{contract, kept, keptClasses, linked,
 use Rattle.theory_graph.specs.Graph.{Edge, answer, joined, removals, rep, twoEdge}
 use Rattle.theory_graph.specs.Lists.{over}
 use Rattle.theory_graph.specs.SmallGraph.{image}
+use Rattle.theory_names.specs.Names.{classNode, contractNamed, hangs, plain}
 use Rattle.theory_timeline.proofs.DemandThree.{demand-3, demand-3-of-calls}
 use Rattle.theory_timeline.specs.DemandThree.{Among, Call, Demand3, Promised, outcomeOf}
 use Rattle.theory_timeline.specs.Events.{activeOf, networkOf, openRoads}
@@ -31,6 +32,7 @@ triangle = record {
   x = 65535 ∷ 65535 ∷ 0 ∷ 65535 ∷ 0 ∷ [];
   y = 0 ∷ 1 ∷ 2 ∷ 2 ∷ 2 ∷ [];
   answers = replicate 5 9;
+  names = replicate 6 9;
   work = replicate 4096 7;
 }
 
@@ -39,7 +41,7 @@ both = demand-3 triangle triangle 8 12 (omega arith, omega arith) (omega arith, 
 
 accepted : (replay triangle 8) .code ≡ 0
 unfolding rep joined removals twoEdge answer without parts kept third linked keptClasses number contract activeOf road openRoads networkOf W.openBefore W.windowsFrom W.windows
-    W.during W.network W.active W.small W.stands W.kept R.byte R.bytes R.queries R.openAtEnd R.given R.eventFault R.faultAt R.listFaults R.faults R.fault R.done R.refused R.replay
+    W.during W.network W.active W.small W.smallNamed W.stands W.kept hangs classNode contractNamed R.byte R.bytes R.nameAt R.namesAt R.queries R.openAtEnd R.given R.eventFault R.faultAt R.listFaults R.faults R.fault R.done R.refused R.replay
 accepted = refl
 
 -- events 2 to 4 are a window: with the share 8 the second part of the whole list
@@ -48,11 +50,11 @@ unfolding W.windows W.windowsFrom
 window = List·Memᴰ·tail (List·Memᴰ·tail (List·Memᴰ·tail (List·Memᴰ·tail (List·Memᴰ·head refl))))
 
 -- the network of this window has the roads 0-1 and 1-2
-roads : network (given triangle) (2, 3) ≡ (0, 1) ∷ (1, 2) ∷ []
+roads : plain (network (given triangle) (2, 3)) ≡ (0, 1) ∷ (1, 2) ∷ []
 unfolding road openRoads networkOf W.openBefore W.during W.network R.given
 roads = refl
 
-fresh : (e : Edge) → List·Memᴰ e (network (given triangle) (2, 3)) → Apart e ((2, 0) ∷ [])
+fresh : (e : Edge) → List·Memᴰ e (plain (network (given triangle) (2, 3))) → Apart e ((2, 0) ∷ [])
 fresh e m f (List·Memᴰ·head q) = ap (sameEnds e) q ∙ of (subst (λ (E : List Edge). List·Memᴰ e E) roads m)
   where
     of : List·Memᴰ e ((0, 1) ∷ (1, 2) ∷ []) → sameEnds e (2, 0) ≡ false
@@ -60,7 +62,7 @@ fresh e m f (List·Memᴰ·head q) = ap (sameEnds e) q ∙ of (subst (λ (E : Li
     of (List·Memᴰ·tail (List·Memᴰ·head p)) = ap (λ e. sameEnds e (2, 0)) p
 
 -- the road 2-0, which this network does not have, makes the same answers in the network and in the small graph
-pub example : roadAnswer (network (given triangle) (2, 3) ++ (2, 0) ∷ []) 0 2
+pub example : roadAnswer (plain (network (given triangle) (2, 3)) ++ (2, 0) ∷ []) 0 2
     ≡ answer ((small (given triangle) (2, 3)) .edges ++ image (stands (given triangle) (2, 3)) ((2, 0) ∷ [])) (stands (given triangle) (2, 3) 0) (stands (given triangle) (2, 3) 2)
 unfolding W.active W.during R.given activeOf
 example =
@@ -79,8 +81,9 @@ unfolding roadAnswer rep joined removals twoEdge answer
 repeated = (refl, refl)
 
 -- with the share 12 it is accepted too, and the tables hold the same afterwards
-pub example-shares : ((replay triangle 12) .code ≡ 0) × ((replay triangle 8) .answers ≡ (replay triangle 12) .answers) × ((replay triangle 8) .work ≡ (replay triangle 12) .work)
-example-shares = let t = both .tables refl in (t .0 .0 accepted, t .1 accepted .0, t .1 accepted .1)
+pub example-shares : ((replay triangle 12) .code ≡ 0) × ((replay triangle 8) .answers ≡ (replay triangle 12) .answers)
+    × ((replay triangle 8) .names ≡ (replay triangle 12) .names) × ((replay triangle 8) .work ≡ (replay triangle 12) .work)
+example-shares = let t = both .tables refl in (t .0 .0 accepted, t .1 accepted .0, t .1 accepted .1, t .1 accepted .2)
 
 -- ---- the same of two calls: what `replay` replied to the triangle, with both shares
 abbrev eight : Call
@@ -89,6 +92,7 @@ eight = record {
   lends = triangle;
   reply = Done (record { queries = 2; «open» = 3; kept = 19 });
   answers = 3 ∷ 3 ∷ 1 ∷ 3 ∷ 2 ∷ [];
+  names = 65535 ∷ 65535 ∷ 0 ∷ 65535 ∷ 65535 ∷ 9 ∷ [];
   work = over (replicate 3448 0) (replicate 4096 7);
 }
 
@@ -98,17 +102,18 @@ twelve = record {
   lends = triangle;
   reply = Done (record { queries = 2; «open» = 3; kept = 20 });
   answers = 3 ∷ 3 ∷ 1 ∷ 3 ∷ 2 ∷ [];
+  names = 65535 ∷ 65535 ∷ 0 ∷ 65535 ∷ 65535 ∷ 9 ∷ [];
   work = over (replicate 3448 0) (replicate 4096 7);
 }
 
 eight-promised : Promised eight
 unfolding rep joined removals twoEdge answer without parts kept third linked keptClasses number contract activeOf road openRoads networkOf W.openBefore W.windowsFrom W.windows
-    W.during W.network W.active W.small W.stands W.kept R.byte R.bytes R.queries R.openAtEnd R.given R.eventFault R.faultAt R.listFaults R.faults R.fault R.done R.refused R.replay
+    W.during W.network W.active W.small W.smallNamed W.stands W.kept hangs classNode contractNamed R.byte R.bytes R.nameAt R.namesAt R.queries R.openAtEnd R.given R.eventFault R.faultAt R.listFaults R.faults R.fault R.done R.refused R.replay
 eight-promised = refl
 
 twelve-promised : Promised twelve
 unfolding rep joined removals twoEdge answer without parts kept third linked keptClasses number contract activeOf road openRoads networkOf W.openBefore W.windowsFrom W.windows
-    W.during W.network W.active W.small W.stands W.kept R.byte R.bytes R.queries R.openAtEnd R.given R.eventFault R.faultAt R.listFaults R.faults R.fault R.done R.refused R.replay
+    W.during W.network W.active W.small W.smallNamed W.stands W.kept hangs classNode contractNamed R.byte R.bytes R.nameAt R.namesAt R.queries R.openAtEnd R.given R.eventFault R.faultAt R.listFaults R.faults R.fault R.done R.refused R.replay
 twelve-promised = refl
 
 pub example-calls : Demand3 triangle triangle 8 12 (outcomeOf eight) (outcomeOf twelve)

@@ -1,8 +1,8 @@
--- Demand 2 at the leaves: at a window of one event that is a query the network is all that is open, and the answer is read off the small graph.
+-- Demand 2 at the leaves: at a window of one event that is a query the network is all that is open, and the answer and the name are read off the small graph.
 -- Assumes nothing.
 use Prim.Native.Nat.{_+_, _<_, suc, zero, ℕ}
 use mathlib.Core.Bool.{Bool, _&&_, _||_, cond, false, not, true}
-use mathlib.Core.List.{List, List·Memᴰ·head, List·Memᴰ·tail, [], _∷_, map}
+use mathlib.Core.List.{List, [], _∷_, map}
 use mathlib.Core.Path.{_∙_, _≡_, ap, refl, subst, sym}
 use lib.Dec.{eqb}
 use lib.ListN.{getD, take}
@@ -10,39 +10,33 @@ use lib.Seq.{drop-cons, getD-take}
 use native.Mathlib.Omega.{arith}
 use borrow.Author.Tests.{not-true}
 use Rattle.theory_graph.proofs.Booleans.{onBool}
-use Rattle.theory_graph.proofs.CutOffs.{answerByCuts}
-use Rattle.theory_graph.proofs.Definitions.{answer-is}
-use Rattle.theory_graph.proofs.Reach.{reach}
-use Rattle.theory_graph.proofs.Reading.{answer-read, read-off}
-use Rattle.theory_graph.proofs.SmallGraphs.{SmallGraph}
-use Rattle.theory_graph.specs.Graph.{Edge, NodeSet, answer, joined, twoEdge}
+use Rattle.theory_graph.specs.Graph.{Edge, answer, joined, twoEdge}
 use Rattle.theory_graph.specs.Lists.{range}
 use Rattle.theory_graph.specs.SmallGraph.{readOff}
+use Rattle.theory_names.proofs.NamedContraction.{contract-plain}
+use Rattle.theory_names.proofs.NamedReading.{hangs-read, named-answer-read}
+use Rattle.theory_names.specs.Names.{Named, hangs, plain}
+use Rattle.theory_names.specs.NamedSmallGraph.{IsNamedSmallGraph, readName}
 use Rattle.theory_timeline.proofs.Acceptance.{Good, accepted-good, events-length}
-use Rattle.theory_timeline.proofs.DemandThree.{answers-first, replay-done, small-is}
+use Rattle.theory_timeline.proofs.DemandThree.{answers-first, named-is, names-first, replay-done}
 use Rattle.theory_timeline.proofs.EventLaws.{pick-ext}
 use Rattle.theory_timeline.proofs.WindowLaws.{windows-leaf}
 use Rattle.theory_timeline.specs.DemandTwo.{Demand2}
-use Rattle.theory_timeline.specs.Events.{Event, activeOf, asks, closes, ends, namedRoads, networkOf, openRoads, opens, pick}
-use Rattle.theory_timeline.specs.Replay.{Lent, Outcome, byte, bytes, given, replay}
+use Rattle.theory_timeline.specs.Events.{Event, SegmentSet, activeOf, asks, closes, ends, namedRoads, networkOf, openRoads, opens, pick}
+use Rattle.theory_timeline.specs.Replay.{Lent, Outcome, byte, bytes, given, nameAt, namesAt, replay}
 use Rattle.theory_timeline.specs.Roads.{road}
-use Rattle.theory_timeline.specs.Windows.{Timeline, active, during, event, network, openBefore, openGraph, size, small}
+use Rattle.theory_timeline.specs.Windows.{Timeline, active, during, event, network, openBefore, openGraph, size, small, smallNamed}
 
-pub query-read : (segs : List Edge) (q : Event) (o : NodeSet) → (opens q || closes q) ≡ false → (h : ℕ) (H : List Edge) (ρ σ : ℕ → ℕ)
-    → SmallGraph (networkOf segs (q ∷ []) o) (activeOf segs (q ∷ [])) h H ρ σ
-    → answerByCuts (pick (openRoads segs o) 0 segs) (q .0) (q .1) ≡ cond (eqb (σ (q .0)) (σ (q .1))) 2 (cond (reach H (σ (q .0)) (σ (q .1))) 1 0)
-unfolding networkOf activeOf
-query-read segs q o n h H ρ σ g =
-    let e : ends segs q ≡ q = ap (λ c. cond c (getD segs (q .1) (0, 0)) q) n in
-    ap (λ E. answerByCuts E (q .0) (q .1)) (pick-ext (openRoads segs o) (λ r. openRoads segs o r && not (namedRoads segs (q ∷ []) r)) same 0 segs)
-    ∙ answer-read (networkOf segs (q ∷ []) o) (activeOf segs (q ∷ [])) h H ρ σ g (q .0) (q .1) (List·Memᴰ·head (ap (λ (e : Edge). e .0) (sym e)))
-    (List·Memᴰ·tail (List·Memᴰ·head (ap (λ (e : Edge). e .1) (sym e))))
+-- a query by itself: its network is all that is open
+query-network : (segs : List Edge) (q : Event) (o : SegmentSet) → (opens q || closes q) ≡ false → networkOf segs (q ∷ []) o ≡ pick (openRoads segs o) 0 segs
+unfolding networkOf
+query-network segs q o n = pick-ext (λ r. openRoads segs o r && not (namedRoads segs (q ∷ []) r)) (openRoads segs o) same 0 segs
   where
-    same : (r : ℕ) → openRoads segs o r ≡ (openRoads segs o r && not (((opens q || closes q) && eqb r (road segs (q .1))) || false))
+    same : (r : ℕ) → (openRoads segs o r && not (((opens q || closes q) && eqb r (road segs (q .1))) || false)) ≡ openRoads segs o r
     same r = go (openRoads segs o r) (eqb r (road segs (q .1)))
       where
-        go : (a c : Bool) → a ≡ (a && not (((opens q || closes q) && c) || false))
-        go true c = sym (ap (λ b. not ((b && c) || false)) n)
+        go : (a c : Bool) → (a && not (((opens q || closes q) && c) || false)) ≡ a
+        go true c = ap (λ b. not ((b && c) || false)) n
         go false c = refl
 
 -- ---- a window of one event
@@ -50,28 +44,41 @@ pub during-one : (g : Timeline) (i : ℕ) → i < size g → during g (i, 1) ≡
 unfolding during
 during-one g i l = ap (take 1) (drop-cons (g .events) i (0, 0) l)
 
--- a query by itself, with the segments of o open
-pub alone : (segs : List Edge) (q : Event) (o : NodeSet) → asks q ≡ true → (k : List Event) → k ≡ q ∷ [] → (h : ℕ) (H : List Edge) (ρ σ : ℕ → ℕ)
-    → SmallGraph (networkOf segs k o) (activeOf segs k) h H ρ σ → answer (pick (openRoads segs o) 0 segs) (q .0) (q .1) ≡ readOff h H
-unfolding activeOf
-alone segs q o a k e h H ρ σ s =
-    let b : (opens q || closes q) ≡ false = not-true (opens q || closes q) a in
-    let t : SmallGraph (networkOf segs (q ∷ []) o) (activeOf segs (q ∷ [])) h H ρ σ = subst (λ (k : List Event). SmallGraph (networkOf segs k o) (activeOf segs k) h H ρ σ) e s in
-    let f : ends segs q ≡ q = ap (λ (c : Bool). cond c (getD segs (q .1) (0, 0)) q) b in
-    answer-is (pick (openRoads segs o) 0 segs) (q .0) (q .1)
-    ∙ query-read segs q o b h H ρ σ t
-    ∙ read-off (networkOf segs (q ∷ []) o) (q .0) (q .1) h H ρ σ (subst (λ (v : Event). SmallGraph (networkOf segs (q ∷ []) o) (v .0 ∷ v .1 ∷ []) h H ρ σ) f t)
+-- a query by itself, with the segments of o open: its answer and its name are read off a small graph of its window
+module _ (segs : List Edge) (q : Event) (o : SegmentSet) (a : asks q ≡ true) (k : List Event) (e : k ≡ q ∷ []) (h : ℕ) (H : Named) (ρ σ : ℕ → ℕ)
+    (s : IsNamedSmallGraph (networkOf segs k o) (activeOf segs k) h H ρ σ) where
+  small-graph : IsNamedSmallGraph (pick (openRoads segs o) 0 segs) (q .0 ∷ q .1 ∷ []) h H ρ σ
+  unfolding activeOf
+  small-graph =
+      let b : (opens q || closes q) ≡ false = not-true (opens q || closes q) a in
+      let t : IsNamedSmallGraph (networkOf segs (q ∷ []) o) (activeOf segs (q ∷ [])) h H ρ σ =
+      subst (λ (k : List Event). IsNamedSmallGraph (networkOf segs k o) (activeOf segs k) h H ρ σ) e s in
+      let f : ends segs q ≡ q = ap (λ (c : Bool). cond c (getD segs (q .1) (0, 0)) q) b in
+      subst (λ (G : Named). IsNamedSmallGraph G (q .0 ∷ q .1 ∷ []) h H ρ σ) (query-network segs q o b)
+      (subst (λ (v : Event). IsNamedSmallGraph (networkOf segs (q ∷ []) o) (v .0 ∷ v .1 ∷ []) h H ρ σ) f t)
 
--- the answer of a query is read off the small graph of its window
-pub leaf : (g : Timeline) → Good g → (i : ℕ) → i < size g → asks (event g i) ≡ true
-    → answer (openGraph g i) (event g i .0) (event g i .1) ≡ readOff ((small g (i, 1)) .nodes) ((small g (i, 1)) .edges)
-unfolding network active
-leaf g good i l a = alone (g .segments) (event g i) (openBefore g i) a (during g (i, 1)) (during-one g i l) ((small g (i, 1)) .nodes) ((small g (i, 1)) .edges) _ _ (small-is g good (i, 1))
+  pub alone : answer (plain (pick (openRoads segs o) 0 segs)) (q .0) (q .1) ≡ readOff h (plain H)
+  alone = named-answer-read (pick (openRoads segs o) 0 segs) (q .0) (q .1) h H ρ σ small-graph
+
+  pub alone-name : hangs (pick (openRoads segs o) 0 segs) (q .0) (q .1) ≡ readName H
+  alone-name = hangs-read (pick (openRoads segs o) 0 segs) (q .0) (q .1) h H ρ σ small-graph
+
+-- at a query's own window
+module _ (g : Timeline) (good : Good g) (i : ℕ) (l : i < size g) (a : asks (event g i) ≡ true) where
+  pub leaf : answer (plain (openGraph g i)) (event g i .0) (event g i .1) ≡ readOff ((small g (i, 1)) .nodes) ((small g (i, 1)) .edges)
+  unfolding network active small smallNamed
+  leaf =
+      alone (g .segments) (event g i) (openBefore g i) a (during g (i, 1)) (during-one g i l) ((small g (i, 1)) .nodes) (smallNamed g (i, 1)) _ _ (named-is g good (i, 1))
+      ∙ ap (readOff ((small g (i, 1)) .nodes)) (contract-plain (g .junctions) (network g (i, 1)) (active g (i, 1)))
+
+  pub leaf-name : hangs (openGraph g i) (event g i .0) (event g i .1) ≡ readName (smallNamed g (i, 1))
+  unfolding network active
+  leaf-name = alone-name (g .segments) (event g i) (openBefore g i) a (during g (i, 1)) (during-one g i l) ((small g (i, 1)) .nodes) (smallNamed g (i, 1)) _ _ (named-is g good (i, 1))
 
 -- a byte is 3 just where its event is no query
 pub byte-asks : (g : Timeline) (i : ℕ) → not (eqb (byte g i) 3) ≡ asks (event g i)
 unfolding byte answer
-byte-asks g i = go (asks (event g i)) (joined (openGraph g i) (event g i .0) (event g i .1)) (twoEdge (openGraph g i) (event g i .0) (event g i .1))
+byte-asks g i = go (asks (event g i)) (joined (plain (openGraph g i)) (event g i .0) (event g i .1)) (twoEdge (plain (openGraph g i)) (event g i .0) (event g i .1))
   where
     go : (a j t : Bool) → not (eqb (cond a (cond j (cond t 2 1) 0) 3) 3) ≡ a
     go true true true = refl
@@ -85,7 +92,7 @@ map-from f (suc k) j zero l = let e : j ≡ j + 0 = omega arith in ap f e
 map-from f (suc k) j (suc i) l = let e : suc j + i ≡ j + suc i = omega arith in map-from f k (suc j) i (omega arith) ∙ ap f e
 
 pub demand-2 : (l : Lent) (p : ℕ) (r : Outcome) → r ≡ replay l p → r .code ≡ 0 → Demand2 l p r
-unfolding bytes byte
+unfolding bytes byte namesAt nameAt
 demand-2 l p r e h =
     let (f, a) = replay-done l p (ap (λ (r : Outcome). r .code) (sym e) ∙ h) in
     let good = accepted-good l p a in
@@ -97,12 +104,22 @@ demand-2 l p r e h =
           sym (getD-take (l .t) (r .answers) i 0 j)
           ∙ ap (λ (r : Outcome). getD (take (l .t) (r .answers)) i 0) (e ∙ f)
           ∙ ap (λ (x : List ℕ). getD x i 0) (answers-first l p a)
-          ∙ at i u
-          ∙ onBool (asks (event (given l) i))
-          (λ q. ap (λ (b : ℕ). cond (asks (event (given l) i)) b 3) (leaf (given l) good i u q))
-          (λ q. ap (λ (b : Bool). cond b (answer (openGraph (given l) i) (event (given l) i .0) (event (given l) i .1)) 3) q
-          ∙ sym (ap (λ (b : Bool). cond b (readOff ((small (given l) (i, 1)) .nodes) ((small (given l) (i, 1)) .edges)) 3) q));
+          ∙ at (byte (given l)) i u
+          ∙ at-query i u 3 (leaf (given l) good i u);
+      name = λ i j.
+          let u : i < size (given l) = omega arith in
+          sym (getD-take (l .t) (r .names) i 0 j)
+          ∙ ap (λ (r : Outcome). getD (take (l .t) (r .names)) i 0) (e ∙ f)
+          ∙ ap (λ (x : List ℕ). getD x i 0) (names-first l p a)
+          ∙ at (nameAt (given l)) i u
+          ∙ at-query i u 65535 (leaf-name (given l) good i u);
     }
   where
-    at : (i : ℕ) → i < size (given l) → getD (bytes (given l)) i 0 ≡ byte (given l) i
-    at i u = let e : 0 + i ≡ i = omega arith in map-from (byte (given l)) (size (given l)) 0 i u ∙ ap (byte (given l)) e
+    at : (f : ℕ → ℕ) (i : ℕ) → i < size (given l) → getD (map f (range 0 (size (given l)))) i 0 ≡ f i
+    at f i u = let e : 0 + i ≡ i = omega arith in map-from f (size (given l)) 0 i u ∙ ap f e
+
+    -- what is the same at a query, and one number at every other event
+    at-query : (i : ℕ) → i < size (given l) → (c : ℕ) {x y : ℕ} → (asks (event (given l) i) ≡ true → x ≡ y) → cond (asks (event (given l) i)) x c ≡ cond (asks (event (given l) i)) y c
+    at-query i u c {x} {y} k = onBool (asks (event (given l) i))
+        (λ q. ap (λ (b : ℕ). cond (asks (event (given l) i)) b c) (k q))
+        (λ q. ap (λ (b : Bool). cond b x c) q ∙ sym (ap (λ (b : Bool). cond b y c) q))

@@ -12,17 +12,16 @@ use lib.Seq.{drop-drop, take-add, take-length, take-nil, take-take}
 use native.Mathlib.Omega.{arith}
 use borrow.Author.Tests.{not-true}
 use Rattle.theory_graph.proofs.Booleans.{and-elim, onBool, or-neither}
-use Rattle.theory_graph.proofs.Composition.{compose}
-use Rattle.theory_graph.proofs.CutEquivalence.{small-cuts-equal}
-use Rattle.theory_graph.proofs.Cuts.{cut-append}
 use Rattle.theory_graph.proofs.Lists.{mem-member}
-use Rattle.theory_graph.proofs.SmallGraphDefinition.{definition-small}
-use Rattle.theory_graph.proofs.SmallGraphs.{SmallGraph}
-use Rattle.theory_graph.proofs.Transfer.{small-carries}
-use Rattle.theory_graph.specs.Cut.{cut}
-use Rattle.theory_graph.specs.Graph.{Edge, NodeSet}
+use Rattle.theory_graph.specs.Graph.{Edge}
 use Rattle.theory_graph.specs.Lists.{member}
-use Rattle.theory_graph.specs.SmallGraph.{Carries, endsIn, image}
+use Rattle.theory_graph.specs.SmallGraph.{endsIn}
+use Rattle.theory_names.proofs.NamedComposition.{named-compose}
+use Rattle.theory_names.proofs.NamedCuts.{weigh-append}
+use Rattle.theory_names.proofs.NamedSmallCuts.{named-small-carries}
+use Rattle.theory_names.proofs.NamedUniqueness.{named-small-equal}
+use Rattle.theory_names.specs.Names.{Named, SameEntries, plain}
+use Rattle.theory_names.specs.NamedSmallGraph.{IsNamedSmallGraph, NamedCarries, imageNamed}
 use Rattle.theory_timeline.proofs.EventLaws.{active-left, active-named, active-right, named-roads-append, pick-sum, pick-within, road-named, roads-stay}
 use Rattle.theory_timeline.proofs.RoadLaws.{ends-in, ends-sym, names-different, open-name, road-same}
 use Rattle.theory_timeline.proofs.WindowLaws.{first-part}
@@ -44,14 +43,14 @@ module _ (segs : List Edge) (pre mid post : List Event) (o : SegmentSet) where
   naming = namedRoads segs
 
   -- the roads that are added
-  unfoldable pub addedOf : List Edge
+  unfoldable pub addedOf : Named
   addedOf = pick (λ r. before r && (naming whole r && not (naming mid r))) 0 segs
 
-  pub networkOf-part : (U : NodeSet) → cut U (networkOf segs whole o ++ addedOf) ≡ cut U (networkOf segs mid (afterAll pre o))
+  pub networkOf-part : SameEntries (networkOf segs whole o ++ addedOf) (networkOf segs mid (afterAll pre o))
   unfolding networkOf addedOf
-  networkOf-part U =
-      cut-append U (networkOf segs whole o) addedOf
-      ∙ sym (pick-sum U (λ r. before r && not (naming mid r)) (λ r. openRoads segs o r && not (naming whole r)) (λ r. before r && (naming whole r && not (naming mid r))) one 0 segs)
+  networkOf-part = record { weights = λ φ U.
+      weigh-append φ U (networkOf segs whole o) addedOf
+      ∙ sym (pick-sum φ U (λ r. before r && not (naming mid r)) (λ r. openRoads segs o r && not (naming whole r)) (λ r. before r && (naming whole r && not (naming mid r))) one 0 segs) }
     where
       one : (r : ℕ) → (((openRoads segs o r && not (naming whole r)) ≡ (before r && not (naming mid r))) × ((before r && (naming whole r && not (naming mid r))) ≡ false))
           ⊎ (((openRoads segs o r && not (naming whole r)) ≡ false) × ((before r && (naming whole r && not (naming mid r))) ≡ (before r && not (naming mid r))))
@@ -64,7 +63,7 @@ module _ (segs : List Edge) (pre mid post : List Event) (o : SegmentSet) where
           inl (ap₂ (λ a b. a && not b) (sym (roads-stay segs pre o r np)) (w ∙ sym nm), ap (λ b. before r && (b && not (naming mid r))) w ∙ and-false (before r)))
 
   -- both ends of an added road are active: it has the ends of the segment that is named
-  pub addedOf-within : endsIn (member (activeOf segs whole)) addedOf ≡ true
+  pub addedOf-within : endsIn (member (activeOf segs whole)) (plain addedOf) ≡ true
   unfolding addedOf
   addedOf-within =
       pick-within (member (activeOf segs whole)) (λ r. before r && (naming whole r && not (naming mid r))) (λ k. getD segs k (0, 0)) 0 segs (λ k. ap (λ n. getD segs n (0, 0)) (plus k)) λ r t.
@@ -138,19 +137,19 @@ module _ (g : Timeline) (w c : Window) (h : Part w c) where
 
   -- ---- the laws of a part
   -- the roads that are open, that the events l name, and that the part does not
-  abbrev moreThan : List Event → SegmentSet → List Edge
+  abbrev moreThan : List Event → SegmentSet → Named
   moreThan l o = pick (λ r. openRoads (g .segments) o r && (namedRoads (g .segments) l r && not (namedRoads (g .segments) (during g c) r))) 0 (g .segments)
 
-  pub network-part : (U : NodeSet) → cut U (network g w ++ added g w c) ≡ cut U (network g c)
+  pub network-part : SameEntries (network g w ++ added g w c) (network g c)
   unfolding network added addedOf
-  network-part U =
-      subst₂ (λ (l : List Event) (o : SegmentSet). cut U (networkOf (g .segments) l (openBefore g (w .0)) ++ moreThan l o) ≡ cut U (networkOf (g .segments) (during g c) o))
-      split opened (networkOf-part (g .segments) pre (during g c) post (openBefore g (w .0)) U)
+  network-part =
+      subst₂ (λ (l : List Event) (o : SegmentSet). SameEntries (networkOf (g .segments) l (openBefore g (w .0)) ++ moreThan l o) (networkOf (g .segments) (during g c) o))
+      split opened (networkOf-part (g .segments) pre (during g c) post (openBefore g (w .0)))
 
-  pub added-active : endsIn (member (active g w)) (added g w c) ≡ true
+  pub added-active : endsIn (member (active g w)) (plain (added g w c)) ≡ true
   unfolding active added addedOf
   added-active =
-      subst₂ (λ (l : List Event) (o : SegmentSet). endsIn (member (activeOf (g .segments) l)) (moreThan l o) ≡ true)
+      subst₂ (λ (l : List Event) (o : SegmentSet). endsIn (member (activeOf (g .segments) l)) (plain (moreThan l o)) ≡ true)
       split opened (addedOf-within (g .segments) pre (during g c) post (openBefore g (w .0)))
 
   pub active-part : (v : ℕ) → List·Memᴰ v (active g c) → List·Memᴰ v (active g w)
@@ -159,12 +158,11 @@ module _ (g : Timeline) (w c : Window) (h : Part w c) where
       subst (λ (l : List Event). List·Memᴰ v (activeOf (g .segments) l)) split (active-right (g .segments) pre (during g c ++ post) v (active-left (g .segments) (during g c) post v m))
 
   -- the step: where a graph carries the window's network, a small graph of it with the added roads is one of the part's network
-  pub part-small : (n : ℕ) (H : List Edge) (ρ σ : ℕ → ℕ) → Carries (network g w) (active g w) n H ρ σ
-      → (n′ : ℕ) (H′ : List Edge) (ρ′ σ′ : ℕ → ℕ) → SmallGraph (H ++ image σ (added g w c)) (map σ (active g c)) n′ H′ ρ′ σ′
-      → SmallGraph (network g c) (active g c) n′ H′ (λ v. ρ (ρ′ v)) (λ a. σ′ (σ a))
+  pub part-small : (n : ℕ) (H : Named) (ρ σ : ℕ → ℕ) → NamedCarries (network g w) (active g w) n H ρ σ
+      → (n′ : ℕ) (H′ : Named) (ρ′ σ′ : ℕ → ℕ) → IsNamedSmallGraph (H ++ imageNamed σ (added g w c)) (map σ (active g c)) n′ H′ ρ′ σ′
+      → IsNamedSmallGraph (network g c) (active g c) n′ H′ (λ v. ρ (ρ′ v)) (λ a. σ′ (σ a))
   part-small n H ρ σ k n′ H′ ρ′ σ′ s =
-      small-cuts-equal _ _ network-part (active g c) n′ H′ _ _
-      (compose (network g w) (active g w) n H ρ σ k (added g w c) added-active (active g c) active-part n′ H′ ρ′ σ′ s)
+      named-small-equal network-part (named-compose (network g w) (active g w) n H ρ σ k (added g w c) added-active (active g c) active-part n′ H′ ρ′ σ′ s)
 
 -- ---- one edge for each road
 module _ (g : Timeline) (w : Window) where
@@ -176,7 +174,7 @@ module _ (g : Timeline) (w : Window) where
   around-name r h = and-elim (openRoads (g .segments) (openBefore g (w .0)) r) (not (namedRoads (g .segments) (during g w) r)) h λ p q.
       (open-name (g .segments) (openBefore g (w .0)) r p .0, not-true (namedRoads (g .segments) (during g w) r) q)
 
-  pub network-different : DifferentRoads (network g w)
+  pub network-different : DifferentRoads (plain (network g w))
   unfolding network networkOf
   network-different = names-different (g .segments) around (λ r h. around-name r h .0)
 
@@ -186,9 +184,8 @@ unfolding network during openBefore
 network-start g = ap (λ (l : List Event). networkOf (g .segments) l (g .start)) (take-length (g .events))
 
 -- ---- down the windows
-pub made-small : {g : Timeline} {w : Window} {n : ℕ} {H : List Edge} {σ : ℕ → ℕ} → Made g w n H σ → (ρ : ℕ → ℕ) × SmallGraph (network g w) (active g w) n H ρ σ
-made-small {g} (top {n = n} {H = H} {σ = σ} ρ s) =
-    (ρ, definition-small (network g (0, size g)) (active g (0, size g)) n H ρ σ s)
+pub made-small : {g : Timeline} {w : Window} {n : ℕ} {H : Named} {σ : ℕ → ℕ} → Made g w n H σ → (ρ : ℕ → ℕ) × IsNamedSmallGraph (network g w) (active g w) n H ρ σ
+made-small (top ρ s) = (ρ, s)
 made-small {g} (down {w = w} {n = n} {H = H} {σ = σ} {c = c} {n′ = n′} {H′ = H′} {σ′ = σ′} m h ρ′ s) =
     let (ρ, t) = made-small m in
-    (λ v. ρ (ρ′ v), part-small g w c h n H ρ σ (small-carries (network g w) (active g w) n H ρ σ t) n′ H′ ρ′ σ′ (definition-small _ _ n′ H′ ρ′ σ′ s))
+    (λ v. ρ (ρ′ v), part-small g w c h n H ρ σ (named-small-carries (network g w) (active g w) n H ρ σ t) n′ H′ ρ′ σ′ s)

@@ -112,7 +112,7 @@ module _ (work bytes : List ℕ) (enough : length work ≡ 16384) (h : inputFaul
             part-long (4 + 2 * m) m (omega arith),
             (
               part-long (4 + 3 * m) t (omega arith),
-              (part-long (4 + 3 * m + t) t (omega arith), (a, (omega (arith, i .junctions, i .segments, i .events), tt))),
+              (part-long (4 + 3 * m + t) t (omega arith), (a, (a, (omega (arith, i .junctions, i .segments, i .events), tt)))),
             ),
           ),
         ),

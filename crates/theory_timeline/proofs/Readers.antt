@@ -13,6 +13,7 @@ use Rattle.theory_graph.proofs.Booleans.{and-elim, contradict, onBool}
 use Rattle.theory_graph.specs.Graph.{Edge}
 use Rattle.theory_timeline.proofs.EventLaws.{named-road, road-named}
 use Rattle.theory_timeline.proofs.Networks.{around, around-name}
+use Rattle.theory_names.specs.Names.{Entry, plain}
 use Rattle.theory_timeline.proofs.RoadLaws.{mem-pick, names-apart, names-different, open-name, open-segment, pick-mem, road-ends, road-most}
 use Rattle.theory_timeline.proofs.RoadLaws.{road-same, road-twice, roads-answer, same-road, segment-open}
 use Rattle.theory_timeline.specs.DemandThree.{NewRoads}
@@ -23,7 +24,7 @@ use Rattle.theory_timeline.specs.Steps.{added}
 use Rattle.theory_timeline.specs.Windows.{Timeline, Window, during, edgesOf, event, network, openBefore}
 
 -- 3 where an event opens or closes; else by the segments open before it: joined, and joined after the loss of each single road in turn
-pub byte-roads : (g : Timeline) (i : ℕ) → byte g i ≡ cond (asks (event g i)) (roadAnswer (edgesOf g (openBefore g i)) (event g i .0) (event g i .1)) 3
+pub byte-roads : (g : Timeline) (i : ℕ) → byte g i ≡ cond (asks (event g i)) (roadAnswer (plain (edgesOf g (openBefore g i))) (event g i .0) (event g i .1)) 3
 unfolding byte
 byte-roads g i = ap (λ (a : ℕ). cond (asks (event g i)) a 3) (roads-answer (g .segments) (openBefore g i) (event g i .0) (event g i .1))
 
@@ -32,9 +33,9 @@ module _ (g : Timeline) (w : Window) where
   abbrev segs : List Edge
   segs = g .segments
 
-  -- an edge of the network joins the ends of a segment that is open before the window, and no segment with these ends is named in it
-  pub network-road : (e : Edge) → List·Memᴰ e (network g w)
-      → (s : ℕ) × (s < length segs) × (openBefore g (w .0) s ≡ true) × (sameEnds e (getD segs s (0, 0)) ≡ true) × ((t : ℕ) → sameRoad segs s t ≡ true → named (during g w) t ≡ false)
+  -- an edge of the network joins the ends of a segment that is open before the window and has the name of its road, and no segment with these ends is named in it
+  pub network-road : (e : Entry) → List·Memᴰ e (network g w)
+      → (s : ℕ) × (s < length segs) × (openBefore g (w .0) s ≡ true) × (sameEnds (e .0) (getD segs s (0, 0)) ≡ true) × (e .1 ≡ road segs s) × ((t : ℕ) → sameRoad segs s t ≡ true → named (during g w) t ≡ false)
   unfolding network networkOf
   network-road e m =
       let (r, l, h, q) = pick-mem (λ r. openRoads segs (openBefore g (w .0)) r && not (namedRoads segs (during g w) r)) 0 segs e m in
@@ -45,30 +46,31 @@ module _ (g : Timeline) (w : Window) where
         s,
         k,
         o,
-        subst (λ (e : Edge). sameEnds e (getD segs s (0, 0)) ≡ true) (sym q) (road-ends segs r s (ap (road segs) y ∙ road-twice segs s)),
+        subst (λ (e : Entry). sameEnds (e .0) (getD segs s (0, 0)) ≡ true) (sym q) (road-ends segs r s (ap (road segs) y ∙ road-twice segs s)),
+        ap (λ (e : Entry). e .1) q ∙ x,
         λ t u. onBool (named (during g w) t)
             (λ j. contradict (subst (λ (k : ℕ). namedRoads segs (during g w) k ≡ true) (sym (same-road segs s t u) ∙ sym x) (named-road segs (during g w) t j))
             (not-true (namedRoads segs (during g w) (0 + r)) n))
             (λ j. j),
       )
 
-  -- and each such segment has an edge there with its ends
+  -- and each such segment has an edge there with its ends and its road's name
   pub road-network : (s : ℕ) → s < length segs → openBefore g (w .0) s ≡ true → ((t : ℕ) → sameRoad segs s t ≡ true → named (during g w) t ≡ false)
-      → (e : Edge) × List·Memᴰ e (network g w) × (sameEnds (getD segs s (0, 0)) e ≡ true)
+      → (e : Edge) × List·Memᴰ (e, road segs s) (network g w) × (sameEnds (getD segs s (0, 0)) e ≡ true)
   unfolding network networkOf
   road-network s l o n =
       let z : road segs s ≡ 0 + road segs s = omega arith in (
         getD segs (road segs s) (0, 0),
-        mem-pick (λ r. openRoads segs (openBefore g (w .0)) r && not (namedRoads segs (during g w) r)) 0 segs (road segs s) (omega (arith, road-most segs s))
+        subst (λ (k : ℕ). List·Memᴰ (getD segs (road segs s) (0, 0), k) (network g w)) (sym z) (mem-pick (λ r. openRoads segs (openBefore g (w .0)) r && not (namedRoads segs (during g w) r)) 0 segs (road segs s) (omega (arith, road-most segs s))
             (subst (λ (r : ℕ). (openRoads segs (openBefore g (w .0)) r && not (namedRoads segs (during g w) r)) ≡ true) z
             (ap₂ (λ a b. a && not b) (segment-open segs (openBefore g (w .0)) s l o) (onBool (namedRoads segs (during g w) (road segs s))
             (λ h. let (t, j, x) = road-named segs (during g w) (road segs s) h in contradict j (n t (road-ends segs s t x)))
-            (λ h. h)))),
+            (λ h. h))))),
         road-same segs s,
       )
 
   -- what a step adds are new roads, as demand 3 adds them
-  pub added-new : (c : Window) → NewRoads (network g w) (added g w c)
+  pub added-new : (c : Window) → NewRoads (plain (network g w)) (plain (added g w c))
   unfolding network networkOf added
   added-new c =
       record {

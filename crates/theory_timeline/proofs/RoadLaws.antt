@@ -20,6 +20,8 @@ use Rattle.theory_graph.specs.Graph.{Edge, NodeSet, answer, joined, removals, t
 use Rattle.theory_graph.specs.Lists.{all, range}
 use Rattle.call_sizes.proofs.RefusalLaws.{seek-before, seek-found}
 use Rattle.call_sizes.specs.Refusal.{seek}
+use Rattle.theory_names.proofs.NamedCuts.{in-plain, plain-in}
+use Rattle.theory_names.specs.Names.{Entry, plain}
 use Rattle.theory_timeline.specs.Events.{SegmentSet, openRoads, pick}
 use Rattle.theory_timeline.specs.Roads.{Apart, DifferentRoads, lose, road, roadAnswer, sameEnds, sameRoad}
 
@@ -202,31 +204,41 @@ covers-answer E F c d x y =
     (bool-iff (all (λ e. joined (lose e E) x y) E) (all (λ e. joined (lose e F) x y) F) (covers-all E F c d x y) (covers-all F E d c x y))
 
 -- ---- the edges of a set of segments
-pub mem-pick : (t : SegmentSet) (i : ℕ) (es : List Edge) (s : ℕ) → s < length es → t (i + s) ≡ true → List·Memᴰ (getD es s (0, 0)) (pick t i es)
+pub mem-pick : (t : SegmentSet) (i : ℕ) (es : List Edge) (s : ℕ) → s < length es → t (i + s) ≡ true → List·Memᴰ (getD es s (0, 0), i + s) (pick t i es)
 mem-pick t i [] s l h = absurd (omega arith)
 mem-pick t i (e ∷ es) zero l h =
     let z : i + 0 ≡ i = omega arith in
-    subst (λ (b : Bool). List·Memᴰ e (cond b (e ∷ pick t (suc i) es) (pick t (suc i) es))) (sym (ap t (sym z) ∙ h)) (List·Memᴰ·head refl)
-mem-pick t i (e ∷ es) (suc s) l h = let z : suc i + s ≡ i + suc s = omega arith in go (t i) (mem-pick t (suc i) es s (omega arith) (ap t z ∙ h))
+    subst (λ (b : Bool). List·Memᴰ (e, i + 0) (cond b ((e, i) ∷ pick t (suc i) es) (pick t (suc i) es))) (sym (ap t (sym z) ∙ h)) (List·Memᴰ·head (ap (λ (k : ℕ). (e, k)) z))
+mem-pick t i (e ∷ es) (suc s) l h = let z : suc i + s ≡ i + suc s = omega arith in go (t i) (subst (λ (k : ℕ). List·Memᴰ (getD es s (0, 0), k) (pick t (suc i) es)) z (mem-pick t (suc i) es s (omega arith) (ap t z ∙ h)))
   where
-    go : (b : Bool) → List·Memᴰ (getD es s (0, 0)) (pick t (suc i) es) → List·Memᴰ (getD es s (0, 0)) (cond b (e ∷ pick t (suc i) es) (pick t (suc i) es))
+    go : (b : Bool) → List·Memᴰ (getD es s (0, 0), i + suc s) (pick t (suc i) es) → List·Memᴰ (getD es s (0, 0), i + suc s) (cond b ((e, i) ∷ pick t (suc i) es) (pick t (suc i) es))
     go true m = List·Memᴰ·tail m
     go false m = m
 
-pub pick-mem : (t : SegmentSet) (i : ℕ) (es : List Edge) (a : Edge) → List·Memᴰ a (pick t i es) → (s : ℕ) × (s < length es) × (t (i + s) ≡ true) × (a ≡ getD es s (0, 0))
+pub pick-mem : (t : SegmentSet) (i : ℕ) (es : List Edge) (a : Entry) → List·Memᴰ a (pick t i es) → (s : ℕ) × (s < length es) × (t (i + s) ≡ true) × (a ≡ (getD es s (0, 0), i + s))
 pick-mem t i [] a m = absurd (elim m [ ])
 pick-mem t i (e ∷ es) a m = go (t i) refl m (pick-mem t (suc i) es a)
   where
     Found : ℕ → List Edge → Type 0
-    Found i es = (s : ℕ) × (s < length es) × (t (i + s) ≡ true) × (a ≡ getD es s (0, 0))
+    Found i es = (s : ℕ) × (s < length es) × (t (i + s) ≡ true) × (a ≡ (getD es s (0, 0), i + s))
 
     later : Found (suc i) es → Found i (e ∷ es)
-    later (s, l, p, q) = let z : i + suc s ≡ suc i + s = omega arith in (suc s, omega arith, ap t z ∙ p, q)
+    later (s, l, p, q) = let z : i + suc s ≡ suc i + s = omega arith in (suc s, omega arith, ap t z ∙ p, q ∙ ap (λ (k : ℕ). (getD es s (0, 0), k)) (sym z))
 
-    go : (b : Bool) → t i ≡ b → List·Memᴰ a (cond b (e ∷ pick t (suc i) es) (pick t (suc i) es)) → (List·Memᴰ a (pick t (suc i) es) → Found (suc i) es) → Found i (e ∷ es)
-    go true h (List·Memᴰ·head p) ih = let z : i + 0 ≡ i = omega arith in (0, omega arith, ap t z ∙ h, p)
+    go : (b : Bool) → t i ≡ b → List·Memᴰ a (cond b ((e, i) ∷ pick t (suc i) es) (pick t (suc i) es)) → (List·Memᴰ a (pick t (suc i) es) → Found (suc i) es) → Found i (e ∷ es)
+    go true h (List·Memᴰ·head p) ih = let z : i + 0 ≡ i = omega arith in (0, omega arith, ap t z ∙ h, p ∙ ap (λ (k : ℕ). (e, k)) (sym z))
     go true h (List·Memᴰ·tail m) ih = later (ih m)
     go false h m ih = later (ih m)
+
+-- without the names
+pub mem-edges : (t : SegmentSet) (i : ℕ) (es : List Edge) (s : ℕ) → s < length es → t (i + s) ≡ true → List·Memᴰ (getD es s (0, 0)) (plain (pick t i es))
+mem-edges t i es s l h = plain-in (mem-pick t i es s l h)
+
+pub edges-mem : (t : SegmentSet) (i : ℕ) (es : List Edge) (a : Edge) → List·Memᴰ a (plain (pick t i es)) → (s : ℕ) × (s < length es) × (t (i + s) ≡ true) × (a ≡ getD es s (0, 0))
+edges-mem t i es a m =
+    let (n, k) = in-plain (pick t i es) m in
+    let (s, l, p, q) = pick-mem t i es (a, n) k in
+    (s, l, p, ap (λ (e : Entry). e .0) q)
 
 range-high : (z i n : ℕ) → List·Memᴰ z (range i n) → z < i + n
 range-high z i zero m = absurd (elim m [ ])
@@ -253,22 +265,22 @@ module _ (segs : List Edge) (o : SegmentSet) where
 
 -- sets of names pick edges of different roads
 pick-apart : (t : SegmentSet) (f : ℕ → Edge) (i : ℕ) (es : List Edge) → ((k : ℕ) → k < length es → getD es k (0, 0) ≡ f (i + k))
-    → ((r s : ℕ) → r < s → t r ≡ true → t s ≡ true → sameEnds (f r) (f s) ≡ false) → DifferentRoads (pick t i es)
+    → ((r s : ℕ) → r < s → t r ≡ true → t s ≡ true → sameEnds (f r) (f s) ≡ false) → DifferentRoads (plain (pick t i es))
 pick-apart t f i [] g h = tt
 pick-apart t f i (e ∷ es) g h = go (t i) refl (pick-apart t f (suc i) es (λ k l. let z : i + suc k ≡ suc i + k = omega arith in g (suc k) (omega arith) ∙ ap f z) h)
   where
-    go : (b : Bool) → t i ≡ b → DifferentRoads (pick t (suc i) es) → DifferentRoads (cond b (e ∷ pick t (suc i) es) (pick t (suc i) es))
+    go : (b : Bool) → t i ≡ b → DifferentRoads (plain (pick t (suc i) es)) → DifferentRoads (plain (cond b ((e, i) ∷ pick t (suc i) es) (pick t (suc i) es)))
     go false p r = r
     go true p r = (
       λ a m.
-          let (s, l, q, k) = pick-mem t (suc i) es a m in
+          let (s, l, q, k) = edges-mem t (suc i) es a m in
           let z : i + 0 ≡ i = omega arith in
           let y : i + suc s ≡ suc i + s = omega arith in
           ap₂ sameEnds (g 0 (omega arith) ∙ ap f z) (k ∙ g (suc s) (omega arith) ∙ ap f y) ∙ h i (suc i + s) (omega arith) p q,
       r,
     )
 
-pub names-different : (segs : List Edge) (t : SegmentSet) → ((r : ℕ) → t r ≡ true → road segs r ≡ r) → DifferentRoads (pick t 0 segs)
+pub names-different : (segs : List Edge) (t : SegmentSet) → ((r : ℕ) → t r ≡ true → road segs r ≡ r) → DifferentRoads (plain (pick t 0 segs))
 names-different segs t h =
     pick-apart t (λ s. getD segs s (0, 0)) 0 segs (λ k l. let z : k ≡ 0 + k = omega arith in ap (λ n. getD segs n (0, 0)) z) λ r s l p q.
     onBool (sameRoad segs r s)
@@ -277,10 +289,10 @@ names-different segs t h =
 
 -- and sets of names that share none pick edges of roads that share none
 pub names-apart : (segs : List Edge) (t u : SegmentSet) → ((r : ℕ) → t r ≡ true → road segs r ≡ r) → ((r : ℕ) → u r ≡ true → road segs r ≡ r) → ((r : ℕ) → t r ≡ true → u r ≡ false)
-    → (e : Edge) → List·Memᴰ e (pick t 0 segs) → Apart e (pick u 0 segs)
+    → (e : Edge) → List·Memᴰ e (plain (pick t 0 segs)) → Apart e (plain (pick u 0 segs))
 names-apart segs t u a b d e m f n =
-    let (r, k, p, x) = pick-mem t 0 segs e m in
-    let (s, l, q, y) = pick-mem u 0 segs f n in
+    let (r, k, p, x) = edges-mem t 0 segs e m in
+    let (s, l, q, y) = edges-mem u 0 segs f n in
     ap₂ sameEnds x y
     ∙ onBool (sameRoad segs r s)
     (λ h. let z : 0 + r ≡ r = omega arith in
@@ -291,33 +303,33 @@ names-apart segs t u a b d e m f n =
 
 -- ---- the reader's law
 module _ (segs : List Edge) (o : SegmentSet) where
-  pub roads-different : DifferentRoads (pick (openRoads segs o) 0 segs)
+  pub roads-different : DifferentRoads (plain (pick (openRoads segs o) 0 segs))
   roads-different = names-different segs (openRoads segs o) (λ r h. open-name segs o r h .0)
 
-  roads-cover : Covers (pick (openRoads segs o) 0 segs) (pick o 0 segs)
+  roads-cover : Covers (plain (pick (openRoads segs o) 0 segs)) (plain (pick o 0 segs))
   roads-cover a m =
-      let (r, l, h, q) = pick-mem (openRoads segs o) 0 segs a m in
+      let (r, l, h, q) = edges-mem (openRoads segs o) 0 segs a m in
       let z : 0 + r ≡ r = omega arith in
       let (s, k, p, e) = open-segment segs o r (subst (λ (n : ℕ). openRoads segs o n ≡ true) z h) in
       let y : s ≡ 0 + s = omega arith in (
         getD segs s (0, 0),
-        mem-pick o 0 segs s k (ap o (sym y) ∙ p),
+        mem-edges o 0 segs s k (ap o (sym y) ∙ p),
         subst (λ (e : Edge). sameEnds e (getD segs s (0, 0)) ≡ true) (sym q) (road-ends segs r s (ap (road segs) e ∙ road-twice segs s)),
       )
 
-  cover-roads : Covers (pick o 0 segs) (pick (openRoads segs o) 0 segs)
+  cover-roads : Covers (plain (pick o 0 segs)) (plain (pick (openRoads segs o) 0 segs))
   cover-roads a m =
-      let (s, l, h, q) = pick-mem o 0 segs a m in
+      let (s, l, h, q) = edges-mem o 0 segs a m in
       let z : 0 + s ≡ s = omega arith in
       let y : road segs s ≡ 0 + road segs s = omega arith in (
         getD segs (road segs s) (0, 0),
-        mem-pick (openRoads segs o) 0 segs (road segs s) (omega (arith, road-most segs s))
+        mem-edges (openRoads segs o) 0 segs (road segs s) (omega (arith, road-most segs s))
             (subst (λ (n : ℕ). openRoads segs o n ≡ true) y (segment-open segs o s l (subst (λ (n : ℕ). o n ≡ true) z h))),
         subst (λ (e : Edge). sameEnds e (getD segs (road segs s) (0, 0)) ≡ true) (sym q) (road-same segs s),
       )
 
   -- the answer over the open roads, one edge each: joined in the open segments, and joined after the loss of all open segments of each single road in turn
-  pub roads-answer : (x y : ℕ) → answer (pick (openRoads segs o) 0 segs) x y ≡ roadAnswer (pick o 0 segs) x y
+  pub roads-answer : (x y : ℕ) → answer (plain (pick (openRoads segs o) 0 segs)) x y ≡ roadAnswer (plain (pick o 0 segs)) x y
   roads-answer x y =
-      sym (different-answer (pick (openRoads segs o) 0 segs) roads-different x y)
-      ∙ covers-answer (pick (openRoads segs o) 0 segs) (pick o 0 segs) roads-cover cover-roads x y
+      sym (different-answer (plain (pick (openRoads segs o) 0 segs)) roads-different x y)
+      ∙ covers-answer (plain (pick (openRoads segs o) 0 segs)) (plain (pick o 0 segs)) roads-cover cover-roads x y

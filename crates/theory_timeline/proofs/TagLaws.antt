@@ -16,17 +16,18 @@ use Rattle.call_sizes.proofs.RefusalLaws.{seek-before, seek-found}
 use Rattle.call_sizes.specs.Refusal.{seek}
 use Rattle.theory_graph.proofs.Booleans.{contradict, onBool}
 use Rattle.theory_graph.proofs.Lists.{any-in, range-mem}
-use Rattle.theory_graph.specs.Cut.{crosses, cut}
+use Rattle.theory_graph.specs.Cut.{crosses}
 use Rattle.theory_graph.specs.Graph.{Edge, NodeSet}
 use Rattle.theory_graph.specs.Lists.{any, range}
-use Rattle.theory_graph.specs.SmallGraph.{image}
+use Rattle.theory_names.specs.Names.{Entry, Named, weigh}
+use Rattle.theory_names.specs.NamedSmallGraph.{imageNamed}
 use Rattle.theory_timeline.proofs.Counting.{bit-most}
 use Rattle.theory_timeline.proofs.EventLaws.{pick-ext, pick-sum, roads-stay}
 use Rattle.theory_timeline.proofs.Networks.{after-append}
 use Rattle.theory_timeline.proofs.RoadLaws.{ends-cross, road-most, road-same}
 use Rattle.theory_timeline.specs.Events.{Event, SegmentSet, after, afterAll, asks, closes, namedRoads, openRoads, opens, pick}
 use Rattle.theory_timeline.specs.Steps.{Part, added}
-use Rattle.theory_timeline.specs.Tags.{adds, addsEvent, bit, endsAt, eventWords, isOpenAfter, key, last, namesKey, next, pickEvents, seekLast, tag, wasOpen, word}
+use Rattle.theory_timeline.specs.Tags.{adds, addsEvent, bit, endsAt, entryAt, eventWords, isOpenAfter, key, last, namesKey, next, pickEvents, seekLast, tag, wasOpen, word}
 use Rattle.theory_timeline.specs.Windows.{Timeline, Window, during, event, openBefore, roadsBefore, size}
 
 -- ---- seeking
@@ -183,49 +184,49 @@ module _ (g : Timeline) where
   names-none i r h = ap (λ b. b && eqb r (key g i)) (not-true (opens (event g i) || closes (event g i)) h)
 
 -- ---- one key alone
-pick-none : (U t : NodeSet) (i : ℕ) (es : List Edge) → ((k : ℕ) → k < length es → t (i + k) ≡ false) → cut U (pick t i es) ≡ 0
-pick-none U t i [] h = refl
-pick-none U t i (e ∷ es) h =
+pick-none : (φ : ℕ → ℕ) (U t : NodeSet) (i : ℕ) (es : List Edge) → ((k : ℕ) → k < length es → t (i + k) ≡ false) → weigh φ U (pick t i es) ≡ 0
+pick-none φ U t i [] h = refl
+pick-none φ U t i (e ∷ es) h =
     let z : i + 0 ≡ i = omega arith in
     rw (subst (λ (k : ℕ). t k ≡ false) z (h 0 (omega arith)))
-    (pick-none U t (suc i) es (λ k l. let q : suc i + k ≡ i + suc k = omega arith in rw q (h (suc k) (omega arith))))
+    (pick-none φ U t (suc i) es (λ k l. let q : suc i + k ≡ i + suc k = omega arith in rw q (h (suc k) (omega arith))))
 
-pick-one : (U : NodeSet) (s i : ℕ) (es : List Edge) → i ≤ s → s < i + length es
-    → cut U (pick (λ u. eqb u s) i es) ≡ crosses (U (getD es (s - i) (0, 0) .0)) (U (getD es (s - i) (0, 0) .1))
-pick-one U s i [] a b = absurd (omega arith)
-pick-one U s i (e ∷ es) a b =
+pick-one : (φ : ℕ → ℕ) (U : NodeSet) (s i : ℕ) (es : List Edge) → i ≤ s → s < i + length es
+    → weigh φ U (pick (λ u. eqb u s) i es) ≡ crosses (U (getD es (s - i) (0, 0) .0)) (U (getD es (s - i) (0, 0) .1)) * φ s
+pick-one φ U s i [] a b = absurd (omega arith)
+pick-one φ U s i (e ∷ es) a b =
     onBool (eqb i s)
     (λ t. let q : s - i ≡ 0 = omega (arith, eqb-true i s t) in
-    let n = pick-none U (λ u. eqb u s) (suc i) es (λ k l. ne-eqb (suc i + k) s (λ z. omega (arith, eqb-true i s t))) in
-    rw (t, q) (omega (arith, n)))
+    let n = pick-none φ U (λ u. eqb u s) (suc i) es (λ k l. ne-eqb (suc i + k) s (λ z. omega (arith, eqb-true i s t))) in
+    rw (t, q) (omega (arith, n, ap (λ (k : ℕ). crosses (U (e .0)) (U (e .1)) * φ k) (eqb-true i s t))))
     (λ t. let ne : ¬ (i ≡ s) = eqb-false i s t in
     let q : s - i ≡ suc (s - suc i) = omega arith in
-    rw (t, q) (pick-one U s (suc i) es (omega arith) (omega arith)))
+    rw (t, q) (pick-one φ U s (suc i) es (omega arith) (omega arith)))
 
 -- one more key that is not in the set yet, and one that does not count
-module _ (U : NodeSet) (segs : List Edge) (t s : SegmentSet) (k : ℕ) (same : (r : ℕ) → (r ≡ k → ⊥) → t r ≡ s r) where
-  one-more : k < length segs → t k ≡ true → s k ≡ false → cut U (pick t 0 segs) ≡ crosses (U (getD segs k (0, 0) .0)) (U (getD segs k (0, 0) .1)) + cut U (pick s 0 segs)
+module _ (φ : ℕ → ℕ) (U : NodeSet) (segs : List Edge) (t s : SegmentSet) (k : ℕ) (same : (r : ℕ) → (r ≡ k → ⊥) → t r ≡ s r) where
+  one-more : k < length segs → t k ≡ true → s k ≡ false → weigh φ U (pick t 0 segs) ≡ crosses (U (getD segs k (0, 0) .0)) (U (getD segs k (0, 0) .1)) * φ k + weigh φ U (pick s 0 segs)
   one-more l a b =
       let z : k - 0 ≡ k = omega arith in
-      let one = pick-one U k 0 segs (omega arith) (omega arith) ∙ ap (λ (j : ℕ). crosses (U (getD segs j (0, 0) .0)) (U (getD segs j (0, 0) .1))) z in
-      pick-sum U t (λ u. eqb u k) s cases 0 segs ∙ ap (λ (c : ℕ). c + cut U (pick s 0 segs)) one
+      let one = pick-one φ U k 0 segs (omega arith) (omega arith) ∙ ap (λ (j : ℕ). crosses (U (getD segs j (0, 0) .0)) (U (getD segs j (0, 0) .1)) * φ k) z in
+      pick-sum φ U t (λ u. eqb u k) s cases 0 segs ∙ ap (λ (c : ℕ). c + weigh φ U (pick s 0 segs)) one
     where
       cases : (r : ℕ) → ((eqb r k ≡ t r) × (s r ≡ false)) ⊎ ((eqb r k ≡ false) × (s r ≡ t r))
       cases r = onBool (eqb r k) (λ q. let e = eqb-true r k q in inl (q ∙ sym (ap t e ∙ a), ap s e ∙ b)) (λ q. inr (q, sym (same r (eqb-false r k q))))
 
-  none-more : t k ≡ s k → cut U (pick t 0 segs) ≡ cut U (pick s 0 segs)
-  none-more e = ap (cut U) (pick-ext t s (λ r. onBool (eqb r k) (λ q. let z = eqb-true r k q in ap t z ∙ e ∙ sym (ap s z)) (λ q. same r (eqb-false r k q))) 0 segs)
+  none-more : t k ≡ s k → weigh φ U (pick t 0 segs) ≡ weigh φ U (pick s 0 segs)
+  none-more e = ap (weigh φ U) (pick-ext t s (λ r. onBool (eqb r k) (λ q. let z = eqb-true r k q in ap t z ∙ e ∙ sym (ap s z)) (λ q. same r (eqb-false r k q))) 0 segs)
 
 -- ---- the events beside a part
-pub pick-snoc : (U : NodeSet) (f : ℕ → Bool) (E : ℕ → Edge) (i n : ℕ) → cut U (pickEvents f E i (suc n)) ≡ cut U (pickEvents f E i n) + cut U (pickEvents f E (i + n) 1)
-pick-snoc U f E i zero = let z : i ≡ i + 0 = omega arith in ap (λ (k : ℕ). cut U (pickEvents f E k 1)) z ∙ omega arith
-pick-snoc U f E i (suc n) =
+pub pick-snoc : (φ : ℕ → ℕ) (U : NodeSet) (f : ℕ → Bool) (E : ℕ → Entry) (i n : ℕ) → weigh φ U (pickEvents f E i (suc n)) ≡ weigh φ U (pickEvents f E i n) + weigh φ U (pickEvents f E (i + n) 1)
+pick-snoc φ U f E i zero = let z : i ≡ i + 0 = omega arith in ap (λ (k : ℕ). weigh φ U (pickEvents f E k 1)) z ∙ omega arith
+pick-snoc φ U f E i (suc n) =
     let z : suc i + n ≡ i + suc n = omega arith in
-    go (f i) (pick-snoc U f E (suc i) n ∙ ap (λ (k : ℕ). cut U (pickEvents f E (suc i) n) + cut U (pickEvents f E k 1)) z)
+    go (f i) (pick-snoc φ U f E (suc i) n ∙ ap (λ (k : ℕ). weigh φ U (pickEvents f E (suc i) n) + weigh φ U (pickEvents f E k 1)) z)
   where
-    go : (b : Bool) → cut U (pickEvents f E (suc i) (suc n)) ≡ cut U (pickEvents f E (suc i) n) + cut U (pickEvents f E (i + suc n) 1)
-        → cut U (cond b (E i ∷ pickEvents f E (suc i) (suc n)) (pickEvents f E (suc i) (suc n)))
-        ≡ cut U (cond b (E i ∷ pickEvents f E (suc i) n) (pickEvents f E (suc i) n)) + cut U (pickEvents f E (i + suc n) 1)
+    go : (b : Bool) → weigh φ U (pickEvents f E (suc i) (suc n)) ≡ weigh φ U (pickEvents f E (suc i) n) + weigh φ U (pickEvents f E (i + suc n) 1)
+        → weigh φ U (cond b (E i ∷ pickEvents f E (suc i) (suc n)) (pickEvents f E (suc i) (suc n)))
+        ≡ weigh φ U (cond b (E i ∷ pickEvents f E (suc i) n) (pickEvents f E (suc i) n)) + weigh φ U (pickEvents f E (i + suc n) 1)
     go true h = omega arith
     go false h = h
 
@@ -294,23 +295,23 @@ module _ (g : Timeline) (w c : Window) (h : Part w c) (fit : w .0 + w .1 ≤ siz
       ∙ ends-cross U (getD segs (event g i .1) (0, 0)) (getD segs (key g i) (0, 0)) (road-same segs (event g i .1))
 
   -- one event: the set with it and the set without it differ at most in its key
-  module _ (U : NodeSet) (i : ℕ) (li : i < size g) (t s : SegmentSet) where
+  module _ (φ : ℕ → ℕ) (U : NodeSet) (i : ℕ) (li : i < size g) (t s : SegmentSet) where
     one-event : (asks (event g i) ≡ true → (r : ℕ) → t r ≡ s r) → ((r : ℕ) → (r ≡ key g i → ⊥) → t r ≡ s r)
         → (asks (event g i) ≡ false → ((f i ≡ true) × (t (key g i) ≡ true) × (s (key g i) ≡ false)) ⊎ ((f i ≡ false) × (t (key g i) ≡ s (key g i))))
-        → cut U (pick t 0 segs) ≡ cut U (pickEvents f (endsAt g) i 1) + cut U (pick s 0 segs)
+        → weigh φ U (pick t 0 segs) ≡ weigh φ U (pickEvents f (entryAt g) i 1) + weigh φ U (pick s 0 segs)
     one-event none same own = onBool (asks (event g i))
-        (λ q. ap (cut U) (pick-ext t s (none q) 0 segs) ∙ sym (ap (λ (b : Bool). cut U (cond b (endsAt g i ∷ []) []) + cut U (pick s 0 segs)) (query-not i q) ∙ omega arith))
+        (λ q. ap (weigh φ U) (pick-ext t s (none q) 0 segs) ∙ sym (ap (λ (b : Bool). weigh φ U (cond b (entryAt g i ∷ []) []) + weigh φ U (pick s 0 segs)) (query-not i q) ∙ omega arith))
         (λ q. go q (own q))
       where
         go : asks (event g i) ≡ false → ((f i ≡ true) × (t (key g i) ≡ true) × (s (key g i) ≡ false)) ⊎ ((f i ≡ false) × (t (key g i) ≡ s (key g i)))
-            → cut U (pick t 0 segs) ≡ cut U (pickEvents f (endsAt g) i 1) + cut U (pick s 0 segs)
+            → weigh φ U (pick t 0 segs) ≡ weigh φ U (pickEvents f (entryAt g) i 1) + weigh φ U (pick s 0 segs)
         go q (inl (a, b, d)) =
-            let one = one-more U segs t s (key g i) same (omega (arith, fine i li q, road-most segs (event g i .1))) b d in
-            let e : cut U (cond (f i) (endsAt g i ∷ []) []) ≡ crosses (U (endsAt g i .0)) (U (endsAt g i .1)) + 0 = ap (λ (b : Bool). cut U (cond b (endsAt g i ∷ []) [])) a in
-            omega (arith, one, e, edge-is U i q)
+            let one = one-more φ U segs t s (key g i) same (omega (arith, fine i li q, road-most segs (event g i .1))) b d in
+            let e : weigh φ U (cond (f i) (entryAt g i ∷ []) []) ≡ crosses (U (endsAt g i .0)) (U (endsAt g i .1)) * φ (key g i) + 0 = ap (λ (b : Bool). weigh φ U (cond b (entryAt g i ∷ []) [])) a in
+            omega (arith, one, e, ap (λ (k : ℕ). k * φ (key g i)) (edge-is U i q))
         go q (inr (a, b)) =
-            none-more U segs t s (key g i) same b
-            ∙ sym (ap (λ (b : Bool). cut U (cond b (endsAt g i ∷ []) []) + cut U (pick s 0 segs)) a ∙ omega arith)
+            none-more φ U segs t s (key g i) same b
+            ∙ sym (ap (λ (b : Bool). weigh φ U (cond b (entryAt g i ∷ []) []) + weigh φ U (pick s 0 segs)) a ∙ omega arith)
 
   -- ---- in front of the part: what the events from i on, k up to the part, name and the part does not
   abbrev ahead : ℕ → ℕ → SegmentSet
@@ -352,20 +353,20 @@ module _ (g : Timeline) (w c : Window) (h : Part w c) (fit : w .0 + w .1 ≤ siz
             ∙ sym (off (O (key g i)) (namesIn g (suc i) k (key g i)) (namesIn g (c .0) (c .1) (key g i)) (inr (inr n)))),
       ))
 
-  front-cut : (U : NodeSet) (k i : ℕ) → w .0 ≤ i → i + k ≡ c .0 → cut U (pickEvents f (endsAt g) i k) ≡ cut U (pick (ahead i k) 0 segs)
-  front-cut U zero i lo e = sym (pick-none U (ahead i 0) 0 segs (λ k l. and-false (O (0 + k))))
-  front-cut U (suc k) i lo e =
+  front-weigh : (φ : ℕ → ℕ) (U : NodeSet) (k i : ℕ) → w .0 ≤ i → i + k ≡ c .0 → weigh φ U (pickEvents f (entryAt g) i k) ≡ weigh φ U (pick (ahead i k) 0 segs)
+  front-weigh φ U zero i lo e = sym (pick-none φ U (ahead i 0) 0 segs (λ k l. and-false (O (0 + k))))
+  front-weigh φ U (suc k) i lo e =
       let b = h .before in
-      let ih = front-cut U k (suc i) (omega arith) (omega arith) in
-      let one = one-event U i (omega arith) (ahead i (suc k)) (ahead (suc i) k)
+      let ih = front-weigh φ U k (suc i) (omega arith) (omega arith) in
+      let one = one-event φ U i (omega arith) (ahead i (suc k)) (ahead (suc i) k)
       (λ q r. ap (λ (b : Bool). O r && ((b || namesIn g (suc i) k r) && not (namesIn g (c .0) (c .1) r))) (names-none g i r q))
       (λ r n. ap (λ (b : Bool). O r && ((b || namesIn g (suc i) k r) && not (namesIn g (c .0) (c .1) r))) (names-other g i r n))
       (front-own i k lo e) in
       go (f i) one ih
     where
-      go : (b : Bool) → cut U (pick (ahead i (suc k)) 0 segs) ≡ cut U (cond b (endsAt g i ∷ []) []) + cut U (pick (ahead (suc i) k) 0 segs)
-          → cut U (pickEvents f (endsAt g) (suc i) k) ≡ cut U (pick (ahead (suc i) k) 0 segs)
-          → cut U (cond b (endsAt g i ∷ pickEvents f (endsAt g) (suc i) k) (pickEvents f (endsAt g) (suc i) k)) ≡ cut U (pick (ahead i (suc k)) 0 segs)
+      go : (b : Bool) → weigh φ U (pick (ahead i (suc k)) 0 segs) ≡ weigh φ U (cond b (entryAt g i ∷ []) []) + weigh φ U (pick (ahead (suc i) k) 0 segs)
+          → weigh φ U (pickEvents f (entryAt g) (suc i) k) ≡ weigh φ U (pick (ahead (suc i) k) 0 segs)
+          → weigh φ U (cond b (entryAt g i ∷ pickEvents f (entryAt g) (suc i) k) (pickEvents f (entryAt g) (suc i) k)) ≡ weigh φ U (pick (ahead i (suc k)) 0 segs)
       go true one ih = omega arith
       go false one ih = omega arith
 
@@ -420,28 +421,28 @@ module _ (g : Timeline) (w c : Window) (h : Part w c) (fit : w .0 + w .1 ≤ siz
       more : namesIn g (c .0 + c .1) (suc k) (key g (c .0 + c .1 + k)) ≡ (namesIn g (c .0 + c .1) k (key g (c .0 + c .1 + k)) || namesKey g (key g (c .0 + c .1 + k)) (c .0 + c .1 + k))
       more = named-snoc g (c .0 + c .1) k (key g (c .0 + c .1 + k))
 
-  back-cut : (U : NodeSet) (k : ℕ) → c .0 + c .1 + k ≤ w .0 + w .1 → cut U (pickEvents f (endsAt g) (c .0 + c .1) k) ≡ cut U (pick (behind k) 0 segs)
-  back-cut U zero l = sym (pick-none U (behind 0) 0 segs (λ k l. and-false (O (0 + k))))
-  back-cut U (suc k) l =
-      let ih = back-cut U k (omega arith) in
+  back-weigh : (φ : ℕ → ℕ) (U : NodeSet) (k : ℕ) → c .0 + c .1 + k ≤ w .0 + w .1 → weigh φ U (pickEvents f (entryAt g) (c .0 + c .1) k) ≡ weigh φ U (pick (behind k) 0 segs)
+  back-weigh φ U zero l = sym (pick-none φ U (behind 0) 0 segs (λ k l. and-false (O (0 + k))))
+  back-weigh φ U (suc k) l =
+      let ih = back-weigh φ U k (omega arith) in
       let i : ℕ = c .0 + c .1 + k in
       let same : (r : ℕ) → namesKey g r i ≡ false → behind (suc k) r ≡ behind k r = λ r n.
       ap (λ (x : Bool). O r && (x && not (namesIn g (w .0) (c .0 + c .1 - w .0) r)))
       (named-snoc g (c .0 + c .1) k r ∙ ap (λ (x : Bool). namesIn g (c .0 + c .1) k r || x) n ∙ or-false (namesIn g (c .0 + c .1) k r)) in
-      let one = one-event U i (omega arith) (behind (suc k)) (behind k) (λ q r. same r (names-none g i r q)) (λ r n. same r (names-other g i r n)) (back-own k (omega arith)) in
-      omega (arith, pick-snoc U f (endsAt g) (c .0 + c .1) k)
+      let one = one-event φ U i (omega arith) (behind (suc k)) (behind k) (λ q r. same r (names-none g i r q)) (λ r n. same r (names-other g i r n)) (back-own k (omega arith)) in
+      omega (arith, pick-snoc φ U f (entryAt g) (c .0 + c .1) k)
 
   -- ---- both
   -- the events that pass have the edges of the added roads
-  pub events-added : (U : NodeSet)
-      → cut U (pickEvents f (endsAt g) (w .0) (c .0 - w .0)) + cut U (pickEvents f (endsAt g) (c .0 + c .1) (w .0 + w .1 - (c .0 + c .1))) ≡ cut U (added g w c)
+  pub events-added : (φ : ℕ → ℕ) (U : NodeSet)
+      → weigh φ U (pickEvents f (entryAt g) (w .0) (c .0 - w .0)) + weigh φ U (pickEvents f (entryAt g) (c .0 + c .1) (w .0 + w .1 - (c .0 + c .1))) ≡ weigh φ U (added g w c)
   unfolding added
-  events-added U =
+  events-added φ U =
       let a = h .after in
       let b = h .before in
-      let one = front-cut U (c .0 - w .0) (w .0) (omega arith) (omega arith) in
-      let two = back-cut U (w .0 + w .1 - (c .0 + c .1)) (omega arith) in
-      let sum = pick-sum U (keys O (namedRoads segs (during g w)) (namedRoads segs (during g c))) (ahead (w .0) (c .0 - w .0)) (behind (w .0 + w .1 - (c .0 + c .1))) both 0 segs in
+      let one = front-weigh φ U (c .0 - w .0) (w .0) (omega arith) (omega arith) in
+      let two = back-weigh φ U (w .0 + w .1 - (c .0 + c .1)) (omega arith) in
+      let sum = pick-sum φ U (keys O (namedRoads segs (during g w)) (namedRoads segs (during g c))) (ahead (w .0) (c .0 - w .0)) (behind (w .0 + w .1 - (c .0 + c .1))) both 0 segs in
       omega arith
     where
       x : ℕ
@@ -468,7 +469,7 @@ module _ (g : Timeline) (w c : Window) (h : Part w c) (fit : w .0 + w .1 ≤ siz
 
 -- ---- the words of some events, as a list
 -- events numbered from another start
-pub pick-shift : (f f′ : ℕ → Bool) (E E′ : ℕ → Edge) (at i n : ℕ) → ((j : ℕ) → i ≤ j → j < i + n → (f j ≡ f′ (at + j)) × (E j ≡ E′ (at + j)))
+pub pick-shift : (f f′ : ℕ → Bool) (E E′ : ℕ → Entry) (at i n : ℕ) → ((j : ℕ) → i ≤ j → j < i + n → (f j ≡ f′ (at + j)) × (E j ≡ E′ (at + j)))
     → pickEvents f E i n ≡ pickEvents f′ E′ (at + i) n
 pick-shift f f′ E E′ at i zero h = refl
 pick-shift f f′ E E′ at i (suc n) h =
@@ -476,22 +477,23 @@ pick-shift f f′ E E′ at i (suc n) h =
     let z : at + suc i ≡ suc (at + i) = omega arith in
     let r : pickEvents f E (suc i) n ≡ pickEvents f′ E′ (suc (at + i)) n = pick-shift f f′ E E′ at (suc i) n (λ j p q. h j (omega arith) (omega arith))
     ∙ ap (λ (k : ℕ). pickEvents f′ E′ k n) z in
-    ap₂ (λ (t : Bool) (l : List Edge). cond t (E i ∷ l) l) a r ∙ ap (λ (e : Edge). cond (f′ (at + i)) (e ∷ pickEvents f′ E′ (suc (at + i)) n) (pickEvents f′ E′ (suc (at + i)) n)) b
+    ap₂ (λ (t : Bool) (l : Named). cond t (E i ∷ l) l) a r ∙ ap (λ (e : Entry). cond (f′ (at + i)) (e ∷ pickEvents f′ E′ (suc (at + i)) n) (pickEvents f′ E′ (suc (at + i)) n)) b
 
-pub pick-ext-events : (f f′ : ℕ → Bool) (E E′ : ℕ → Edge) (i n : ℕ) → ((j : ℕ) → i ≤ j → j < i + n → (f j ≡ f′ j) × (E j ≡ E′ j)) → pickEvents f E i n ≡ pickEvents f′ E′ i n
+pub pick-ext-events : (f f′ : ℕ → Bool) (E E′ : ℕ → Entry) (i n : ℕ) → ((j : ℕ) → i ≤ j → j < i + n → (f j ≡ f′ j) × (E j ≡ E′ j)) → pickEvents f E i n ≡ pickEvents f′ E′ i n
 pick-ext-events f f′ E E′ i n h =
     let z : (j : ℕ) → j ≡ 0 + j = λ j. omega arith in
     pick-shift f f′ E E′ 0 i n (λ j a b. let (p, q) = h j a b in (p ∙ ap f′ (z j), q ∙ ap E′ (z j))) ∙ ap (λ (k : ℕ). pickEvents f′ E′ k n) (sym (z i))
 
 -- the edges moved to the nodes of a graph
-pub pick-image : (f : ℕ → Bool) (E : ℕ → Edge) (σ : ℕ → ℕ) (i n : ℕ) → pickEvents f (λ j. (σ (E j .0), σ (E j .1))) i n ≡ image σ (pickEvents f E i n)
+pub pick-image : (f : ℕ → Bool) (E : ℕ → Entry) (σ : ℕ → ℕ) (i n : ℕ) → pickEvents f (λ j. ((σ (E j .0 .0), σ (E j .0 .1)), E j .1)) i n ≡ imageNamed σ (pickEvents f E i n)
 pick-image f E σ i zero = refl
 pick-image f E σ i (suc n) = go (f i) (pick-image f E σ (suc i) n)
   where
-    go : (b : Bool) → pickEvents f (λ j. (σ (E j .0), σ (E j .1))) (suc i) n ≡ image σ (pickEvents f E (suc i) n)
-        → cond b ((σ (E i .0), σ (E i .1)) ∷ pickEvents f (λ j. (σ (E j .0), σ (E j .1))) (suc i) n) (pickEvents f (λ j. (σ (E j .0), σ (E j .1))) (suc i) n)
-        ≡ image σ (cond b (E i ∷ pickEvents f E (suc i) n) (pickEvents f E (suc i) n))
-    go true h = ap (λ (l : List Edge). (σ (E i .0), σ (E i .1)) ∷ l) h
+    go : (b : Bool) → pickEvents f (λ j. ((σ (E j .0 .0), σ (E j .0 .1)), E j .1)) (suc i) n ≡ imageNamed σ (pickEvents f E (suc i) n)
+        → cond b (((σ (E i .0 .0), σ (E i .0 .1)), E i .1) ∷ pickEvents f (λ j. ((σ (E j .0 .0), σ (E j .0 .1)), E j .1)) (suc i) n)
+        (pickEvents f (λ j. ((σ (E j .0 .0), σ (E j .0 .1)), E j .1)) (suc i) n)
+        ≡ imageNamed σ (cond b (E i ∷ pickEvents f E (suc i) n) (pickEvents f E (suc i) n))
+    go true h = ap (λ (l : Named). ((σ (E i .0 .0), σ (E i .0 .1)), E i .1) ∷ l) h
     go false h = h
 
 module _ (g : Timeline) where

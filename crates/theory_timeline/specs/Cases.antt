@@ -1,6 +1,7 @@
--- The cases that document 01 marks P and those of document 02, Nos. 1 to 3, as one table: what the definitions of the calls give, and what the documents say.
+-- The cases that document 01 marks P and those of document 02, Nos. 1 to 3 and 5, as one table: what the definitions of the calls give, and what the documents say.
 -- proofs/Cases proves every row.
--- A replay is seen by its whole outcome but for the work table, a contraction by its outcome but for the work table, the program by the bytes that it writes.
+-- A replay is seen by its numbers and its answer table, or by its answers and its name table; a contraction by its numbers and tables but for the names, or by
+-- its edges with the table of their names; the program by the bytes that it writes.
 -- Assumes nothing: these are definitions.
 use Prim.Native.Nat.{_%_, _*_, _/_, suc, ℕ}
 use mathlib.Core.List.{List, [], _∷_}
@@ -19,51 +20,88 @@ Replayed = ℕ × ℕ × ℕ × ℕ × ℕ × List ℕ
 abbrev pub Contracted : Type 0
 Contracted = ℕ × ℕ × ℕ × ℕ × List ℕ × List ℕ × List ℕ × List ℕ
 
+-- code, the answer table, the name table
+abbrev pub Watched : Type 0
+Watched = ℕ × List ℕ × List ℕ
+
+-- code, the edges' first and second ends, the table of their names
+abbrev pub Spliced : Type 0
+Spliced = ℕ × List ℕ × List ℕ × List ℕ
+
 pub data Seen : Type 0 where
   replayed : Replayed → Seen
   contracted : Contracted → Seen
+  watched : Watched → Seen
+  spliced : Spliced → Seen
   wrote : List ℕ → Seen
 
--- tables of just the least lengths, the answer table filled with 9 and the work table with 7
+-- tables of just the least lengths, but for this name table; the answer table filled with 9 and the work table with 7
+abbrev pub replayLent : List ℕ → List ℕ → ℕ → List ℕ → List ℕ → List ℕ → List ℕ → R.Lent
+replayLent names start n a b x y = record {
+  n = n;
+  m = length a;
+  t = length x;
+  a = a;
+  b = b;
+  start = start;
+  x = x;
+  y = y;
+  answers = replicate (length x) 9;
+  names = names;
+  work = replicate (R.required (length x) n (length a)) 7;
+}
+
 abbrev pub replayFrom : List ℕ → ℕ → List ℕ → List ℕ → List ℕ → List ℕ → ℕ → Seen
 replayFrom start n a b x y p =
-    let l : R.Lent = record {
-      n = n;
-      m = length a;
-      t = length x;
-      a = a;
-      b = b;
-      start = start;
-      x = x;
-      y = y;
-      answers = replicate (length x) 9;
-      work = replicate (R.required (length x) n (length a)) 7;
-    } in
-    let r : R.Outcome = R.replay l p in
+    let r : R.Outcome = R.replay (replayLent (replicate (length x) 9) start n a b x y) p in
     replayed (r .code, r .place, r .queries, r .opened, r .kept, r .answers)
+
+-- its names, with the share 8
+abbrev pub namesWith : List ℕ → List ℕ → ℕ → List ℕ → List ℕ → List ℕ → List ℕ → Seen
+namesWith names start n a b x y =
+    let r : R.Outcome = R.replay (replayLent names start n a b x y) 8 in
+    watched (r .code, r .answers, r .names)
+
+-- with a name table that is filled with 9 and has one entry more than it must have
+abbrev pub namesFrom : List ℕ → ℕ → List ℕ → List ℕ → List ℕ → List ℕ → Seen
+namesFrom start n a b x y = namesWith (replicate (suc (length x)) 9) start n a b x y
 
 -- with nothing open at the start, as document 01's cases are
 abbrev pub replayOf : ℕ → List ℕ → List ℕ → List ℕ → List ℕ → ℕ → Seen
 replayOf n a = replayFrom (replicate (length a) 0) n a
 
--- with this table of pieces; edge tables and map filled with 9
+-- with these tables of names, in and out, and of pieces; edge tables and map filled with 9
+abbrev pub contractionLent : List ℕ → List ℕ → List ℕ → ℕ → List ℕ → List ℕ → List ℕ → C.Lent
+contractionLent names outNames pieces n from to active = record {
+  n = n;
+  m = length from;
+  k = length active;
+  from = from;
+  to = to;
+  names = names;
+  active = active;
+  map = replicate (length active) 9;
+  outFrom = replicate (2 * length active) 9;
+  outTo = replicate (2 * length active) 9;
+  outNames = outNames;
+  pieces = pieces;
+  work = replicate (C.required n (length from)) 7;
+}
+
+-- each edge with the name 0
 abbrev pub contractionWith : List ℕ → ℕ → List ℕ → List ℕ → List ℕ → Seen
 contractionWith pieces n from to active =
-    let l : C.Lent = record {
-      n = n;
-      m = length from;
-      k = length active;
-      from = from;
-      to = to;
-      active = active;
-      map = replicate (length active) 9;
-      outFrom = replicate (2 * length active) 9;
-      outTo = replicate (2 * length active) 9;
-      pieces = pieces;
-      work = replicate (C.required n (length from)) 7;
-    } in
-    let r : C.Outcome = C.contraction l in
+    let r : C.Outcome = C.contraction (contractionLent (replicate (length from) 0) (replicate (2 * length active) 9) pieces n from to active) in
     contracted (r .code, r .place, r .nodes, r .edges, r .map, take (r .edges) (r .outFrom), take (r .edges) (r .outTo), r .pieces)
+
+-- its names
+abbrev pub splicedWith : List ℕ → List ℕ → ℕ → List ℕ → List ℕ → List ℕ → Seen
+splicedWith outNames names n from to active =
+    let r : C.Outcome = C.contraction (contractionLent names outNames (replicate (length active) 9) n from to active) in
+    spliced (r .code, take (r .edges) (r .outFrom), take (r .edges) (r .outTo), r .outNames)
+
+abbrev pub splicedOf : List ℕ → ℕ → List ℕ → List ℕ → List ℕ → Seen
+splicedOf names n from to active = splicedWith (replicate (2 * length active) 9) names n from to active
 
 -- with a table of pieces that is filled with 9 and has one entry more than it must have
 abbrev pub contractionOf : ℕ → List ℕ → List ℕ → List ℕ → Seen
@@ -161,6 +199,35 @@ table =
     ∷ (contractionOf 3 (0 ∷ []) (1 ∷ []) (2 ∷ 1 ∷ 2 ∷ 0 ∷ []), contracted (0, 0, 3, 1, 0 ∷ 1 ∷ 0 ∷ 2 ∷ [], 1 ∷ [], 2 ∷ [], 0 ∷ 1 ∷ 0 ∷ 1 ∷ 9 ∷ []))
     -- a table of pieces with one entry for two: 2, and it stays as it was
     ∷ (contractionWith (9 ∷ []) 2 [] [] (0 ∷ 1 ∷ []), contracted (2, 0, 0, 0, 9 ∷ 9 ∷ [], [], [], 9 ∷ []))
+    -- a path 0-1-2-3 whose roads have the names 1, 2, 0 on the way: 0 and 3 hang on road 0, 0 and 2 on road 1
+    ∷ (
+      namesFrom (1 ∷ 1 ∷ 1 ∷ []) 4 (2 ∷ 0 ∷ 1 ∷ []) (3 ∷ 1 ∷ 2 ∷ []) (0 ∷ 0 ∷ []) (3 ∷ 2 ∷ []),
+      watched (0, 1 ∷ 1 ∷ [], 0 ∷ 1 ∷ 9 ∷ []),
+    )
+    -- two bridges, 4 and 3, and a cycle of the roads 0, 1, 2 between: 0 and 4 hang on road 3; on the cycle the answer is 2 and there is no name
+    ∷ (
+      namesFrom (1 ∷ 1 ∷ 1 ∷ 1 ∷ 1 ∷ []) 5 (1 ∷ 2 ∷ 3 ∷ 3 ∷ 0 ∷ []) (2 ∷ 3 ∷ 1 ∷ 4 ∷ 1 ∷ []) (0 ∷ 1 ∷ []) (4 ∷ 3 ∷ []),
+      watched (0, 1 ∷ 2 ∷ [], 3 ∷ 65535 ∷ 9 ∷ []),
+    )
+    -- a bridge of two segments, of which only the larger is open: its name is 0. Once that has closed the answer is 0 and there is no name.
+    ∷ (
+      namesFrom (0 ∷ 1 ∷ []) 2 (0 ∷ 1 ∷ []) (1 ∷ 0 ∷ []) (0 ∷ 65534 ∷ 0 ∷ []) (1 ∷ 1 ∷ 1 ∷ []),
+      watched (0, 1 ∷ 3 ∷ 0 ∷ [], 0 ∷ 65535 ∷ 65535 ∷ 9 ∷ []),
+    )
+    -- a name table with one entry for two events: 2, and it stays as it was
+    ∷ (namesWith (9 ∷ []) [] 2 [] [] (0 ∷ 0 ∷ []) (1 ∷ 1 ∷ []), watched (2, 9 ∷ 9 ∷ [], 9 ∷ []))
+    -- a path of three edges with the names 7, 3, 5 becomes one edge with the name 3, and only one name is written
+    ∷ (splicedOf (7 ∷ 3 ∷ 5 ∷ []) 4 (0 ∷ 1 ∷ 2 ∷ []) (1 ∷ 2 ∷ 3 ∷ []) (0 ∷ 3 ∷ []), spliced (0, 0 ∷ [], 1 ∷ [], 3 ∷ 9 ∷ 9 ∷ 9 ∷ []))
+    -- two parallel edges with the names 1 and 2, then one with the name 8: the loss of one of the two parts nothing
+    ∷ (splicedOf (1 ∷ 2 ∷ 8 ∷ []) 3 (0 ∷ 1 ∷ 1 ∷ []) (1 ∷ 0 ∷ 2 ∷ []) (0 ∷ 2 ∷ []), spliced (0, 0 ∷ [], 1 ∷ [], 8 ∷ 9 ∷ 9 ∷ 9 ∷ []))
+    -- 65,535 is a name like any other
+    ∷ (
+      splicedOf (65535 ∷ 65535 ∷ 65534 ∷ []) 4 (0 ∷ 1 ∷ 2 ∷ []) (1 ∷ 2 ∷ 3 ∷ []) (0 ∷ 2 ∷ 3 ∷ []),
+      spliced (0, 0 ∷ 1 ∷ [], 1 ∷ 2 ∷ [], 65535 ∷ 65534 ∷ 9 ∷ 9 ∷ 9 ∷ 9 ∷ []),
+    )
+    -- one name for two edges, and three names out where four are needed: 2, and nothing changes
+    ∷ (splicedOf (7 ∷ []) 3 (0 ∷ 1 ∷ []) (1 ∷ 2 ∷ []) (0 ∷ 2 ∷ []), spliced (2, [], [], 9 ∷ 9 ∷ 9 ∷ 9 ∷ []))
+    ∷ (splicedWith (9 ∷ 9 ∷ 9 ∷ []) (7 ∷ 3 ∷ []) 3 (0 ∷ 1 ∷ []) (1 ∷ 2 ∷ []) (0 ∷ 2 ∷ []), spliced (2, [], [], 9 ∷ 9 ∷ 9 ∷ []))
     -- the program: N = 177 is "refused 10 at 0"
     ∷ (wrote (output (bytesOf (177 ∷ 0 ∷ 0 ∷ 8 ∷ []))), wrote (114 ∷ 101 ∷ 102 ∷ 117 ∷ 115 ∷ 101 ∷ 100 ∷ 32 ∷ 49 ∷ 48 ∷ 32 ∷ 97 ∷ 116 ∷ 32 ∷ 48 ∷ 10 ∷ []))
     ∷ []

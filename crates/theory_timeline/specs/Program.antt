@@ -48,7 +48,7 @@ inputFaults bytes =
 unfoldable pub inputFault : List ℕ → Refusal
 inputFault bytes = firstFault (inputFaults bytes)
 
--- what the program lends to the replay: the tables of its input, an answer table, and its work table
+-- what the program lends to the replay: the tables of its input, an answer table, a name table, and its work table
 unfoldable pub inputLent : List ℕ → List ℕ → Lent
 inputLent work bytes =
     let ws : List ℕ = words16 bytes in
@@ -64,6 +64,7 @@ inputLent work bytes =
       x = take t (drop (4 + 3 * m) ws);
       y = take t (drop (4 + 3 * m + t) ws);
       answers = replicate 32 0;
+      names = replicate 32 0;
       work = work;
     }
 
