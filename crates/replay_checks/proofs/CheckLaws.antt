@@ -4,7 +4,8 @@
 use Prim.Native.Nat.{_+_, _<_, _≤_, ℕ}
 use mathlib.Core.Bool.{Bool, _&&_, _||_, cond, false, not, true}
 use mathlib.Core.List.{List, [], _++_, _∷_}
-use mathlib.Core.Path.{_∙_, _≡_, ap, ap₂, refl, sym}
+use mathlib.Core.Logic.{_⊎_, inl, inr}
+use mathlib.Core.Path.{_∙_, _≡_, ap, ap₂, refl, subst, sym}
 use lib.Dec.{eqb, ltb}
 use lib.ListN.{getD, length, set, take}
 use lib.Seq.{take-all, take-suc}
@@ -315,22 +316,27 @@ module _ {n : ℕ} {held : List ℕ} {x y : ℕ} (q : EventFits n held x y) wher
   named-fits : (eqb x 65535 || eqb x 65534) ≡ true → y < 8192
   named-fits t = let f = fault-fine n (q .m) (isOpen held) (x, y) (q .few) (q .fine) .segment t in omega (arith, q .much)
 
-  pub set-opened : kindOf n x ≡ Opens → (next : List ℕ) → bits next ≡ set (bits held) y 1 → After next
+  set-opened : kindOf n x ≡ Opens → (next : List ℕ) → bits next ≡ set (bits held) y 1 → After next
   set-opened k next e =
       let o = kind-opens n x k in
       let t : (eqb x 65535 || eqb x 65534) ≡ true = ap (λ (b : Bool). b || eqb x 65534) o in
       (stored-length held next y 1 (q .words) e, event-stored held next x y 1 (q .words) t (named-fits t) (sym o) e)
 
-  pub set-closed : kindOf n x ≡ Closes → (next : List ℕ) → bits next ≡ set (bits held) y 0 → After next
+  set-closed : kindOf n x ≡ Closes → (next : List ℕ) → bits next ≡ set (bits held) y 0 → After next
   set-closed k next e =
       let (o, c) = kind-closes n x k in
       let t : (eqb x 65535 || eqb x 65534) ≡ true = ap₂ _||_ o c in
       (stored-length held next y 0 (q .words) e, event-stored held next x y 0 (q .words) t (named-fits t) (sym o) e)
 
-  pub set-asked : kindOf n x ≡ Query → After held
+  set-asked : kindOf n x ≡ Query → After held
   set-asked k =
       let u = kind-query n x k in
       (q .words, event-stays held x y (ap₂ _||_ (ne-eqb x 65535 (λ z. omega (arith, q .few))) (ne-eqb x 65534 (λ z. omega (arith, q .few)))))
 
-  pub set-nothing : kindOf n x ≡ Nothing → After held
-  set-nothing k = absurd (omega (arith, q .fine, nothing-bad n (q .m) (isOpen held) x y k))
+  -- whatever the kind: the set that is held then
+  pub changed : (next : List ℕ) → ((kindOf n x ≡ Query) × (next ≡ held)) ⊎ (((kindOf n x ≡ Opens) × (bits next ≡ set (bits held) y 1))
+      ⊎ (((kindOf n x ≡ Closes) × (bits next ≡ set (bits held) y 0)) ⊎ (kindOf n x ≡ Nothing))) → After next
+  changed next (inl (k, e)) = subst After (sym e) (set-asked k)
+  changed next (inr (inl (k, e))) = set-opened k next e
+  changed next (inr (inr (inl (k, e)))) = set-closed k next e
+  changed next (inr (inr (inr k))) = absurd (omega (arith, q .fine, nothing-bad n (q .m) (isOpen held) x y k))

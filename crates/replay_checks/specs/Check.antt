@@ -50,9 +50,9 @@ pub record CanCheckList (n m t : ℕ) (a b start x y : List ℕ) : Type 0 where
   pub x-long : t ≤ length x
   pub y-long : t ≤ length y
 
--- the tables that are read, which answers and work play no part in
+-- the tables that are read, which answers, names and work play no part in
 abbrev pub tablesOf : ℕ → ℕ → ℕ → List ℕ → List ℕ → List ℕ → List ℕ → List ℕ → Lent
-tablesOf n m t a b start x y = lent n m t a b start x y [] []
+tablesOf n m t a b start x y = lent n m t a b start x y [] [] []
 
 -- the first fault of the share, the ends, the starting table and the events; where there is none, the ones of the set that is open at the end
 pub record CheckedList (n m t p : ℕ) (a b start x y : List ℕ) (r : Checked) : Type 0 where

@@ -8,9 +8,8 @@ ghost use Rattle.theory_graph.specs.Lists.{pairs};
 ghost use Rattle.call_open_set.specs.OpenSet.{isOpen};
 ghost use Rattle.call_sizes.specs.Refusal.{firstFault};
 ghost use Rattle.theory_timeline.specs.Call.{lent};
-ghost use Rattle.theory_timeline.specs.Events.{after};
 ghost use Rattle.theory_timeline.specs.Replay.{eventFault, required, shortTables};
-ghost use Rattle.replay_checks.specs.Check.{CanCheckList, CheckedEvents, CheckedList, CheckedTables, EventFits};
+ghost use Rattle.replay_checks.specs.Check.{CanCheckList, CheckedEvents, CheckedList, CheckedTables};
 
 // Internal: the first fault of a replay's input, its number and its place; where there is none, 0, 0 and how many segments are open at the end.
 pub struct Checked {
@@ -78,28 +77,6 @@ fn event_fault(n: usize, m: usize, held: &[u64; 128], x: u16, y: usize) -> usize
     }
 }
 
-// The open segments after an event without a fault.
-fn after_event(held: [u64; 128], n: usize, x: u16, y: usize) -> [u64; 128]
-    requires { ⌜ EventFits n held x y ⌝ }
-    ensures { λ r. ⌜ (length r ≡ 128) × (isOpen r ≡ after (x, y) (isOpen held)) ⌝ }
-{
-    let kind = theory_timeline::kind_of(x, n);
-    match kind {
-        Kind::Query => {
-            return held;
-        }
-        Kind::Opens => {
-            return call_open_set::opened(held, y);
-        }
-        Kind::Closes => {
-            return call_open_set::closed(held, y);
-        }
-        Kind::Nothing => {
-            return held;
-        }
-    }
-}
-
 // The first fault of the t events, where the segments of `first` are open before them: the open set is handed on from event to event.
 fn check_events(n: usize, m: usize, t: usize, x: &[u16], y: &[u16], first: [u64; 128]) -> Held
     requires { ⌜ (t ≤ length (now x)) × (t ≤ length (now y)) × (m ≤ 8192) × (n ≤ 4096) ⌝ }
@@ -119,7 +96,17 @@ fn check_events(n: usize, m: usize, t: usize, x: &[u16], y: &[u16], first: [u64;
                 held: held,
             };
         }
-        held = after_event(held, n, kind, s);
+        // The set is copied where it changes, and not at a query.
+        match theory_timeline::kind_of(kind, n) {
+            Kind::Query => {}
+            Kind::Opens => {
+                held = call_open_set::opened(held, s);
+            }
+            Kind::Closes => {
+                held = call_open_set::closed(held, s);
+            }
+            Kind::Nothing => {}
+        }
         i += 1;
     }
     Held {
@@ -148,11 +135,12 @@ fn length_fault(
     x: &[u16],
     y: &[u16],
     answers: &[u8],
+    names: &[u16],
     work: &[u32],
 ) -> Fault
     requires { ⌜ (n ≤ 4096) × (m ≤ 8192) × (t ≤ 4096) ⌝ }
     ensures { λ r. ⌜ (r .code, r .place) ≡ firstFault (shortTables (lent n m t (now (a .entry)) (now (b .entry)) (now (start .entry)) (now (x .entry))
-        (now (y .entry)) (now (answers .entry)) (now (work .entry)))) ⌝ }
+        (now (y .entry)) (now (answers .entry)) (now (names .entry)) (now (work .entry)))) ⌝ }
 {
     let tables = [
         a.len(),
@@ -166,6 +154,8 @@ fn length_fault(
         y.len(),
         t,
         answers.len(),
+        t,
+        names.len(),
         t,
         work.len(),
         required(t, n, m),
@@ -241,10 +231,11 @@ pub fn check(
     x: &[u16],
     y: &[u16],
     answers: &[u8],
+    names: &[u16],
     work: &[u32],
 ) -> Checked
     ensures { λ r. ⌜ CheckedTables (lent n m t (now (a .entry)) (now (b .entry)) (now (start .entry)) (now (x .entry)) (now (y .entry))
-        (now (answers .entry)) (now (work .entry))) p r ⌝ }
+        (now (answers .entry)) (now (names .entry)) (now (work .entry))) p r ⌝ }
 {
     let f = call_sizes::size_fault(n, m, t, 0);
     if f.code > 0 {
@@ -254,7 +245,7 @@ pub fn check(
             open: 0,
         };
     }
-    let s = length_fault(n, m, t, a, b, start, x, y, answers, work);
+    let s = length_fault(n, m, t, a, b, start, x, y, answers, names, work);
     if s.code > 0 {
         return Checked {
             code: s.code,

@@ -9,26 +9,26 @@ use Rattle.replay_checks.proofs.check.Tie as tie
 returns : tie.Need-returns
 returns c =
     let at-size-fault = c .before .before in
-    let start = at-size-fault .before .before .before .before .before .before .before .before in
+    let start = at-size-fault .before .before .before .before .before .before .before .before .before in
     let a = start .args in
-    let l = lent (a .n) (a .m) (a .t) (a .a .now) (a .b .now) (a .start .now) (a .x .now) (a .y .now) (a .answers .now) (a .work .now) in
+    let l = lent (a .n) (a .m) (a .t) (a .a .now) (a .b .now) (a .start .now) (a .x .now) (a .y .now) (a .answers .now) (a .names .now) (a .work .now) in
     refused-checked l (a .p) _ _ _ (size-refused l (a .p) _ (at-size-fault .size-fault .ensures) (omega arith)) (omega arith)
 
 length-fault-requires : tie.Need-length-fault-requires
 length-fault-requires c κs =
     let at-size-fault = c .before .before in
-    let start = at-size-fault .before .before .before .before .before .before .before .before in
+    let start = at-size-fault .before .before .before .before .before .before .before .before .before in
     let a = start .args in
-    let l = lent (a .n) (a .m) (a .t) (a .a .now) (a .b .now) (a .start .now) (a .x .now) (a .y .now) (a .answers .now) (a .work .now) in
+    let l = lent (a .n) (a .m) (a .t) (a .a .now) (a .b .now) (a .start .now) (a .x .now) (a .y .now) (a .answers .now) (a .names .now) (a .work .now) in
     within l (a .p) _ (at-size-fault .size-fault .ensures) (omega arith)
 
 returns-2 : tie.Need-returns-2
 returns-2 c =
     let at-length-fault = c .before .before in
     let at-size-fault = at-length-fault .before .before .before in
-    let start = at-size-fault .before .before .before .before .before .before .before .before in
+    let start = at-size-fault .before .before .before .before .before .before .before .before .before in
     let a = start .args in
-    let l = lent (a .n) (a .m) (a .t) (a .a .now) (a .b .now) (a .start .now) (a .x .now) (a .y .now) (a .answers .now) (a .work .now) in
+    let l = lent (a .n) (a .m) (a .t) (a .a .now) (a .b .now) (a .start .now) (a .x .now) (a .y .now) (a .answers .now) (a .names .now) (a .work .now) in
     refused-checked l (a .p) _ _ _
     (length-refused l (a .p) _ (at-size-fault .size-fault .ensures) (omega arith) _ (at-length-fault .length-fault .ensures) (omega arith)) (omega arith)
 
@@ -36,18 +36,18 @@ check-list-requires : tie.Need-check-list-requires
 check-list-requires c κs =
     let at-length-fault = c .before .before in
     let at-size-fault = at-length-fault .before .before .before in
-    let start = at-size-fault .before .before .before .before .before .before .before .before in
+    let start = at-size-fault .before .before .before .before .before .before .before .before .before in
     let a = start .args in
-    let l = lent (a .n) (a .m) (a .t) (a .a .now) (a .b .now) (a .start .now) (a .x .now) (a .y .now) (a .answers .now) (a .work .now) in
+    let l = lent (a .n) (a .m) (a .t) (a .a .now) (a .b .now) (a .start .now) (a .x .now) (a .y .now) (a .answers .now) (a .names .now) (a .work .now) in
     can-check l (a .p) _ (at-size-fault .size-fault .ensures) (omega arith) _ (at-length-fault .length-fault .ensures) (omega arith)
 
 returns-3 : tie.Need-returns-3
 returns-3 c =
     let at-length-fault = c .before .before .before in
     let at-size-fault = at-length-fault .before .before .before in
-    let start = at-size-fault .before .before .before .before .before .before .before .before in
+    let start = at-size-fault .before .before .before .before .before .before .before .before .before in
     let a = start .args in
-    let l = lent (a .n) (a .m) (a .t) (a .a .now) (a .b .now) (a .start .now) (a .x .now) (a .y .now) (a .answers .now) (a .work .now) in
+    let l = lent (a .n) (a .m) (a .t) (a .a .now) (a .b .now) (a .start .now) (a .x .now) (a .y .now) (a .answers .now) (a .names .now) (a .work .now) in
     list-checked l (a .p) _ (at-size-fault .size-fault .ensures) (omega arith) _ (at-length-fault .length-fault .ensures) (omega arith) (c .check-list .ensures)
 
 pub check-spec : {M : Type 1} → statement M

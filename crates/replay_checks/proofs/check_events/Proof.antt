@@ -1,9 +1,11 @@
 -- Events without a fault so far, with the set open before the next one.
 use Prim.Native.Nat.{_-_}
+use mathlib.Core.Logic.{inl, inr, ⊎-elim}
+use mathlib.Core.Path.{_∙_, ap, sym}
 use native.Mathlib.Omega.{arith}
 use borrow.Author.Needs.{needs}
-use Rattle.call_open_set.specs.OpenSet.{isOpen}
-use Rattle.replay_checks.proofs.CheckLaws.{Passing, event-fits, event-passes, event-refused, events-pass, passing-none}
+use Rattle.call_open_set.specs.OpenSet.{bits, isOpen}
+use Rattle.replay_checks.proofs.CheckLaws.{Passing, changed, event-fits, event-passes, event-refused, events-pass, passing-none}
 use Rattle.replay_checks.proofs.check_events.Statement.{statement}
 use Rattle.replay_checks.proofs.check_events.Tie as tie
 
@@ -32,20 +34,22 @@ returns c =
     let start = at-loop .before .before .before in
     event-refused (at-loop .loop .inv) (omega arith) (start .pre) (c .before .event-fault .result) (c .before .event-fault .ensures) (omega arith)
 
-after-event-requires : tie.Need-after-event-requires Inv-loop μ-loop
-after-event-requires c κs =
-    let at-loop = c .before .before .before .before .before .before in
-    let start = at-loop .before .before .before in
-    event-fits (at-loop .loop .inv) (omega arith) (start .pre) (c .before .event-fault .result) (c .before .event-fault .ensures) (omega arith)
-
 loop-again : tie.Need-loop-again Inv-loop μ-loop
 loop-again c =
-    let at-event-fault = c .before .before in
+    let at-kind = c .before in
+    let at-event-fault = at-kind .before .before in
     let at-loop = at-event-fault .before .before .before .before .before in
     let start = at-loop .before .before .before in
-    let e = c .after-event .ensures in
-    event-passes (at-loop .loop .inv) (omega arith) (start .pre) (at-event-fault .event-fault .result) (at-event-fault .event-fault .ensures) (omega arith) _
-    (e .0) (e .1)
+    let fault = at-event-fault .event-fault in
+    let fits = event-fits (at-loop .loop .inv) (omega arith) (start .pre) (fault .result) (fault .ensures) (omega arith) in
+    let kind = sym (at-kind .kind-of .ensures) in
+    let (long, is) = changed fits (c .match .held) (⊎-elim
+    (λ w. inl (kind ∙ w .1 .given .1, w .2))
+    (⊎-elim (λ w. inr (inl (kind ∙ w .1 .given .1, ap bits (w .3) ∙ w .2 .ensures)))
+    (⊎-elim (λ w. inr (inr (inl (kind ∙ w .1 .given .1, ap bits (w .3) ∙ w .2 .ensures))))
+    (λ w. inr (inr (inr (kind ∙ w .1 .given .1))))))
+    (c .match .came)) in
+    event-passes (at-loop .loop .inv) (omega arith) (start .pre) (fault .result) (fault .ensures) (omega arith) (c .match .held) long is
 
 returns-2 : tie.Need-returns-2 Inv-loop μ-loop
 returns-2 c =
@@ -66,7 +70,13 @@ check-events-spec =
     cast-s
     event-fault-requires
     returns
-    after-event-requires
+    (λ c κs. search needs)
+    (λ c. search needs)
+    (λ c. search needs)
+    (λ c κs. search needs)
+    (λ c. search needs)
+    (λ c κs. search needs)
+    (λ c. search needs)
     (λ c. search needs)
     (λ c. search needs)
     loop-again
