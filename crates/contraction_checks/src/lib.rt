@@ -21,21 +21,25 @@ fn length_fault(
     k: usize,
     from: &[u16],
     to: &[u16],
+    names: &[u16],
     active: &[u16],
     map: &[u16],
     out_from: &[u16],
     out_to: &[u16],
+    out_names: &[u16],
     pieces: &[u16],
     work: &[u32],
 ) -> Fault
     requires { ⌜ (n ≤ 4096) × (m ≤ 8192) × (k ≤ 8192) ⌝ }
-    ensures { λ r. ⌜ (r .code, r .place) ≡ firstFault (shortTables (lent n m k (now (from .entry)) (now (to .entry)) (now (active .entry))
-        (now (map .entry)) (now («out_from» .entry)) (now («out_to» .entry)) (now (pieces .entry)) (now (work .entry)))) ⌝ }
+    ensures { λ r. ⌜ (r .code, r .place) ≡ firstFault (shortTables (lent n m k (now (from .entry)) (now (to .entry)) (now (names .entry)) (now (active .entry))
+        (now (map .entry)) (now («out_from» .entry)) (now («out_to» .entry)) (now («out_names» .entry)) (now (pieces .entry)) (now (work .entry)))) ⌝ }
 {
     let tables = [
         from.len(),
         m,
         to.len(),
+        m,
+        names.len(),
         m,
         active.len(),
         k,
@@ -44,6 +48,8 @@ fn length_fault(
         out_from.len(),
         2 * k,
         out_to.len(),
+        2 * k,
+        out_names.len(),
         2 * k,
         pieces.len(),
         k,
@@ -75,15 +81,17 @@ pub fn first_fault(
     k: usize,
     from: &[u16],
     to: &[u16],
+    names: &[u16],
     active: &[u16],
     map: &[u16],
     out_from: &[u16],
     out_to: &[u16],
+    out_names: &[u16],
     pieces: &[u16],
     work: &[u32],
 ) -> Fault
-    ensures { λ r. ⌜ (r .code, r .place) ≡ fault (lent n m k (now (from .entry)) (now (to .entry)) (now (active .entry))
-        (now (map .entry)) (now («out_from» .entry)) (now («out_to» .entry)) (now (pieces .entry)) (now (work .entry))) ⌝ }
+    ensures { λ r. ⌜ (r .code, r .place) ≡ fault (lent n m k (now (from .entry)) (now (to .entry)) (now (names .entry)) (now (active .entry))
+        (now (map .entry)) (now («out_from» .entry)) (now («out_to» .entry)) (now («out_names» .entry)) (now (pieces .entry)) (now (work .entry))) ⌝ }
 {
     let sizes = call_sizes::size_fault(n, m, 0, k);
     if sizes.code != 0 {
@@ -95,10 +103,12 @@ pub fn first_fault(
         k,
         from,
         to,
+        names,
         active,
         map,
         out_from,
         out_to,
+        out_names,
         pieces,
         work,
     );
