@@ -39,5 +39,5 @@ only-then-put t l o p = only-then o (only-put t l p)
 pub only-past : {fs : List ℕ} {n : ℕ} {a b : List ℕ} → OnlyFields fs n a b → (i : ℕ) → 16 * n ≤ i → getD b i 0 ≡ getD a i 0
 unfolding half
 only-past {n = n} {a} {b} o i l =
-    let e : i ≡ 16 * n + 2 * 0 + (i - 16 * n) = omega arith in
+    let e : i ≡ 16 * n + 3 * 0 + (i - 16 * n) = omega arith in
     ap (λ k. getD b k 0) e ∙ ap (λ f. f 0) (o .halves (i - 16 * n)) ∙ ap (λ k. getD a k 0) (sym e)

@@ -30,15 +30,15 @@ set-put k v x a l m = record {
   here = fun-ext (λ u. sym (update-at (λ u y. y ≡ getD (set a (16 * v + k) x) (16 * u + k) 0) (λ u. getD a (16 * u + k) 0) v x
       (sym (getD-set-same a (16 * v + k) x 0 l)) (λ u n. sym (getD-set-other a (16 * v + k) (16 * u + k) x 0 (λ e. n (omega arith)))) u));
   else = λ j i n. fun-ext (λ u. getD-set-other a (16 * v + k) (16 * u + j) x 0 (λ e. n (omega arith)));
-  halves = λ n i j. fun-ext (λ h. getD-set-other a (16 * v + k) (16 * n + 2 * h + j) x 0 (λ e. omega arith));
+  halves = λ n i j. fun-ext (λ h. getD-set-other a (16 * v + k) (16 * n + 3 * h + j) x 0 (λ e. omega arith));
 }
 
-pub set-half : (n k h x : ℕ) (a : List ℕ) → 16 * n + 2 * h + k < length a → k < 2 → PutHalf n k h x a (set a (16 * n + 2 * h + k) x)
+pub set-half : (n k h x : ℕ) (a : List ℕ) → 16 * n + 3 * h + k < length a → k < 3 → PutHalf n k h x a (set a (16 * n + 3 * h + k) x)
 unfolding node half
 set-half n k h x a l m = record {
-  same = length-set a (16 * n + 2 * h + k) x;
-  here = fun-ext (λ u. sym (update-at (λ u y. y ≡ getD (set a (16 * n + 2 * h + k) x) (16 * n + 2 * u + k) 0) (λ u. getD a (16 * n + 2 * u + k) 0) h x
-      (sym (getD-set-same a (16 * n + 2 * h + k) x 0 l)) (λ u p. sym (getD-set-other a (16 * n + 2 * h + k) (16 * n + 2 * u + k) x 0 (λ e. p (omega arith)))) u));
-  else = λ j i p. fun-ext (λ u. getD-set-other a (16 * n + 2 * h + k) (16 * n + 2 * u + j) x 0 (λ e. p (omega arith)));
-  nodes = λ j i v l. getD-set-other a (16 * n + 2 * h + k) (16 * v + j) x 0 (λ e. omega arith);
+  same = length-set a (16 * n + 3 * h + k) x;
+  here = fun-ext (λ u. sym (update-at (λ u y. y ≡ getD (set a (16 * n + 3 * h + k) x) (16 * n + 3 * u + k) 0) (λ u. getD a (16 * n + 3 * u + k) 0) h x
+      (sym (getD-set-same a (16 * n + 3 * h + k) x 0 l)) (λ u p. sym (getD-set-other a (16 * n + 3 * h + k) (16 * n + 3 * u + k) x 0 (λ e. p (omega arith)))) u));
+  else = λ j i p. fun-ext (λ u. getD-set-other a (16 * n + 3 * h + k) (16 * n + 3 * u + j) x 0 (λ e. p (omega arith)));
+  nodes = λ j i v l. getD-set-other a (16 * n + 3 * h + k) (16 * v + j) x 0 (λ e. omega arith);
 }

@@ -9,11 +9,11 @@ use Rattle.core_words.specs.Fields.{half, node}
 use Rattle.core_words.proofs.get_half.Tie as tie
 
 cast-result : tie.Need-cast-result
-cast-result c = omega (arith, c .shared-slice-known .given (16 * c .before .args .n + 2 * c .before .args .h + c .before .args .k))
+cast-result c = omega (arith, c .shared-slice-known .given (16 * c .before .args .n + 3 * c .before .args .h + c .before .args .k))
 
 returns : tie.Need-returns
 unfolding node half
-returns c = (refl, omega (arith, c .shared-slice-known .given (16 * c .before .args .n + 2 * c .before .args .h + c .before .args .k)))
+returns c = (refl, omega (arith, c .shared-slice-known .given (16 * c .before .args .n + 3 * c .before .args .h + c .before .args .k)))
 
 pub get-half-spec : {M : Type 1} → statement M
 get-half-spec =
