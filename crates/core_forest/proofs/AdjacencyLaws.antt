@@ -1,17 +1,17 @@
 -- Laws of linking: one half-edge more, an edge, all of them; what stays.
 -- Assumes nothing.
-use Prim.Native.Nat.{_*_, _+_, _-_, _/_, _<_, _≤_, ℕ}
+use Prim.Native.Nat.{_%_, _*_, _+_, _-_, _/_, _<_, _≤_, ℕ}
 use mathlib.Core.List.{List}
 use mathlib.Core.Path.{_∙_, _≡_, ap, refl, sym}
 use lib.Dec.{eqb}
 use lib.ListN.{getD}
 use native.Mathlib.Omega.{arith}
 use borrow.Author.Tests.{eqb-false, eqb-true}
-use Rattle.core_forest.proofs.HalfEdges.{half-cases, twin-back, twin-even, twin-odd}
+use Rattle.core_forest.proofs.HalfEdges.{twin-back, twin-even, twin-odd}
 use Rattle.core_forest.specs.AdjacencyLists.{AdjacencyLists, CanLink, LastFrom, Linking, origin, twin}
 use Rattle.theory_graph.proofs.Booleans.{onBool}
 use Rattle.core_words.proofs.FieldLaws.{update-at, update-other}
-use Rattle.core_words.specs.Fields.{HEAD, NEXT, TO, Put, PutHalf, half, node, update}
+use Rattle.core_words.specs.Fields.{HEAD, NAME, NEXT, TO, Put, PutHalf, half, node, update}
 
 last-here : (out : ℕ → ℕ) (v i : ℕ) → out i ≡ v → LastFrom out v (i + 1) (i + 1)
 last-here out v i e = record { below = omega arith; at = λ _. let q : i + 1 - 1 ≡ i = omega arith in ap out q ∙ e; gap = λ h l k _. omega arith }
@@ -43,6 +43,7 @@ module _ {n m h v : ℕ} {w : List ℕ} (k : Linking n m w w h) (l : h < 2 * m) 
     };
     same = q .same ∙ p .same;
     tos = tos;
+    names = q .halves n v-fits NAME ∙ p .else NAME (omega arith) (λ e. omega arith);
     past = λ j i. ap (λ f. f j) nexts ∙ update-other (half n NEXT w) h x j (λ e. omega arith);
     nodes = λ j i ne u b. ap (λ f. f u) (q .else j i ne) ∙ p .nodes j i u b;
   }
@@ -68,13 +69,14 @@ linking-none u = record {
   };
   same = refl;
   tos = refl;
+  names = refl;
   past = λ h l. refl;
   nodes = λ j i ne v l. refl;
 }
 
 -- from the words as they are
 pub linking-self : {n m i : ℕ} {a w : List ℕ} → Linking n m a w i → Linking n m w w i
-linking-self k = record { few = k .few; much = k .much; room = k .room; ends = k .ends; links = k .links; same = refl; tos = refl; past = λ h l. refl; nodes = λ j i ne v l. refl }
+linking-self k = record { few = k .few; much = k .much; room = k .room; ends = k .ends; links = k .links; same = refl; tos = refl; names = refl; past = λ h l. refl; nodes = λ j i ne v l. refl }
 
 pub linking-then : {n m i j : ℕ} {a b c : List ℕ} → Linking n m a b i → Linking n m b c j → Linking n m a c j
 linking-then k l = record {
@@ -85,6 +87,7 @@ linking-then k l = record {
   links = l .links;
   same = l .same ∙ k .same;
   tos = l .tos ∙ k .tos;
+  names = l .names ∙ k .names;
   past = λ h i. l .past h i ∙ k .past h i;
   nodes = λ j i ne v b. l .nodes j i ne v b ∙ k .nodes j i ne v b;
 }
@@ -104,13 +107,18 @@ edge-linked e k l o = let q : 2 * (e + 1) ≡ 2 * e + 1 + 1 = omega arith in rw 
 pub all-linked : {n m : ℕ} {a w : List ℕ} → Linking n m a w (2 * m) → AdjacencyLists n m w
 all-linked k = record { few = k .few; much = k .much; room = k .room; ends = k .ends; heads = k .links .heads; nexts = k .links .nexts }
 
--- the words behind the half-edges stay
-pub linking-past : {n m i : ℕ} {a w : List ℕ} → Linking n m a w i → (j : ℕ) → 16 * n + 4 * m ≤ j → getD w j 0 ≡ getD a j 0
+-- the words behind the half-edges stay: each is a field of a half-edge
+pub linking-past : {n m i : ℕ} {a w : List ℕ} → Linking n m a w i → (j : ℕ) → 16 * n + 6 * m ≤ j → getD w j 0 ≡ getD a j 0
 unfolding half
-linking-past {n} {m} {a = a} {w} k j l = half-cases (j - 16 * n)
-    (λ e.
-    let q : j ≡ 16 * n + 2 * ((j - 16 * n) / 2) + 0 = omega arith in
-    ap (λ p. getD w p 0) q ∙ ap (λ f. f ((j - 16 * n) / 2)) (k .tos) ∙ ap (λ p. getD a p 0) (sym q))
-    (λ e.
-    let q : j ≡ 16 * n + 2 * ((j - 16 * n) / 2) + 1 = omega arith in
-    ap (λ p. getD w p 0) q ∙ k .past ((j - 16 * n) / 2) (omega arith) ∙ ap (λ p. getD a p 0) (sym q))
+linking-past {n} {m} {a = a} {w} k j l =
+    let h = (j - 16 * n) / 3 in
+    onBool (eqb ((j - 16 * n) % 3) 0)
+    (λ t. let z = eqb-true ((j - 16 * n) % 3) 0 t in at 0 (omega arith) (ap (λ f. f h) (k .tos)))
+    (λ t. let y : ¬ ((j - 16 * n) % 3 ≡ 0) = eqb-false ((j - 16 * n) % 3) 0 t in
+    onBool (eqb ((j - 16 * n) % 3) 1)
+    (λ t. let z = eqb-true ((j - 16 * n) % 3) 1 t in at 1 (omega arith) (k .past h (omega arith)))
+    (λ t. let z : ¬ ((j - 16 * n) % 3 ≡ 1) = eqb-false ((j - 16 * n) % 3) 1 t in at 2 (omega arith) (ap (λ f. f h) (k .names))))
+  where
+    at : (f : ℕ) → j ≡ 16 * n + 3 * ((j - 16 * n) / 3) + f
+        → getD w (16 * n + 3 * ((j - 16 * n) / 3) + f) 0 ≡ getD a (16 * n + 3 * ((j - 16 * n) / 3) + f) 0 → getD w j 0 ≡ getD a j 0
+    at f q e = ap (λ p. getD w p 0) q ∙ e ∙ ap (λ p. getD a p 0) (sym q)

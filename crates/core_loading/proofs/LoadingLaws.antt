@@ -18,7 +18,7 @@ use Rattle.theory_graph.specs.Lists.{filter, firsts, member, table}
 use Rattle.core_loading.specs.Loading.{Entered, Entering, Past, PutEdge, Unmarked}
 use Rattle.core_words.proofs.FieldLaws.{update-at, update-other, update-same}
 use Rattle.core_words.specs.Clearing.{Cleared}
-use Rattle.core_words.specs.Fields.{ACTIVE, MARK, TO, Put, PutHalf, half, node, update}
+use Rattle.core_words.specs.Fields.{ACTIVE, MARK, NAME, TO, Put, PutHalf, half, node, update}
 
 -- ---- the different entries of a list
 -- one more entry that is not there yet, and one that is
@@ -157,7 +157,7 @@ module _ {n d v : ℕ} {S : List ℕ} {mark act : ℕ → ℕ} (g : Entered n S 
 halves-past : (n : ℕ) (a b : List ℕ) → ((j : ℕ) → half n j b ≡ half n j a) → Past (16 * n) a b
 unfolding half
 halves-past n a b f i l =
-    let e : 16 * n + 2 * 0 + (i - 16 * n) ≡ i = omega arith in
+    let e : 16 * n + 3 * 0 + (i - 16 * n) ≡ i = omega arith in
     ap (λ j. getD b j 0) (sym e) ∙ ap (λ (h : ℕ → ℕ). h 0) (f (i - 16 * n)) ∙ ap (λ j. getD a j 0) e
 
 -- the marks cleared
@@ -187,27 +187,38 @@ entering-new {n} {d} {v} {a} {b} {c} l z k p q = record {
 
 -- ---- edges
 -- each word behind the nodes is a field of a half-edge
-halves-kept : (n m : ℕ) (a b : List ℕ) → ((k h : ℕ) → k < 2 → 2 * m ≤ h → half n k b h ≡ half n k a h) → Past (16 * n + 4 * m) a b
+halves-kept : (n m : ℕ) (a b : List ℕ) → ((k h : ℕ) → k < 3 → 2 * m ≤ h → half n k b h ≡ half n k a h) → Past (16 * n + 6 * m) a b
 unfolding half
 halves-kept n m a b f i l =
-    let e : 16 * n + 2 * ((i - 16 * n) / 2) + (i - 16 * n) % 2 ≡ i = omega arith in
-    ap (λ j. getD b j 0) (sym e) ∙ f ((i - 16 * n) % 2) ((i - 16 * n) / 2) (omega arith) (omega arith) ∙ ap (λ j. getD a j 0) e
+    let e : 16 * n + 3 * ((i - 16 * n) / 3) + (i - 16 * n) % 3 ≡ i = omega arith in
+    ap (λ j. getD b j 0) (sym e) ∙ f ((i - 16 * n) % 3) ((i - 16 * n) / 3) (omega arith) (omega arith) ∙ ap (λ j. getD a j 0) e
 
-pub put-edge : (n j a b : ℕ) {w w₁ w₂ : List ℕ} → PutHalf n TO (2 * j) a w w₁ → PutHalf n TO (2 * j + 1) b w₁ w₂ → PutEdge n j a b w w₂
-put-edge n j a b {w} {w₁} {w₂} p q =
+pub put-edge : (n j a b c : ℕ) {w w₁ w₂ w₃ : List ℕ} → PutHalf n TO (2 * j) a w w₁ → PutHalf n TO (2 * j + 1) b w₁ w₂ → PutHalf n NAME (2 * j) c w₂ w₃ → PutEdge n j a b c w w₃
+put-edge n j a b c {w} {w₁} {w₂} {w₃} p q r =
     record {
-      same = q .same ∙ p .same;
-      past = λ i l. halves-kept n (j + 1) w w₂ other i (omega arith);
-      first = ap (λ f. f (2 * j)) (q .here) ∙ update-other (half n TO w₁) (2 * j + 1) b (2 * j) (λ e. omega arith) ∙ ap (λ f. f (2 * j)) (p .here) ∙ update-same (half n TO w) (2 * j) a;
-      second = ap (λ f. f (2 * j + 1)) (q .here) ∙ update-same (half n TO w₁) (2 * j + 1) b;
+      same = r .same ∙ q .same ∙ p .same;
+      past = λ i l. halves-kept n (j + 1) w w₃ other i (omega arith);
+      first = ap (λ f. f (2 * j)) (tos ∙ q .here) ∙ update-other (half n TO w₁) (2 * j + 1) b (2 * j) (λ e. omega arith)
+          ∙ ap (λ f. f (2 * j)) (p .here) ∙ update-same (half n TO w) (2 * j) a;
+      second = ap (λ f. f (2 * j + 1)) (tos ∙ q .here) ∙ update-same (half n TO w₁) (2 * j + 1) b;
+      name = ap (λ f. f (2 * j)) (r .here) ∙ update-same (half n NAME w₂) (2 * j) c;
       else = λ h l. far h (λ e. omega arith) (λ e. omega arith);
-      nodes = λ i l v u. q .nodes i l v u ∙ p .nodes i l v u;
+      else-name = λ h l. far-name h (λ e. omega arith);
+      nodes = λ i l v u. r .nodes i l v u ∙ q .nodes i l v u ∙ p .nodes i l v u;
     }
   where
-    far : (h : ℕ) → ¬ (h ≡ 2 * j) → ¬ (h ≡ 2 * j + 1) → half n TO w₂ h ≡ half n TO w h
-    far h k l = ap (λ f. f h) (q .here) ∙ update-other (half n TO w₁) (2 * j + 1) b h l ∙ ap (λ f. f h) (p .here) ∙ update-other (half n TO w) (2 * j) a h k
+    tos : half n TO w₃ ≡ half n TO w₂
+    tos = r .else TO (omega arith) (λ e. omega arith)
 
-    other : (k h : ℕ) → k < 2 → 2 * (j + 1) ≤ h → half n k w₂ h ≡ half n k w h
-    other k h i l = onBool (eqb k 0)
-        (λ e. let z = eqb-true k 0 e in rw z (far h (λ r. omega arith) (λ r. omega arith)))
-        (λ e. ap (λ (f : ℕ → ℕ). f h) (q .else k i (eqb-false k 0 e) ∙ p .else k i (eqb-false k 0 e)))
+    far : (h : ℕ) → ¬ (h ≡ 2 * j) → ¬ (h ≡ 2 * j + 1) → half n TO w₃ h ≡ half n TO w h
+    far h k l = ap (λ f. f h) (tos ∙ q .here) ∙ update-other (half n TO w₁) (2 * j + 1) b h l ∙ ap (λ f. f h) (p .here) ∙ update-other (half n TO w) (2 * j) a h k
+
+    far-name : (h : ℕ) → ¬ (h ≡ 2 * j) → half n NAME w₃ h ≡ half n NAME w h
+    far-name h k = ap (λ f. f h) (r .here) ∙ update-other (half n NAME w₂) (2 * j) c h k
+        ∙ ap (λ f. f h) (q .else NAME (omega arith) (λ e. omega arith) ∙ p .else NAME (omega arith) (λ e. omega arith))
+
+    other : (k h : ℕ) → k < 3 → 2 * (j + 1) ≤ h → half n k w₃ h ≡ half n k w h
+    other k h i l =
+        onBool (eqb k TO) (λ e. let z = eqb-true k TO e in rw z (far h (λ s. omega arith) (λ s. omega arith))) λ e.
+        onBool (eqb k NAME) (λ d. let z = eqb-true k NAME d in rw z (far-name h (λ s. omega arith))) λ d.
+        ap (λ (f : ℕ → ℕ). f h) (r .else k i (eqb-false k NAME d) ∙ q .else k i (eqb-false k TO e) ∙ p .else k i (eqb-false k TO e))

@@ -1,5 +1,5 @@
--- Two half-edges.
-use Prim.Native.Nat.{_-_}
+-- `put_edge` meets its contract: two half-edges, and the name at the first.
+-- Assumes nothing.
 use borrow.Author.Needs.{needs}
 use Rattle.core_loading.proofs.LoadingLaws.{put-edge}
 use Rattle.core_loading.proofs.put_edge.Statement.{statement}
@@ -7,11 +7,12 @@ use Rattle.core_loading.proofs.put_edge.Tie as tie
 
 returns : tie.Need-returns
 returns c =
-    let at-put-half2 = c .before .before in
+    let at-put-half3 = c .before .before in
+    let at-put-half2 = at-put-half3 .before .before .before .before in
     let at-put-half = at-put-half2 .before .before .before .before in
     let start = at-put-half .before .before .before in
     let a = start .args in
-    put-edge (a .n) (a .j) (a .a) (a .b) (at-put-half .put-half .ensures) (at-put-half2 .put-half2 .ensures)
+    put-edge (a .n) (a .j) (a .a) (a .b) (a .c) (at-put-half .put-half .ensures) (at-put-half2 .put-half2 .ensures) (at-put-half3 .put-half3 .ensures)
 
 pub put-edge-spec : {M : Type 1} → statement M
 put-edge-spec =
@@ -20,6 +21,8 @@ put-edge-spec =
     (λ c. search needs)
     (λ c κs. search needs)
     (λ c. search needs)
+    (λ c. search needs)
+    (λ c κs. search needs)
     (λ c. search needs)
     (λ c κs. search needs)
     (λ c. search needs)
