@@ -298,7 +298,7 @@ table-nth ρ i (suc n) k a b = onBool (eqb k i)
     (λ t. subst (λ (v : ℕ). Nth (ρ v) i (table ρ i (suc n)) v) (sym (eqb-true k i t)) here)
     (λ t. let e : ¬ (k ≡ i) = eqb-false k i t in there (table-nth ρ (suc i) n k (omega arith) (omega arith)))
 
-pub table-mem : (ρ : ℕ → ℕ) (i n x : ℕ) → List·Memᴰ x (table ρ i n) → (k : ℕ) × (k < i + n) × (x ≡ ρ k)
+pub table-mem : {A : Type 0} (ρ : ℕ → A) (i n : ℕ) (x : A) → List·Memᴰ x (table ρ i n) → (k : ℕ) × (k < i + n) × (x ≡ ρ k)
 table-mem ρ i zero x m = absurd (elim m [ ])
 table-mem ρ i (suc n) x (List·Memᴰ·head p) = (i, omega arith, p)
 table-mem ρ i (suc n) x (List·Memᴰ·tail m) = let (k, l, p) = table-mem ρ (suc i) n x m in (k, omega arith, p)

@@ -73,7 +73,7 @@ module _ (E : List Edge) (S : List ℕ) (T : ClassForest E S) where
       go {v} {x} ne p (inl e) = inr (subst (λ (w : ℕ). pos w < pos x) e p)
       go ne p (inr q) = inr (omega arith)
 
-  parent-outside : (v : ℕ) → seen v ≡ true → root v ≡ false → below v (par v) ≡ false
+  pub parent-outside : (v : ℕ) → seen v ≡ true → root v ≡ false → below v (par v) ≡ false
   parent-outside v s r = onBool (below v (par v)) (λ h. absurd (go (below-position (suc (pos (par v))) v (par v) (omega arith) (T .par-seen v s r) h))) (λ f. f)
     where
       go : (par v ≡ v) ⊎ (pos v < pos (par v)) → ⊥
@@ -107,7 +107,7 @@ module _ (E : List Edge) (S : List ℕ) (T : ClassForest E S) where
   adjacent-connected : {p q : ℕ} → Adjacent p q E → Connected E p q
   adjacent-connected n (U, a, b, c) = contradict a (adj-closed U n c ∙ b)
 
-  below-connected : (n v x : ℕ) → pos x < n → seen x ≡ true → below v x ≡ true → Connected E x v
+  pub below-connected : (n v x : ℕ) → pos x < n → seen x ≡ true → below v x ≡ true → Connected E x v
   below-connected zero v x l s h = absurd (omega arith)
   below-connected (suc n) v x l s h =
       onEq x v (λ e. subst (λ (w : ℕ). Connected E x w) e (insep-refl E x)) λ ne.

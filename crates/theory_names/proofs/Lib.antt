@@ -7,6 +7,7 @@ pub mod NamedContraction
 pub mod NamedUniqueness
 pub mod NamedReading
 pub mod Along
+pub mod ForestNames
 pub mod Trails
 pub mod Published
 pub mod NamedCanonical
