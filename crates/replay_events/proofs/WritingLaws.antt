@@ -38,7 +38,7 @@ use Rattle.replay_events.proofs.TaggingLaws.{Listed, closing-open, coun
 use Rattle.replay_events.specs.Kinds.{endsBy, isQuery, junctionsBy, kindAt}
 use Rattle.replay_events.specs.Tagging.{Tagged, TagsReady}
 use Rattle.replay_events.specs.Writing.{CanPlace, CanWriteEvents, EventsWritten, LinkRoom, LinkedEvent, TagsFit, Written}
-use Rattle.replay_events.specs.Writing.{keyOf, lastBy, listOf, namesTag, nextBy, tagsIn}
+use Rattle.replay_events.specs.Writing.{lastBy, listOf, namesTag, nextBy, tagsIn}
 
 -- ---- the tags' names
 seek-last-same : (f h : ℕ → Bool) (k : ℕ) → ((j : ℕ) → j < k → f j ≡ h j) → seekLast f k ≡ seekLast h k

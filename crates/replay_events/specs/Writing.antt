@@ -11,16 +11,13 @@ use Rattle.theory_graph.specs.Lists.{pairs}
 use Rattle.replay_events.specs.Kinds.{isQuery, kindAt}
 use Rattle.replay_step.specs.Area.{EventsIn}
 use Rattle.theory_timeline.specs.Steps.{Sound}
-use Rattle.theory_timeline.specs.Tags.{openCount, seekLast}
+use Rattle.theory_timeline.specs.Tags.{keyOf, openCount, seekLast}
 use Rattle.theory_timeline.specs.Windows.{Timeline, atStart}
 
 -- ---- by tags
 -- the tags that stand in the words
 abbrev pub tagsIn : ℕ → List ℕ → ℕ → ℕ
 tagsIn t w j = getD w (2 * t + 3 * j) 0
-
-abbrev pub keyOf : ℕ → ℕ
-keyOf g = (g - 1) / 4
 
 -- the tag names the key k
 abbrev pub namesTag : (ℕ → ℕ) → ℕ → ℕ → Bool

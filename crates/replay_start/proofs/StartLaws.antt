@@ -11,7 +11,8 @@ use native.Mathlib.Omega.{arith}
 use borrow.Author.Tests.{eqb-false, eqb-true, le-ltb, lt-ltb}
 use borrow.Rule.Slice.PartMut.{putMid}
 use Rattle.core_loading.specs.Loading.{PutEdge}
-use Rattle.replay_events.specs.Writing.{keyOf, namesTag}
+use Rattle.replay_events.specs.Writing.{namesTag}
+use Rattle.theory_timeline.specs.Tags.{keyOf}
 use Rattle.replay_start.specs.Start.{ClearReady, Cleared, LoadReady, fixed, namedBy, segment, tagsFrom}
 use Rattle.replay_step.proofs.EdgeLaws.{added-more, added-none, added-put, added-skip}
 use Rattle.replay_step.proofs.WordLaws.{front-get}

@@ -14,7 +14,7 @@ use Rattle.core_reduce.specs.Core.{edgesIn}
 use Rattle.core_reduce.specs.declared.Counts.{Counts}
 use Rattle.core_words.specs.Fields.{ACTIVE, MARK}
 use Rattle.replay_events.proofs.WritingLaws.{ends-low, names-tag, same-front, word-key}
-use Rattle.replay_events.specs.Writing.{keyOf, namesTag}
+use Rattle.replay_events.specs.Writing.{namesTag}
 use Rattle.replay_start.proofs.StartLaws.{any-same, pick-numbers}
 use Rattle.replay_start.specs.Start.{Cleared, LoadReady, fixed, namedBy, segment, tagsFrom}
 use Rattle.replay_start.specs.Whole.{ListIn, StartReady, WholeLoaded, WholeMade, WholeReady}

@@ -7,11 +7,12 @@ use mathlib.Core.List.{List}
 use mathlib.Core.Path.{_≡_}
 use lib.Dec.{ltb}
 use lib.ListN.{drop, getD, length}
-use Rattle.core_words.specs.Fields.{TO, half}
-use Rattle.replay_events.specs.Writing.{keyOf, namesTag}
+use Rattle.core_words.specs.Fields.{NAME, TO, half}
+use Rattle.replay_events.specs.Writing.{namesTag}
+use Rattle.theory_timeline.specs.Tags.{keyOf}
 use Rattle.replay_roads.specs.Runs.{run}
-use Rattle.theory_graph.specs.Graph.{Edge}
 use Rattle.theory_graph.specs.Lists.{any, range}
+use Rattle.theory_names.specs.Names.{Entry}
 
 -- ---- the keys that events name
 -- the tags of the events whose words stand from `from` on, three to an event
@@ -40,8 +41,9 @@ pub record Cleared (from i j counts : ℕ) (w z : List ℕ) : Type 0 where
 abbrev pub fixed : ℕ → List ℕ → ℕ → Bool
 fixed counts w j = ltb 0 (run counts w j)
 
-abbrev pub segment : List ℕ → List ℕ → ℕ → Edge
-segment a b j = (getD a j 0, getD b j 0)
+-- its edge, with its name
+abbrev pub segment : List ℕ → List ℕ → ℕ → Entry
+segment a b j = ((getD a j 0, getD b j 0), j)
 
 -- k edges are loaded of a graph that has n nodes and whose words stand from s on, behind the counts; the roads from i up to j are to be loaded
 pub record LoadReady (n s : ℕ) (a b : List ℕ) (counts i j k : ℕ) (v : List ℕ) : Type 0 where
@@ -52,6 +54,7 @@ pub record LoadReady (n s : ℕ) (a b : List ℕ) (counts i j k : ℕ) (v : List
   pub much : length a ≤ 8192
   pub many : n ≤ 65536
   pub few : k ≤ i
-  pub room : s + 16 * n + 4 * (k + (j - i)) ≤ length v
+  pub room : s + 16 * n + 6 * (k + (j - i)) ≤ length v
   pub nodes : (u : ℕ) → u < length a → (getD a u 0 < n) × (getD b u 0 < n)
   pub ends : (h : ℕ) → h < 2 * k → half n TO (drop s v) h < n
+  pub names : (h : ℕ) → h < k → half n NAME (drop s v) (2 * h) < 65536

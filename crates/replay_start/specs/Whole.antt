@@ -14,8 +14,6 @@ use Rattle.replay_step.specs.Load.{ActiveReady, MakeReady, scratch}
 use Rattle.replay_step.specs.declared.Graph.{Graph}
 use Rattle.replay_step.specs.declared.Part.{Part}
 use Rattle.replay_step.specs.declared.Window.{Window}
-use Rattle.theory_graph.specs.Cut.{cut}
-use Rattle.theory_graph.specs.Graph.{NodeSet}
 use Rattle.theory_graph.specs.Lists.{pairs}
 use Rattle.theory_timeline.specs.Events.{pick}
 use Rattle.theory_timeline.specs.Steps.{Sound}
@@ -30,16 +28,16 @@ pub record StartReady (n : ℕ) (p : Part) (a b : List ℕ) (counts : ℕ) (v : 
   pub apart : counts + length a ≤ p .area
   pub b-long : length b ≡ length a
   pub much : length a ≤ 8192
-  pub room : scratch p + 16 * n + 4 * length a ≤ length v
+  pub room : scratch p + 16 * n + 6 * length a ≤ length v
   pub nodes : (u : ℕ) → u < length a → (getD a u 0 < n) × (getD b u 0 < n)
 
--- all n junctions, and each road that has an open segment and that no event names by its tag
+-- all n junctions, and each road that has an open segment and that no event names by its tag, with its name
 pub record WholeLoaded (n : ℕ) (p : Part) (a b : List ℕ) (counts : ℕ) (v z : List ℕ) (l : Graph) : Type 0 where
   pub nodes : l .nodes ≡ n
   pub front : take counts z ≡ take counts v
   pub ready : MakeReady p l z
-  pub edges : (U : NodeSet) → cut U (edgesIn (l .nodes) (l .edges) (drop (scratch p) z))
-      ≡ cut U (pick (λ r. ltb 0 (run counts v r) && not (namedBy (p .words) 0 (p .events) v r)) 0 (pairs a b))
+  pub edges : edgesIn (l .nodes) (l .edges) (drop (scratch p) z)
+      ≡ pick (λ r. ltb 0 (run counts v r) && not (namedBy (p .words) 0 (p .events) v r)) 0 (pairs a b)
 
 -- ---- the whole list
 -- a list of t events with these segments stands in the words
@@ -58,11 +56,11 @@ pub record WholeReady (n t : ℕ) (a b : List ℕ) (counts area : ℕ) (v : List
   pub some : 0 < t
   pub front : 5 * t ≤ counts
   pub apart : counts + length a ≤ area
-  pub room : area + 13 * t + 16 * n + 4 * length a ≤ length v
+  pub room : area + 17 * t + 16 * n + 6 * length a ≤ length v
   pub much : t ≤ 4096
 
 -- its small graph stands in its area, for every such list
 pub record WholeMade (n t : ℕ) (a b : List ℕ) (counts area : ℕ) (v z : List ℕ) (r : Window) : Type 0 where
   pub at : r .at ≡ 0
   pub events : r .events ≡ t
-  pub made : (g : Timeline) → ListIn n t a b counts v g → SmallArea g r (take (13 * t) (drop area z))
+  pub made : (g : Timeline) → ListIn n t a b counts v g → SmallArea g r (take (17 * t) (drop area z))

@@ -16,7 +16,7 @@ fn load_whole(
     requires { ⌜ StartReady n part (now a) (now b) counts (now work) ⌝ }
     ensures { λ r. ⌜ WholeLoaded n part (now (a .entry)) (now (b .entry)) counts (now (work .entry)) (now (work .exit)) r ⌝ }
 {
-    let s = part.area + 13 * part.events;
+    let s = part.area + 17 * part.events;
     load::clear_named(part.words, part.events, counts, work);
     let k = replay_step::load::enter_places(work, part.places, 2 * part.events, s, n);
     let m = load::load_roads(n, s, a, b, counts, work);

@@ -31,7 +31,7 @@ pub(crate) fn clear_named(from: usize, t: usize, counts: usize, work: &mut [u32]
     }
 }
 
-// Road j: where its count is not 0, its edge is loaded as the k-th. The edges then.
+// Road j: where its count is not 0, its edge is loaded as the k-th, with the name j. The edges then.
 pub(crate) fn load_road(
     n: usize,
     s: usize,
@@ -51,7 +51,7 @@ pub(crate) fn load_road(
     }
     let x = a[j] as usize;
     let y = b[j] as usize;
-    core_loading::put_edge(&mut work[s..], n, k, x, y);
+    core_loading::put_edge(&mut work[s..], n, k, x, y, j);
     k + 1
 }
 

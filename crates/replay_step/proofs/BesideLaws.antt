@@ -7,16 +7,18 @@ use mathlib.Core.Path.{_∙_, _≡_, ap, ap₂, sym}
 use lib.Dec.{leb, ltb}
 use lib.ListN.{drop, getD, length, length-drop, length-take, take}
 use native.Mathlib.Omega.{arith}
-use borrow.Author.Tests.{le-leb, le-ltb, lt-leb, lt-ltb}
+use borrow.Author.Tests.{le-leb, le-ltb, lt-leb, lt-ltb, ltb-true}
 use borrow.Rule.Slice.PartMut.{putMid}
 use Rattle.core_loading.specs.Loading.{PutEdge}
+use Rattle.theory_graph.proofs.Booleans.{and-elim}
+use Rattle.theory_graph.specs.Graph.{Edge}
 use Rattle.theory_timeline.proofs.TagLaws.{pick-ext-events}
-use Rattle.theory_timeline.specs.Tags.{adds, isOpenAfter, pickEvents, wasOpen}
+use Rattle.theory_timeline.specs.Tags.{adds, isOpenAfter, keyOf, pickEvents, wasOpen}
 use Rattle.theory_timeline.specs.Windows as Windows
-use Rattle.replay_step.proofs.EdgeLaws.{added-more, added-none, added-put, added-skip}
+use Rattle.replay_step.proofs.EdgeLaws.{There, added-more, added-none, added-put, added-skip}
 use Rattle.replay_step.proofs.WordLaws.{front-get}
 use Rattle.replay_step.specs.Area.{span}
-use Rattle.replay_step.specs.Load.{AddReady, Added, addsIn, placesIn, scratch}
+use Rattle.replay_step.specs.Load.{AddReady, Added, addsIn, entryIn, scratch}
 use Rattle.replay_step.specs.declared.Part.{Part}
 use Rattle.replay_step.specs.declared.Window.{Window}
 
@@ -52,35 +54,49 @@ adds-same w c e {t′ = t′} {x′ = x′} {y = y} a b d = ap₂ (λ (t x : ℕ
 
 -- ---- one event
 module _ {w : Window} {p : Part} {i m : ℕ} {v : List ℕ} (q : AddReady w p i (i + 1) m v) where
+  there : There (scratch p) (w .nodes) m v
+  there = record { ends = q .ends; names = q .names }
+
   pub add-none : addsIn w p v i ≡ false → Added w p i (i + 1) m v v m
-  add-none e = added-skip (q .ends) e
+  add-none e = added-skip there e
 
-  pub add-need : (a b : ℕ) → a ≡ getD v (2 * i) 0 → b ≡ getD v (2 * i + 1) 0
-      → (16 * w .nodes + 4 * m + 4 ≤ length (take (length v - scratch p) (drop (scratch p) v))) × (a < 65536) × (b < 65536) × (w .nodes ≤ 65536) × (m < 32768)
-  add-need a b ea eb =
+  -- an event that adds its key has a tag
+  pub adds-tag : addsIn w p v i ≡ true → 0 < getD v (2 * w .events + 3 * i) 0
+  unfolding adds
+  adds-tag e = and-elim (ltb 0 (getD v (2 * w .events + 3 * i) 0)) _ e (λ t _. ltb-true 0 (getD v (2 * w .events + 3 * i) 0) t)
+
+  pub add-need : (a b t : ℕ) → a ≡ getD v (2 * i) 0 → b ≡ getD v (2 * i + 1) 0 → t ≡ getD v (2 * w .events + 3 * i) 0
+      → (16 * w .nodes + 6 * m + 6 ≤ length (take (length v - scratch p) (drop (scratch p) v))) × (a < 65536) × (b < 65536) × (keyOf t < 65536) × (w .nodes ≤ 65536) × (m < 32768)
+  add-need a b t ea eb et =
       let la = q .nodes (2 * i) (omega (arith, q .inside)) in
-      let lb = q .nodes (2 * i + 1) (omega (arith, q .inside)) in
-      (rw (length-take, length-drop) (omega (arith, q .room)), omega (arith, q .many), omega (arith, q .many), q .many, omega (arith, q .few))
+      let lb = q .nodes (2 * i + 1) (omega (arith, q .inside)) in (
+        rw (length-take, length-drop) (omega (arith, q .room)),
+        omega (arith, q .many),
+        omega (arith, q .many),
+        rw et (q .keys i (omega (arith, q .inside))),
+        q .many,
+        omega (arith, q .few),
+      )
 
-  pub add-put : addsIn w p v i ≡ true → (a b : ℕ) → a ≡ getD v (2 * i) 0 → b ≡ getD v (2 * i + 1) 0 → (zs : List ℕ)
-      → PutEdge (w .nodes) m a b (take (length v - scratch p) (drop (scratch p) v)) zs
+  pub add-put : addsIn w p v i ≡ true → (a b t : ℕ) → a ≡ getD v (2 * i) 0 → b ≡ getD v (2 * i + 1) 0 → t ≡ getD v (2 * w .events + 3 * i) 0 → (zs : List ℕ)
+      → PutEdge (w .nodes) m a b (keyOf t) (take (length v - scratch p) (drop (scratch p) v)) zs
       → Added w p i (i + 1) m v (putMid (scratch p) (length v - scratch p) v zs) (m + 1)
-  add-put e a b ea eb zs k =
-      added-put (q .ends) e (ap₂ (λ (x y : ℕ). (x, y)) ea eb) (omega (arith, q .nodes (2 * i) (omega (arith, q .inside))))
-      (omega (arith, q .nodes (2 * i + 1) (omega (arith, q .inside)))) (omega (arith, q .room)) k
+  add-put e a b t ea eb et zs k =
+      added-put there e (ap₂ (λ (x : Edge) (y : ℕ). (x, y)) (ap₂ (λ (x y : ℕ). (x, y)) ea eb) (ap keyOf et)) (omega (arith, q .nodes (2 * i) (omega (arith, q .inside))))
+      (omega (arith, q .nodes (2 * i + 1) (omega (arith, q .inside)))) (rw et (q .keys i (omega (arith, q .inside)))) (omega (arith, q .room)) k
 
 -- the front of the words decides which events add their keys, and their edges
 pub beside-same : (w : Window) (p : Part) (v z : List ℕ) → ((d : ℕ) → d < 5 * w .events → getD z d 0 ≡ getD v d 0) → (i k : ℕ) → i + k ≤ w .events
-    → pickEvents (addsIn w p z) (placesIn z) i k ≡ pickEvents (addsIn w p v) (placesIn v) i k
-beside-same w p v z h i k l = pick-ext-events (addsIn w p z) (addsIn w p v) (placesIn z) (placesIn v) i k λ d a b. (
+    → pickEvents (addsIn w p z) (entryIn (w .events) z) i k ≡ pickEvents (addsIn w p v) (entryIn (w .events) v) i k
+beside-same w p v z h i k l = pick-ext-events (addsIn w p z) (addsIn w p v) (entryIn (w .events) z) (entryIn (w .events) v) i k λ d a b. (
   adds-same (span w) (p .at, p .events) (w .at + d) (h (2 * w .events + 3 * d) (omega arith)) (h (2 * w .events + 3 * d + 1) (omega arith)) (h (2 * w .events + 3 * d + 2) (omega arith)),
-  ap₂ (λ (a b : ℕ). (a, b)) (h (2 * d) (omega arith)) (h (2 * d + 1) (omega arith)),
+  ap₂ (λ (x : Edge) (y : ℕ). (x, y)) (ap₂ (λ (a b : ℕ). (a, b)) (h (2 * d) (omega arith)) (h (2 * d + 1) (omega arith))) (ap keyOf (h (2 * w .events + 3 * d) (omega arith))),
 )
 
 -- ---- events one after another
 module _ {w : Window} {p : Part} {i j m : ℕ} {v : List ℕ} (q : AddReady w p i j m v) where
   pub adding-none : Added w p i i m v v m
-  adding-none = added-none (q .ends)
+  adding-none = added-none (record { ends = q .ends; names = q .names })
 
   module _ {e k : ℕ} {z : List ℕ} (a : Added w p i e m v z k) (lo : i ≤ e) (l : e < j) where
     front-is : (d : ℕ) → d < 5 * w .events → getD z d 0 ≡ getD v d 0
@@ -96,7 +112,9 @@ module _ {w : Window} {p : Part} {i j m : ℕ} {v : List ℕ} (q : AddReady w p 
       few = omega (arith, q .few, a .most);
       many = q .many;
       nodes = λ d u. omega (arith, q .nodes d u, front-is d (omega arith));
+      keys = λ d u. rw (front-is (2 * w .events + 3 * d) (omega arith)) (q .keys d u);
       ends = a .edged .ends;
+      names = a .edged .names;
     }
 
     pub adding-more : {y : List ℕ} {r : ℕ} → Added w p e (e + 1) k z y r → Added w p i (e + 1) m v y r

@@ -4,15 +4,14 @@
 -- Assumes nothing: these are definitions.
 use Prim.Native.Nat.{_*_, _+_, _-_, _<_, _≤_, ℕ}
 use mathlib.Core.Bool.{Bool}
-use mathlib.Core.List.{List, map}
+use mathlib.Core.List.{List, _++_, map}
 use mathlib.Core.Path.{_≡_}
 use lib.ListN.{drop, getD, length, take}
 use Rattle.core_loading.specs.Loading.{Entered}
 use Rattle.core_reduce.specs.Core.{edgesIn}
 use Rattle.core_reduce.specs.declared.Counts.{Counts}
 use Rattle.core_words.specs.Fields.{ACTIVE, MARK, NAME, TO, half, node}
-use Rattle.theory_graph.specs.Graph.{NodeSet}
-use Rattle.theory_names.specs.Names.{Entry, SameEntries, weigh}
+use Rattle.theory_names.specs.Names.{Entry}
 use Rattle.theory_names.specs.NamedSmallGraph.{IsNamedSmallGraph}
 use Rattle.theory_timeline.specs.Tags.{adds, keyOf, pickEvents}
 use Rattle.replay_step.specs.Area.{areaEdges, span}
@@ -58,13 +57,13 @@ pub record Edged (s n m : ℕ) (w z : List ℕ) : Type 0 where
 pub record AddedBy (s n : ℕ) (f : ℕ → Bool) (E : ℕ → Entry) (i j m : ℕ) (v z : List ℕ) (r : ℕ) : Type 0 where
   pub long : length z ≡ length v
   pub edged : Edged s n r v z
-  pub more : (q : ℕ → ℕ) (U : NodeSet) → weigh q U (edgesIn n r (drop s z)) ≡ weigh q U (edgesIn n m (drop s v)) + weigh q U (pickEvents f E i (j - i))
+  pub more : edgesIn n r (drop s z) ≡ edgesIn n m (drop s v) ++ pickEvents f E i (j - i)
   pub most : r ≤ m + (j - i)
 
 -- those of an area of e events
 pub record Copied (e m s n : ℕ) (w z : List ℕ) : Type 0 where
   pub edged : Edged s n m w z
-  pub same : SameEntries (edgesIn n m (drop s z)) (areaEdges e m (take (17 * e) w))
+  pub same : edgesIn n m (drop s z) ≡ areaEdges e m (take (17 * e) w)
 
 -- ---- the events beside the part
 -- event i of the window adds its key, by the words of the area
@@ -129,7 +128,7 @@ pub record PartLoaded (w : Window) (p : Part) (v z : List ℕ) (l : Graph) : Typ
   pub nodes : l .nodes ≡ w .nodes
   pub front : take (scratch p) z ≡ take (scratch p) v
   pub ready : MakeReady p l z
-  pub edges : (q : ℕ → ℕ) (U : NodeSet) → weigh q U (edgesIn (l .nodes) (l .edges) (drop (scratch p) z))
-      ≡ weigh q U (areaEdges (w .events) (w .edges) (take (17 * w .events) v))
-      + (weigh q U (pickEvents (addsIn w p v) (entryIn (w .events) v) 0 (p .at - w .at)) + weigh q U
-      (pickEvents (addsIn w p v) (entryIn (w .events) v) (p .at - w .at + p .events) (w .events - (p .at - w .at + p .events))))
+  pub edges : edgesIn (l .nodes) (l .edges) (drop (scratch p) z)
+      ≡ areaEdges (w .events) (w .edges) (take (17 * w .events) v)
+      ++ (pickEvents (addsIn w p v) (entryIn (w .events) v) 0 (p .at - w .at)
+      ++ pickEvents (addsIn w p v) (entryIn (w .events) v) (p .at - w .at + p .events) (w .events - (p .at - w .at + p .events)))

@@ -3,7 +3,7 @@
 -- Assumes nothing.
 use Prim.Native.Nat.{_%_, _*_, _+_, _-_, _/_, _<_, _≤_, suc, zero, ℕ}
 use mathlib.Core.Bool.{Bool, _&&_, _||_, and-false, cond, false, not, or-assoc, or-false, or-true, true}
-use mathlib.Core.List.{List, [], _∷_}
+use mathlib.Core.List.{List, [], _++_, _∷_}
 use mathlib.Core.Logic.{_⊎_, inl, inr}
 use mathlib.Core.Path.{_∙_, _≡_, ap, ap₂, refl, subst, sym}
 use lib.Dec.{eqb, leb, ltb}
@@ -19,6 +19,7 @@ use Rattle.theory_graph.proofs.Lists.{any-in, range-mem}
 use Rattle.theory_graph.specs.Cut.{crosses}
 use Rattle.theory_graph.specs.Graph.{Edge, NodeSet}
 use Rattle.theory_graph.specs.Lists.{any, range}
+use Rattle.theory_names.proofs.NamedCuts.{weigh-append}
 use Rattle.theory_names.specs.Names.{Entry, Named, weigh}
 use Rattle.theory_names.specs.NamedSmallGraph.{imageNamed}
 use Rattle.theory_timeline.proofs.Counting.{bit-most}
@@ -218,16 +219,16 @@ module _ (φ : ℕ → ℕ) (U : NodeSet) (segs : List Edge) (t s : SegmentSet) 
   none-more e = ap (weigh φ U) (pick-ext t s (λ r. onBool (eqb r k) (λ q. let z = eqb-true r k q in ap t z ∙ e ∙ sym (ap s z)) (λ q. same r (eqb-false r k q))) 0 segs)
 
 -- ---- the events beside a part
-pub pick-snoc : (φ : ℕ → ℕ) (U : NodeSet) (f : ℕ → Bool) (E : ℕ → Entry) (i n : ℕ) → weigh φ U (pickEvents f E i (suc n)) ≡ weigh φ U (pickEvents f E i n) + weigh φ U (pickEvents f E (i + n) 1)
-pick-snoc φ U f E i zero = let z : i ≡ i + 0 = omega arith in ap (λ (k : ℕ). weigh φ U (pickEvents f E k 1)) z ∙ omega arith
-pick-snoc φ U f E i (suc n) =
+pub pick-snoc : (f : ℕ → Bool) (E : ℕ → Entry) (i n : ℕ) → pickEvents f E i (suc n) ≡ pickEvents f E i n ++ pickEvents f E (i + n) 1
+pick-snoc f E i zero = let z : i ≡ i + 0 = omega arith in ap (λ (k : ℕ). pickEvents f E k 1) z
+pick-snoc f E i (suc n) =
     let z : suc i + n ≡ i + suc n = omega arith in
-    go (f i) (pick-snoc φ U f E (suc i) n ∙ ap (λ (k : ℕ). weigh φ U (pickEvents f E (suc i) n) + weigh φ U (pickEvents f E k 1)) z)
+    go (f i) (pick-snoc f E (suc i) n ∙ ap (λ (k : ℕ). pickEvents f E (suc i) n ++ pickEvents f E k 1) z)
   where
-    go : (b : Bool) → weigh φ U (pickEvents f E (suc i) (suc n)) ≡ weigh φ U (pickEvents f E (suc i) n) + weigh φ U (pickEvents f E (i + suc n) 1)
-        → weigh φ U (cond b (E i ∷ pickEvents f E (suc i) (suc n)) (pickEvents f E (suc i) (suc n)))
-        ≡ weigh φ U (cond b (E i ∷ pickEvents f E (suc i) n) (pickEvents f E (suc i) n)) + weigh φ U (pickEvents f E (i + suc n) 1)
-    go true h = omega arith
+    go : (b : Bool) → pickEvents f E (suc i) (suc n) ≡ pickEvents f E (suc i) n ++ pickEvents f E (i + suc n) 1
+        → cond b (E i ∷ pickEvents f E (suc i) (suc n)) (pickEvents f E (suc i) (suc n))
+        ≡ cond b (E i ∷ pickEvents f E (suc i) n) (pickEvents f E (suc i) n) ++ pickEvents f E (i + suc n) 1
+    go true h = ap (λ (l : Named). E i ∷ l) h
     go false h = h
 
 -- the set of keys that are open, named by events of one kind and not of another
@@ -430,7 +431,7 @@ module _ (g : Timeline) (w c : Window) (h : Part w c) (fit : w .0 + w .1 ≤ siz
       ap (λ (x : Bool). O r && (x && not (namesIn g (w .0) (c .0 + c .1 - w .0) r)))
       (named-snoc g (c .0 + c .1) k r ∙ ap (λ (x : Bool). namesIn g (c .0 + c .1) k r || x) n ∙ or-false (namesIn g (c .0 + c .1) k r)) in
       let one = one-event φ U i (omega arith) (behind (suc k)) (behind k) (λ q r. same r (names-none g i r q)) (λ r n. same r (names-other g i r n)) (back-own k (omega arith)) in
-      omega (arith, pick-snoc φ U f (entryAt g) (c .0 + c .1) k)
+      omega (arith, ap (weigh φ U) (pick-snoc f (entryAt g) (c .0 + c .1) k), weigh-append φ U (pickEvents f (entryAt g) (c .0 + c .1) k) (pickEvents f (entryAt g) (c .0 + c .1 + k) 1))
 
   -- ---- both
   -- the events that pass have the edges of the added roads
