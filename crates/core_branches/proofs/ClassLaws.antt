@@ -44,7 +44,7 @@ module _ {n m k seen : ℕ} {w₀ : List ℕ} (s : CanNumberClasses n m k seen w
       over v u l q = onBool (eqb (node TOP w₀ v) v) (λ e. omega (arith, ap (node POSITION w₀) (eqb-true (node TOP w₀ v) v e)))
           (λ e. omega (arith, s .final .tops .up v l (eqb-false (node TOP w₀ v) v e)))
 
-  tree-order-at : (w : List ℕ) → OnlyFields classFields n w₀ w → TreeOrderAt n seen w
+  pub tree-order-at : (w : List ℕ) → OnlyFields classFields n w₀ w → TreeOrderAt n seen w
   tree-order-at w o = rw (
     o .nodes ORDER (omega arith) refl,
     o .nodes POSITION (omega arith) refl,
@@ -157,6 +157,9 @@ module _ {n m k seen : ℕ} {w₀ : List ℕ} (s : CanNumberClasses n m k seen w
             h6 : node TOP w₅ ≡ node TOP w₀
             h6 = u .rest .nodes TOP (omega arith) refl ∙ g6
 
+            h7 : node NEAREST w₅ ≡ node NEAREST w₄
+            h7 = u .rest .nodes NEAREST (omega arith) refl
+
             h10 : node NUMBER w₅ ≡ node NUMBER w₃
             h10 = u .rest .nodes NUMBER (omega arith) refl ∙ l .rest .nodes NUMBER (omega arith) refl
 
@@ -189,6 +192,13 @@ module _ {n m k seen : ℕ} {w₀ : List ℕ} (s : CanNumberClasses n m k seen w
               canonical = rw (h11, h10, h6) (small-canonical (s .forest) (s .final) (s .marks) (s .search .search .marked) (s .search .active) (s .search .have)
                   (λ v i p. s .search .search .place-of v i p .0) (a .actives) branches others nearest parents);
               less = fits;
+              numbers = rw (h11, h10) (others .numbers);
+              seen = rw h11 rep-seen;
+              nearest = rw (h10, h7) (record {
+                numbered = λ v i p b. nearest .numbered v i p (s .search .search .place-of v i p .0);
+                up = λ v i p b. nearest .up v i p (s .search .search .place-of v i p .0);
+              });
+              parents = rw (h11, h7) parents;
               placed = λ j i.
                   let p = s .search .active j i .0 in
                   let ne = a .actives .done j i in

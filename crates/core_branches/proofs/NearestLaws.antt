@@ -14,28 +14,29 @@ use Rattle.core_words.proofs.FieldLaws.{update-at, update-other}
 use Rattle.core_words.specs.Fields.{ABOVE, EDGE, MEMBER, NEAREST, NUMBER, ORDER, PARENT, POSITION, TOP, Put, node, update}
 
 -- ---- over functions
-module _ {n seen i v : ℕ} {ord pos par te top nr near : ℕ → ℕ} (g : TreeOrder n seen ord pos par te top) (s : NearestNumbers n i pos par te top nr near)
-    (fit : v < n) (at : pos v ≡ i + 1) where
+module _ {n seen i v : ℕ} {ord pos par te top : ℕ → ℕ} (g : TreeOrder n seen ord pos par te top) (fit : v < n) (at : pos v ≡ i + 1) where
   -- a node up to place i + 1 is v, or up to i
-  early : (c : ℕ) → c < n → 0 < pos c → pos c ≤ i + 1 → ¬ (c ≡ v) → pos c ≤ i
+  pub early : (c : ℕ) → c < n → 0 < pos c → pos c ≤ i + 1 → ¬ (c ≡ v) → pos c ≤ i
   early c l p b ne =
       let far : ¬ (pos c ≡ i + 1) = λ e. ne (sym (g .place-of c l p .1) ∙ ap (λ k. ord (k - 1)) (e ∙ sym at) ∙ g .place-of v fit (omega arith) .1) in
       omega arith
 
+module _ {n seen i v : ℕ} {ord pos par te top nr near : ℕ → ℕ} (g : TreeOrder n seen ord pos par te top) (s : NearestNumbers n i pos par te top nr near)
+    (fit : v < n) (at : pos v ≡ i + 1) where
   pub nearest-skip : ¬ (top v ≡ v) → NearestNumbers n (i + 1) pos par te top nr near
   nearest-skip ne = record {
-    numbered = λ c l p b t. s .numbered c l p (early c l p b (λ e. ne (ap top (sym e) ∙ t ∙ e))) t;
-    up = λ c l p b t. s .up c l p (early c l p b (λ e. ne (ap top (sym e) ∙ t ∙ e))) t;
+    numbered = λ c l p b t. s .numbered c l p (early g fit at c l p b (λ e. ne (ap top (sym e) ∙ t ∙ e))) t;
+    up = λ c l p b t. s .up c l p (early g fit at c l p b (λ e. ne (ap top (sym e) ∙ t ∙ e))) t;
   }
 
   pub nearest-put : (y : ℕ) → (¬ (nr v ≡ 0) → y ≡ nr v) → (nr v ≡ 0 → y ≡ near (top (par v))) → NearestNumbers n (i + 1) pos par te top nr (update near v y)
   nearest-put y numbered up = record {
     numbered = update-at (λ c x. c < n → 0 < pos c → pos c ≤ i + 1 → top c ≡ c → ¬ (nr c ≡ 0) → x ≡ nr c) near v y
         (λ _ _ _ _. numbered)
-        (λ c ne l p b. s .numbered c l p (early c l p b ne));
+        (λ c ne l p b. s .numbered c l p (early g fit at c l p b ne));
     up = update-at (λ c x. c < n → 0 < pos c → pos c ≤ i + 1 → top c ≡ c → ¬ (te c ≡ 0) → nr c ≡ 0 → x ≡ update near v y (top (par c))) near v y
         (λ l p b t h z. up z ∙ sym (stays v l p b h))
-        (λ c ne l p b t h z. s .up c l p (early c l p b ne) t h z ∙ sym (stays c l p b h));
+        (λ c ne l p b t h z. s .up c l p (early g fit at c l p b ne) t h z ∙ sym (stays c l p b h));
   }
     where
       stays : (c : ℕ) → c < n → 0 < pos c → pos c ≤ i + 1 → ¬ (te c ≡ 0) → update near v y (top (par c)) ≡ near (top (par c))
