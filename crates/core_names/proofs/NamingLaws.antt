@@ -18,12 +18,12 @@ module _ {n j : ℕ} {a : List ℕ} (g : CanNameEdge n a j) {s t x : ℕ} (es : 
       (λ (u, e). subst (NumberFits n a) (sym (e ∙ et)) (g .upper))
       k
 
+  pub v-fits : {v : ℕ} → v ≡ node MEMBER a x → v < n
+  v-fits ev = rw ev (child-fits .member-fit)
+
   module _ {v p : ℕ} (ev : v ≡ node MEMBER a x) (ep : p ≡ node TOP a v) where
     p-is : p ≡ node TOP a (node MEMBER a x)
     p-is = ep ∙ ap (node TOP a) ev
-
-    pub v-fits : v < n
-    v-fits = rw ev (child-fits .member-fit)
 
     pub p-fits : p < n
     p-fits = rw p-is (child-fits .top-fit)

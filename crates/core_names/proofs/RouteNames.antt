@@ -11,20 +11,22 @@ use Rattle.core_branches.proofs.ForestOfClasses.{atOrBelow, classForest, has-pa
 use Rattle.core_branches.specs.Numbers.{NearestNumbers, Numbers, ParentNumbers}
 use Rattle.core_components.specs.Merging.{FinalTops}
 use Rattle.core_forest.specs.Forest.{Forest, Joins, edgesBelow}
+use Rattle.core_branches.specs.SmallForest.{ParentPair}
+use Rattle.core_names.specs.EdgeNames.{ChildEnd}
 use Rattle.core_names.specs.LeastNames.{LeastNames}
 use Rattle.theory_graph.proofs.SpanningForest.{ClassForest, below-class, onEq}
-use Rattle.theory_graph.specs.Cut.{cut}
+use Rattle.theory_graph.specs.Cut.{TwoEdgeConnected, cut}
 use Rattle.theory_graph.specs.Graph.{Edge, NodeSet}
 use Rattle.theory_names.proofs.ForestNames.{above-earlier, name-over, name-parent, unparted}
-use Rattle.theory_names.proofs.Hangs.{hangs-same}
+use Rattle.theory_names.proofs.Hangs.{hangs-same, hangs-sym}
 use Rattle.theory_names.specs.Names.{Named, hangs, plain}
 
-module _ {n m h seen : ℕ} {to nm pos par te root top nr rep near up least : ℕ → ℕ}
+module _ {n m h last : ℕ} {to nm pos par te root top nr rep near least : ℕ → ℕ}
     (f : Forest n m to pos par te root) (g : FinalTops n m to pos par te top)
     (S : List ℕ) (active : (a : ℕ) → List·Memᴰ a S → (a < n) × (0 < pos a)) (rooted : (r : ℕ) → r < n → 0 < pos r → te r ≡ 0 → List·Memᴰ r S)
-    (low : (u : ℕ) → u < n → 0 < pos u → (pos u ≤ seen) × (pos u ≤ n))
+    (low : (u : ℕ) → u < n → 0 < pos u → (pos u ≤ last) × (pos u ≤ n))
     (roots : (r : ℕ) → r < n → 0 < pos r → te r ≡ 0 → ¬ (nr (top r) ≡ 0))
-    (N : Numbers n h top nr rep) (L : NearestNumbers n n pos par te top nr near) (A : LeastNames n seen nm pos par te top nr least)
+    (N : Numbers n h top nr rep) (L : NearestNumbers n n pos par te top nr near) (A : LeastNames n last nm pos par te top nr least)
     (G : Named) (cuts : (U : NodeSet) → cut U (plain G) ≡ cut U (edgesBelow to m))
     (entry : (e : ℕ) → e < m → List·Memᴰ ((to (2 * e), to (2 * e + 1)), nm (2 * e)) G) where
   abbrev E : List Edge
@@ -118,6 +120,22 @@ module _ {n m h seen : ℕ} {to nm pos par te root top nr rep near up least : �
       A .numbered v l p (low v l p .0) t ne nz ∙ sym (name-parent G E cuts S T v (k .on) t (k .no-root) c m q tw) ∙ ap (hangs G v) (sym e))
 
   -- a number and its parent number
-  module _ (U : ParentNumbers h par te top near rep up) (on : (x : ℕ) → x < h → 0 < pos (rep x)) where
-    to-top : (x : ℕ) → x < h → hangs-class-side x
-    to-top x l = ?
+  module _ {up : ℕ → ℕ} (U : ParentNumbers h par te top near rep up) (on : (x : ℕ) → x < h → 0 < pos (rep x)) where
+    top-class : (x : ℕ) → x < h → TwoEdgeConnected (plain G) (rep x) (top (rep x))
+    unfolding classForest
+    top-class x l = unparted G E cuts S T 1 (rep x) (top (rep x)) (T .top-two (rep x) (seen-is n pos (rep x) (N .place x l .0) (on x l)))
+
+    pub parent-name : (x y : ℕ) → x < h → y < h → up x ≡ y + 1 → least (top (rep x)) ≡ hangs G (rep x) (rep y)
+    parent-name x y a b e =
+        let l = N .place x a .0 in
+        let v = top (rep x) in
+        let ne : ¬ (te v ≡ 0) = λ z. omega (arith, U .none x a z) in
+        let o : near (top (par v)) - 1 ≡ y = omega (arith, U .some x a ne) in
+        least-is (suc (pos v)) v (omega arith) (g .tops .fit (rep x) l) (g .seen (rep x) l (on x a)) (g .flat (rep x) l) ne
+        ∙ ap (λ i. hangs G v (top (rep i))) o ∙ sym (hangs-same G (rep x) (rep y) v (top (rep y)) (top-class x a) (top-class y b))
+
+    -- the child of the two has the name
+    pub edge-name : (i j x : ℕ) → i < h → j < h → ParentPair up i j → ChildEnd up i j x → least (top (rep x)) ≡ hangs G (rep i) (rep j)
+    edge-name i j x a b k (inl (u, e)) = ap (λ y. least (top (rep y))) e ∙ parent-name i j a b u
+    edge-name i j x a b (inl u) (inr (ne, e)) = absurd (ne u)
+    edge-name i j x a b (inr u) (inr (ne, e)) = ap (λ y. least (top (rep y))) e ∙ parent-name j i b a u ∙ hangs-sym G (rep j) (rep i)
