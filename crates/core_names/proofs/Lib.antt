@@ -1,3 +1,4 @@
 pub mod LeastLaws
 pub mod NamingLaws
 pub mod RouteNames
+pub mod NamePasses
