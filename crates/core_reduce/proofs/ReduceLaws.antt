@@ -5,21 +5,24 @@ use Prim.Native.Nat.{ℕ, _+_, _-_, _*_, _<_, _≤_}
 use mathlib.Core.Bool.{false, true}
 use mathlib.Core.List.{List, [], _∷_}
 use mathlib.Core.Logic.{inl, inr, ⊎-elim}
-use mathlib.Core.Path.{_≡_, _∙_, ap, refl, subst}
+use mathlib.Core.Path.{_≡_, _∙_, ap, ap₂, refl, subst, sym}
 use lib.Dec.{eqb}
 use lib.ListN.{length, getD}
 use native.Mathlib.Omega.{arith}
 use Rattle.core_branches.proofs.SmallForestLaws.{forest-small}
 use Rattle.core_branches.specs.Classes.{CanNumberClasses, ClassNumbers}
-use Rattle.core_branches.specs.SmallForest.{ParentPairs}
+use Rattle.core_branches.specs.SmallForest.{ParentPair, ParentPairs}
 use Rattle.core_components.proofs.JoinLaws.{between-still}
 use Rattle.core_components.specs.Components.{CanMergeComponents, Components}
+use Rattle.core_names.proofs.NamePasses.{can-find-least, child-hangs}
+use Rattle.core_names.specs.EdgeNames.{CanNameEdges, ChildEnd, NamingEdges, NumberFits}
+use Rattle.core_names.specs.LeastNames.{CanFindLeast, LeastLoop}
 use Rattle.core_reduce.proofs.EdgeOrder.{canonical-cuts-equal, edges-cut}
 use Rattle.core_reduce.proofs.PieceLaws.{root-below, root-joined}
 use Rattle.core_words.specs.Clearing.{Cleared}
 use Rattle.core_reduce.specs.Core.{startFields}
 use Rattle.core_reduce.specs.Core.{Loaded, Reduced, activeIn, edgesIn, edgesOut}
-use Rattle.core_reduce.specs.EdgeList.{CanList, EdgesListed}
+use Rattle.core_reduce.specs.EdgeList.{CanList, EdgePair, EdgesListed, edgeTable, listFields}
 use Rattle.core_reduce.specs.Numbers.{CanWrite, WritingNumbers}
 use Rattle.core_forest.proofs.AdjacencyLaws.{linking-past}
 use Rattle.core_forest.proofs.SearchLaws.{between-none, seen-less}
@@ -27,23 +30,36 @@ use Rattle.core_forest.specs.AdjacencyLists.{AdjacencyLists, CanLink, Linking}
 use Rattle.core_forest.specs.Forest.{ForestAt, edgesBelow}
 use Rattle.core_forest.specs.Search.{BetweenTrees, SearchKeeps, searchFields}
 use Rattle.theory_graph.proofs.CutEquivalence.{small-cuts-equal}
+use Rattle.theory_graph.proofs.Lists.{table-in, table-mem}
 use Rattle.theory_graph.proofs.SmallGraphDefinition.{definition-small, small-definition}
-use Rattle.theory_graph.proofs.TableLaws.{table-equal}
+use Rattle.theory_graph.proofs.TableLaws.{table-equal, table-map}
 use Rattle.theory_graph.specs.Cut.{cut}
 use Rattle.theory_graph.specs.Graph.{NodeSet, joined}
 use Rattle.theory_graph.specs.Lists.{member, table}
 use Rattle.theory_graph.specs.SmallGraph.{Canonical, IsSmallGraph}
+use Rattle.theory_names.specs.NamedSmallGraph.{IsNamedSmallGraph}
+use Rattle.theory_names.specs.Names.{Entry, hangs, plain}
 use Rattle.core_words.proofs.ChangeLaws.{only-more, only-past, only-then}
 use Rattle.core_words.specs.Changes.{OnlyFields}
-use Rattle.core_words.specs.Fields.{ABOVE, ACTIVE, BRANCH, HEAD, LIVE, LOWER, MAPPED, MARK, MEMBER, NUMBER, OTHER, POSITION, ROOT, TO, TOP, UPPER, half, node}
+use Rattle.core_words.specs.Fields.{ABOVE, ACTIVE, BRANCH, HEAD, LEAST, LIVE, LOWER, MAPPED, MARK, MEMBER, NAME, NAMED, NUMBER, OTHER, POSITION, ROOT, TO, TOP, UPPER, half, node}
 
 -- the listed edges are the pairs of a number and its parent
-listed-pairs : {n h e : ℕ} {a w : List ℕ} → EdgesListed n h a w e → ParentPairs h (node ABOVE a) (edgesOut e w)
-listed-pairs l = record {
+edge-pair : {h : ℕ} (up : ℕ → ℕ) (i j : ℕ) → EdgePair h up i j → (i < j) × (j < h) × ParentPair up i j
+edge-pair up i j = ⊎-elim (λ c. (c .0, c .1, inr (c .2))) (λ c. (c .0, c .1, inl (c .2)))
+
+listed-pairs : {n h e : ℕ} {a w : List ℕ} → EdgesListed n h a w e → ParentPairs h (node ABOVE a) (edgeTable (node LOWER w) (node UPPER w) 0 e)
+listed-pairs {a = a} l = record {
   ascends = l .ascends;
-  edge = λ i j m. ⊎-elim (λ c. (c .0, c .1, inr (c .2))) (λ c. (c .0, c .1, inl (c .2))) (l .is i j m);
+  edge = λ i j m. edge-pair (node ABOVE a) i j (l .is i j m);
   listed = λ i j p q. ⊎-elim (λ u. l .all i j (inr (p, q, u))) (λ u. l .all i j (inl (p, q, u)));
 }
+
+-- the edges in the words without their names
+plain-in-words : (n m : ℕ) (w : List ℕ) → plain (edgesIn n m w) ≡ table (λ e. (half n TO w (2 * e), half n TO w (2 * e + 1))) 0 m
+plain-in-words n m w = table-map (λ (e : Entry). e .0) (λ e. ((half n TO w (2 * e), half n TO w (2 * e + 1)), half n NAME w (2 * e))) 0 m
+
+plain-out : (e : ℕ) (w : List ℕ) → plain (edgesOut e w) ≡ edgeTable (node LOWER w) (node UPPER w) 0 e
+plain-out e w = table-map (λ (e : Entry). e .0) (λ j. ((node LOWER w j, node UPPER w j), node NAMED w j)) 0 e
 
 module _ {n m k : ℕ} {w₀ : List ℕ} (s : Loaded n m k w₀) where
   pub can-clear : (16 * n ≤ length w₀) × (n ≤ 65536)
@@ -107,11 +123,14 @@ module _ {n m k : ℕ} {w₀ : List ℕ} (s : Loaded n m k w₀) where
           }
 
           module _ {h : ℕ} {w₅ : List ℕ} (d : ClassNumbers n m k w₄ h w₅) where
-            pub can-list : CanList n h w₅
-            can-list = record { few = s .few; room = omega (arith, s .room, d .rest .same, found .same, q .0 .same, c .rest .same); less = d .less; fits = d .forest .up-fit }
+            pub can-least : CanFindLeast n m seen w₅
+            can-least = can-find-least can-number-classes d
 
             ends-same : half n TO w₄ ≡ half n TO w₀
             ends-same = found .halves TO ∙ q .0 .tos ∙ c .rest .halves TO
+
+            names-same : half n NAME w₄ ≡ half n NAME w₀
+            names-same = found .halves NAME ∙ q .0 .names ∙ c .rest .halves NAME
 
             act₄ : (i : ℕ) → i < k → node ACTIVE w₄ i ≡ node ACTIVE w₀ i
             act₄ i l = ap (λ f. f i) f1 ∙ act₂ i l
@@ -119,78 +138,152 @@ module _ {n m k : ℕ} {w₀ : List ℕ} (s : Loaded n m k w₀) where
             actives-same : table (node ACTIVE w₄) 0 k ≡ activeIn k w₀
             actives-same = table-equal (node ACTIVE w₄) (node ACTIVE w₀) 0 k (λ i _ l. act₄ i (omega arith))
 
-            module _ {e : ℕ} {w₆ : List ℕ} (l : EdgesListed n h w₅ w₆ e) where
-              act₆ : (i : ℕ) → i < k → node ACTIVE w₆ i ≡ node ACTIVE w₀ i
-              act₆ i b = ap (λ f. f i) (l .rest .nodes ACTIVE (omega arith) refl ∙ d .rest .nodes ACTIVE (omega arith) refl) ∙ act₄ i b
+            cuts : (U : NodeSet) → cut U (plain (edgesIn n m w₀)) ≡ cut U (edgesBelow (half n TO w₀) m)
+            cuts U = ap (cut U) (plain-in-words n m w₀) ∙ sym (edges-cut U (half n TO w₀) m)
 
-              pub can-write : CanWrite n k w₆
-              can-write = record {
-                room = rw (l .rest .same) (can-list .room);
-                less = s .less;
-                placed = λ i b.
-                    let a : node ACTIVE w₆ i ≡ node ACTIVE w₄ i = ap (λ f. f i) (l .rest .nodes ACTIVE (omega arith) refl ∙ d .rest .nodes ACTIVE (omega arith) refl) in
-                    let o = d .placed i b in
+            module _ {w₆ : List ℕ} (o : LeastLoop n w₅ seen w₆) where
+              -- LEAST of the child of two numbers
+              child-name : (i j x : ℕ) → i < h → j < h → ParentPair (node ABOVE w₅) i j → ChildEnd (node ABOVE w₅) i j x
+                  → node LEAST w₆ (node TOP w₅ (node MEMBER w₅ x)) ≡ hangs (edgesIn n m w₀) (node MEMBER w₅ i) (node MEMBER w₅ j)
+              child-name = child-hangs can-number-classes d o (edgesIn n m w₀) (rw ends-same cuts)
+                  (rw (ends-same, names-same) (λ e l. table-in (λ e. ((half n TO w₀ (2 * e), half n TO w₀ (2 * e + 1)), half n NAME w₀ (2 * e))) 0 m e (omega arith) (omega arith)))
+
+              above₆ : node ABOVE w₆ ≡ node ABOVE w₅
+              above₆ = o .rest .nodes ABOVE (omega arith) refl
+
+              room₆ : 16 * n ≤ length w₆
+              room₆ = omega (arith, s .room, o .rest .same, d .rest .same, found .same, q .0 .same, c .rest .same)
+
+              pub can-list : CanList n h w₆
+              can-list = record { few = s .few; room = room₆; less = d .less; fits = rw above₆ (d .forest .up-fit) }
+
+              module _ {e : ℕ} {w₇ : List ℕ} (l : EdgesListed n h w₆ w₇ e) where
+                listed : OnlyFields (LEAST ∷ listFields) n w₅ w₇
+                listed = only-then (only-more (LEAST ∷ []) refl (o .rest)) (only-more listFields refl (l .rest))
+
+                -- the ends of an edge out
+                ends : (j : ℕ) → j < e → (node LOWER w₇ j < h) × (node UPPER w₇ j < h) × ParentPair (node ABOVE w₅) (node LOWER w₇ j) (node UPPER w₇ j)
+                ends j b =
+                    let (i, u, p) = edge-pair (node ABOVE w₆) (node LOWER w₇ j) (node UPPER w₇ j)
+                    (l .is (node LOWER w₇ j) (node UPPER w₇ j) (table-in (λ j. (node LOWER w₇ j, node UPPER w₇ j)) 0 e j (omega arith) (omega arith))) in
+                    (omega arith, u, rw above₆ at p)
+
+                number-fits : (x : ℕ) → x < h → NumberFits n w₇ x
+                number-fits x b =
+                    let f = d .numbers .place x b .0 in
                     record {
-                      room = rw (l .rest .same) (can-list .room);
-                      fit = rw a (o .fit);
-                      top-fit = rw (l .rest .nodes TOP (omega arith) refl, a) (o .top-fit);
-                      some = rw (l .rest .nodes NUMBER (omega arith) refl, l .rest .nodes TOP (omega arith) refl, a) (o .some);
-                    };
-              }
+                      fit = omega (arith, d .less);
+                      member-fit = rw (listed .nodes MEMBER (omega arith) refl) f;
+                      top-fit = rw (listed .nodes MEMBER (omega arith) refl, listed .nodes TOP (omega arith) refl, d .rest .nodes TOP (omega arith) refl)
+                          (p .final .tops .fit (node MEMBER w₅ x) f);
+                    }
 
-              cuts : (U : NodeSet) → cut U (edgesBelow (half n TO w₀) m) ≡ cut U (edgesIn n m w₀)
-              cuts U = edges-cut U (half n TO w₀) m
-
-              small : IsSmallGraph (edgesIn n m w₀) (activeIn k w₀) h (edgesOut e w₆) (node MEMBER w₅) (λ v. node NUMBER w₅ (node TOP w₅ v) - 1)
-              small =
-                  let g : IsSmallGraph (edgesBelow (half n TO w₀) m) (activeIn k w₀) h (edgesOut e w₆) (node MEMBER w₅) (λ v. node NUMBER w₅ (node TOP w₅ v) - 1) =
-                  rw (ends-same, actives-same) at (forest-small (d .forest) (listed-pairs l)) in
-                  small-definition _ _ _ _ _ _ (small-cuts-equal _ _ cuts _ _ _ _ _ (definition-small _ _ _ _ _ _ g))
-
-              canonical : Canonical (edgesIn n m w₀) (activeIn k w₀) h (node MEMBER w₅) (λ v. node NUMBER w₅ (node TOP w₅ v) - 1)
-              canonical =
-                  let g : Canonical (edgesBelow (half n TO w₀) m) (activeIn k w₀) h (node MEMBER w₅) (λ v. node NUMBER w₅ (node TOP w₅ v) - 1) =
-                  rw (ends-same, actives-same) at (d .canonical) in
-                  canonical-cuts-equal (edgesBelow (half n TO w₀) m) (edgesIn n m w₀) cuts g
-
-              module _ {w₇ : List ℕ} (t : WritingNumbers n w₆ k w₇) where
-                numbers : (i : ℕ) → i < k → node MAPPED w₇ (node ACTIVE w₀ i) ≡ node NUMBER w₅ (node TOP w₅ (node ACTIVE w₀ i)) - 1
-                numbers i b =
-                    let e : node MAPPED w₇ (node ACTIVE w₆ i) ≡ node NUMBER w₅ (node TOP w₅ (node ACTIVE w₆ i)) - 1 =
-                    rw (l .rest .nodes NUMBER (omega arith) refl, l .rest .nodes TOP (omega arith) refl) at (t .numbers i b) in
-                    rw (act₆ i b) at e
-
-                root-same : node ROOT w₇ ≡ node ROOT w₄
-                root-same = t .rest .nodes ROOT (omega arith) refl ∙ l .rest .nodes ROOT (omega arith) refl ∙ d .rest .nodes ROOT (omega arith) refl
-
-                -- an active node is seen
-                seen₄ : (i : ℕ) → i < k → 0 < node POSITION w₄ (node ACTIVE w₀ i)
-                seen₄ i b = subst (λ (v : ℕ). 0 < node POSITION w₄ v) (act₄ i b) (between-still (p .rest) (f .1) .have i b)
-
-                roots : (i : ℕ) → i < k → node ROOT w₇ (node ACTIVE w₀ i) < n
-                roots i b = rw root-same (root-below (p .forest) (node POSITION w₄ (node ACTIVE w₀ i)) (node ACTIVE w₀ i) (omega arith) (s .active i b) (seen₄ i b))
-
-                pieces : (i j : ℕ) → i < k → j < k
-                    → eqb (node ROOT w₇ (node ACTIVE w₀ i)) (node ROOT w₇ (node ACTIVE w₀ j)) ≡ joined (edgesIn n m w₀) (node ACTIVE w₀ i) (node ACTIVE w₀ j)
-                pieces i j b c =
-                    rw root-same
-                    (root-joined (p .forest) (node ACTIVE w₀ i) (node ACTIVE w₀ j) (s .active i b) (s .active j c) (seen₄ i b) (seen₄ j c) (edgesIn n m w₀) (rw ends-same cuts))
-
-                past : (i : ℕ) → 16 * n + 4 * m ≤ i → getD w₇ i 0 ≡ getD w₀ i 0
-                past i b =
-                    let f : 16 * n ≤ i = omega arith in
-                    only-past (t .rest) i f ∙ only-past (l .rest) i f ∙ only-past (d .rest) i f ∙ only-past (found) i f ∙ linking-past (q .0) i b ∙ only-past (c .rest) i f
-
-                pub reduced : Reduced n m k w₀ w₇ h e
-                reduced = record {
-                  same = t .rest .same ∙ l .rest .same ∙ d .rest .same ∙ found .same ∙ q .0 .same ∙ c .rest .same;
-                  past = past;
-                  less = d .less;
-                  ρ = node MEMBER w₅;
-                  σ = λ v. node NUMBER w₅ (node TOP w₅ v) - 1;
-                  small = rw (t .rest .nodes LOWER (omega arith) refl, t .rest .nodes UPPER (omega arith) refl) small;
-                  canonical = canonical;
-                  numbers = numbers;
-                  roots = roots;
-                  pieces = pieces;
+                pub can-name : CanNameEdges n e w₇
+                can-name = record {
+                  few = s .few;
+                  room = rw (l .rest .same) room₆;
+                  most = omega (arith, l .most, d .less);
+                  ends = λ j b. let (i, u, _) = ends j b in (number-fits (node LOWER w₇ j) i, number-fits (node UPPER w₇ j) u);
                 }
+
+                module _ {w₈ : List ℕ} (z : NamingEdges n w₇ e w₈) where
+                  named : OnlyFields (NAMED ∷ LEAST ∷ listFields) n w₅ w₈
+                  named = only-then (only-more (LEAST ∷ listFields) refl listed) (only-more (NAMED ∷ []) refl (z .rest))
+
+                  edge-name : (j : ℕ) → j < e → node NAMED w₈ j ≡ hangs (edgesIn n m w₀) (node MEMBER w₅ (node LOWER w₇ j)) (node MEMBER w₅ (node UPPER w₇ j))
+                  edge-name j b =
+                      let (i, u, r) = ends j b in
+                      let (x, y, v) = z .names j b in
+                      let y′ : ChildEnd (node ABOVE w₅) (node LOWER w₇ j) (node UPPER w₇ j) x = rw (l .rest .nodes ABOVE (omega arith) refl, above₆) at y in
+                      let v′ : node NAMED w₈ j ≡ node LEAST w₆ (node TOP w₅ (node MEMBER w₅ x)) =
+                      rw (l .rest .nodes LEAST (omega arith) refl, listed .nodes TOP (omega arith) refl, listed .nodes MEMBER (omega arith) refl) at v in
+                      v′ ∙ child-name (node LOWER w₇ j) (node UPPER w₇ j) x i u r y′
+
+                  act₈ : (i : ℕ) → i < k → node ACTIVE w₈ i ≡ node ACTIVE w₀ i
+                  act₈ i b = ap (λ f. f i) (named .nodes ACTIVE (omega arith) refl ∙ d .rest .nodes ACTIVE (omega arith) refl) ∙ act₄ i b
+
+                  pub can-write : CanWrite n k w₈
+                  can-write = record {
+                    room = rw (z .rest .same, l .rest .same) room₆;
+                    less = s .less;
+                    placed = λ i b.
+                        let a : node ACTIVE w₈ i ≡ node ACTIVE w₄ i = ap (λ f. f i) (named .nodes ACTIVE (omega arith) refl ∙ d .rest .nodes ACTIVE (omega arith) refl) in
+                        let o = d .placed i b in
+                        record {
+                          room = rw (z .rest .same, l .rest .same) room₆;
+                          fit = rw a (o .fit);
+                          top-fit = rw (named .nodes TOP (omega arith) refl, a) (o .top-fit);
+                          some = rw (named .nodes NUMBER (omega arith) refl, named .nodes TOP (omega arith) refl, a) (o .some);
+                        };
+                  }
+
+                  small : IsSmallGraph (plain (edgesIn n m w₀)) (activeIn k w₀) h (edgeTable (node LOWER w₇) (node UPPER w₇) 0 e) (node MEMBER w₅) (λ v. node NUMBER w₅ (node TOP w₅ v) - 1)
+                  small =
+                      let g : IsSmallGraph (edgesBelow (half n TO w₀) m) (activeIn k w₀) h (edgeTable (node LOWER w₇) (node UPPER w₇) 0 e) (node MEMBER w₅) (λ v. node NUMBER w₅ (node TOP w₅ v) - 1) =
+                      rw (ends-same, actives-same) at (forest-small (d .forest) (rw above₆ at (listed-pairs l))) in
+                      small-definition _ _ _ _ _ _ (small-cuts-equal _ _ (λ U. sym (cuts U)) _ _ _ _ _ (definition-small _ _ _ _ _ _ g))
+
+                  low₈ : node LOWER w₈ ≡ node LOWER w₇
+                  low₈ = z .rest .nodes LOWER (omega arith) refl
+
+                  upp₈ : node UPPER w₈ ≡ node UPPER w₇
+                  upp₈ = z .rest .nodes UPPER (omega arith) refl
+
+                  named-small : IsNamedSmallGraph (edgesIn n m w₀) (activeIn k w₀) h (edgesOut e w₈) (node MEMBER w₅) (λ v. node NUMBER w₅ (node TOP w₅ v) - 1)
+                  named-small = record {
+                    small = rw (plain-out e w₈, low₈, upp₈) small;
+                    name = λ i j x y.
+                        let (t, b, r) = table-mem (λ j. ((node LOWER w₈ j, node UPPER w₈ j), node NAMED w₈ j)) 0 e ((i, j), x) y in
+                        let ri : i ≡ node LOWER w₇ t = ap (λ (f : Entry). f .0 .0) r ∙ ap (λ f. f t) low₈ in
+                        let rj : j ≡ node UPPER w₇ t = ap (λ (f : Entry). f .0 .1) r ∙ ap (λ f. f t) upp₈ in
+                        ap (λ (f : Entry). f .1) r ∙ edge-name t (omega arith)
+                        ∙ ap₂ (λ (u v : ℕ). hangs (edgesIn n m w₀) (node MEMBER w₅ u) (node MEMBER w₅ v)) (sym ri) (sym rj);
+                  }
+
+                  canonical : Canonical (plain (edgesIn n m w₀)) (activeIn k w₀) h (node MEMBER w₅) (λ v. node NUMBER w₅ (node TOP w₅ v) - 1)
+                  canonical =
+                      let g : Canonical (edgesBelow (half n TO w₀) m) (activeIn k w₀) h (node MEMBER w₅) (λ v. node NUMBER w₅ (node TOP w₅ v) - 1) =
+                      rw (ends-same, actives-same) at (d .canonical) in
+                      canonical-cuts-equal (edgesBelow (half n TO w₀) m) (plain (edgesIn n m w₀)) (λ U. sym (cuts U)) g
+
+                  module _ {w₉ : List ℕ} (t : WritingNumbers n w₈ k w₉) where
+                    numbers : (i : ℕ) → i < k → node MAPPED w₉ (node ACTIVE w₀ i) ≡ node NUMBER w₅ (node TOP w₅ (node ACTIVE w₀ i)) - 1
+                    numbers i b =
+                        let e : node MAPPED w₉ (node ACTIVE w₈ i) ≡ node NUMBER w₅ (node TOP w₅ (node ACTIVE w₈ i)) - 1 =
+                        rw (named .nodes NUMBER (omega arith) refl, named .nodes TOP (omega arith) refl) at (t .numbers i b) in
+                        rw (act₈ i b) at e
+
+                    root-same : node ROOT w₉ ≡ node ROOT w₄
+                    root-same = t .rest .nodes ROOT (omega arith) refl ∙ named .nodes ROOT (omega arith) refl ∙ d .rest .nodes ROOT (omega arith) refl
+
+                    -- an active node is seen
+                    seen₄ : (i : ℕ) → i < k → 0 < node POSITION w₄ (node ACTIVE w₀ i)
+                    seen₄ i b = subst (λ (v : ℕ). 0 < node POSITION w₄ v) (act₄ i b) (between-still (p .rest) (f .1) .have i b)
+
+                    roots : (i : ℕ) → i < k → node ROOT w₉ (node ACTIVE w₀ i) < n
+                    roots i b = rw root-same (root-below (p .forest) (node POSITION w₄ (node ACTIVE w₀ i)) (node ACTIVE w₀ i) (omega arith) (s .active i b) (seen₄ i b))
+
+                    pieces : (i j : ℕ) → i < k → j < k
+                        → eqb (node ROOT w₉ (node ACTIVE w₀ i)) (node ROOT w₉ (node ACTIVE w₀ j)) ≡ joined (plain (edgesIn n m w₀)) (node ACTIVE w₀ i) (node ACTIVE w₀ j)
+                    pieces i j b c =
+                        rw root-same
+                        (root-joined (p .forest) (node ACTIVE w₀ i) (node ACTIVE w₀ j) (s .active i b) (s .active j c) (seen₄ i b) (seen₄ j c) (plain (edgesIn n m w₀)) (rw ends-same (λ U. sym (cuts U))))
+
+                    past : (i : ℕ) → 16 * n + 6 * m ≤ i → getD w₉ i 0 ≡ getD w₀ i 0
+                    past i b =
+                        let f : 16 * n ≤ i = omega arith in
+                        only-past (t .rest) i f ∙ only-past named i f ∙ only-past (d .rest) i f ∙ only-past found i f ∙ linking-past (q .0) i b ∙ only-past (c .rest) i f
+
+                    pub reduced : Reduced n m k w₀ w₉ h e
+                    reduced = record {
+                      same = t .rest .same ∙ named .same ∙ d .rest .same ∙ found .same ∙ q .0 .same ∙ c .rest .same;
+                      past = past;
+                      less = d .less;
+                      ρ = node MEMBER w₅;
+                      σ = λ v. node NUMBER w₅ (node TOP w₅ v) - 1;
+                      small = rw (t .rest .nodes LOWER (omega arith) refl, t .rest .nodes UPPER (omega arith) refl, t .rest .nodes NAMED (omega arith) refl) named-small;
+                      canonical = canonical;
+                      numbers = numbers;
+                      roots = roots;
+                      pieces = pieces;
+                    }

@@ -1,4 +1,4 @@
-// The contraction on words. Field k of node v stands at 16 v + k; the half-edges, two words each, stand behind the nodes (crate core_words).
+// The contraction on words. Field k of node v stands at 16 v + k; the half-edges, three words each, stand behind the nodes (crate core_words).
 //
 // | field | of | what | later |
 // |---|---|---|---|
@@ -16,8 +16,11 @@
 // | MEMBER | a number | a node of its class | |
 // | ROOT | a node | the root of its tree (out) | |
 // | EDGE | a node | 1 + its tree edge, 0 at a root | |
+// | LEAST | a top, no root | the smallest name from its class to the nearest kept class above | |
+// | NAMED | i | the name of the i-th edge (out) | |
 //
-// HEAD, POSITION, LIVE, BRANCH, OTHER and NUMBER start at 0. TO of a half-edge is its far end, NEXT the next at the same node.
+// HEAD, POSITION, LIVE, BRANCH, OTHER and NUMBER start at 0. TO of a half-edge is its far end, NEXT the next at the same node, NAME at the first half-edge of an edge
+// the edge's name. LEAST is found before the edges are listed, as the list takes the words of POSITION and PARENT.
 mod edge_list;
 
 use core_words::*;
@@ -91,7 +94,9 @@ pub fn reduce(work: &mut [u32], n: usize, m: usize, k: usize) -> Counts
     let seen = core_forest::spanning_forest(work, n, m, k);
     core_components::merge_components(work, n, m, seen);
     let nodes = core_branches::number_classes(work, n, m, k, seen);
+    core_names::least_names(work, n, m, seen);
     let edges = edge_list::list_edges(work, n, nodes);
+    core_names::name_edges(work, n, edges);
     write_numbers(work, n, k);
     Counts {
         nodes: nodes,
