@@ -120,13 +120,12 @@ module _ {p : Part} {l : Graph} {w : List ℕ} (q : MakeReady p l w) where
       λ i u. omega (arith, q .nodes i u, front-get s (p .places + i) w w₁ front-1 (omega (arith, q .places))),
     )
 
-    pub fields-need : (z : List ℕ) → length z ≡ length w → (A + 5 * c + r .edges ≤ s) × (A + 9 * c + r .edges ≤ s) × (A + 13 * c + r .edges ≤ s) × (s + 16 * r .edges ≤ length z)
-    fields-need z e = (omega (arith, few-out), omega (arith, few-out), omega (arith, few-out), omega (arith, q .room, reduced-low K))
+    pub fields-need : (z : List ℕ) → length z ≡ length w → (A + 5 * c + r .edges ≤ s) × (A + 9 * c + r .edges ≤ s) × (s + 16 * r .edges ≤ length z)
+    fields-need z e = (omega (arith, few-out), omega (arith, few-out), omega (arith, q .room, reduced-low K))
 
-    module _ {w₂ w₃ w₄ w₅ w₆ : List ℕ} (e₂ : w₂ ≡ sets w₁ A (map (node MAPPED (drop s w₁)) (take (2 * c) (drop (p .places) w₁))))
+    module _ {w₂ w₃ w₄ w₅ : List ℕ} (e₂ : w₂ ≡ sets w₁ A (map (node MAPPED (drop s w₁)) (take (2 * c) (drop (p .places) w₁))))
         (e₃ : w₃ ≡ sets w₂ (A + 2 * c) (take (3 * c) (drop (p .words) w₂))) (e₄ : w₄ ≡ sets w₃ (A + 5 * c) (table (node LOWER (drop s w₃)) 0 (r .edges)))
-        (e₅ : w₅ ≡ sets w₄ (A + 9 * c) (table (node UPPER (drop s w₄)) 0 (r .edges)))
-        (e₆ : w₆ ≡ sets w₅ (A + 13 * c) (table (node NAMED (drop s w₅)) 0 (r .edges))) where
+        (e₅ : w₅ ≡ sets w₄ (A + 9 * c) (table (node UPPER (drop s w₄)) 0 (r .edges))) where
       abbrev e : ℕ
       e = r .edges
 
@@ -142,9 +141,6 @@ module _ {p : Part} {l : Graph} {w : List ℕ} (q : MakeReady p l w) where
 
       abbrev Y : List ℕ
       Y = table (node UPPER (drop s w₄)) 0 e
-
-      abbrev N : List ℕ
-      N = table (node NAMED (drop s w₅)) 0 e
 
       length-M : length M ≡ 2 * c
       length-M = length-map (take (2 * c) (drop (p .places) w₁)) (node MAPPED (drop s w₁)) ∙ ap length T-1 ∙ length-T
@@ -170,11 +166,8 @@ module _ {p : Part} {l : Graph} {w : List ℕ} (q : MakeReady p l w) where
       length-5 : length w₅ ≡ length w
       length-5 = ap length e₅ ∙ length-sets w₄ (A + 9 * c) Y ∙ length-4
 
-      length-N : length N ≡ e
-      length-N = table-length (node NAMED (drop s w₅)) 0 e
-
-      pub length-6 : length w₆ ≡ length w
-      length-6 = ap length e₆ ∙ length-sets w₅ (A + 13 * c) N ∙ length-5
+      pub names-need : (A + 13 * c + r .edges ≤ s) × (s + 16 * r .edges ≤ length w₅)
+      names-need = (omega (arith, few-out), omega (arith, q .room, reduced-low K, length-5))
 
       -- the contraction's words stay
       behind-3 : drop s w₃ ≡ zs
@@ -188,86 +181,96 @@ module _ {p : Part} {l : Graph} {w : List ℕ} (q : MakeReady p l w) where
       behind-5 : drop s w₅ ≡ zs
       behind-5 = ap (drop s) e₅ ∙ drop-sets Y w₄ (A + 9 * c) s (omega (arith, length-Y, few-out)) ∙ behind-4
 
-      -- what stands from A + i on in the area
-      abbrev z : List ℕ
-      z = take (17 * c) (drop A w₆)
+      module _ {w₆ : List ℕ} (e₆ : w₆ ≡ sets w₅ (A + 13 * c) (table (node NAMED (drop s w₅)) 0 (r .edges))) where
+        abbrev N : List ℕ
+        N = table (node NAMED (drop s w₅)) 0 e
 
-      at-z : (i j : ℕ) → i + j ≤ 17 * c → take j (drop i z) ≡ take j (drop (A + i) w₆)
-      at-z i j h = mid-take i j (17 * c) (drop A w₆) h (rw length-drop (omega (arith, length-6, q .room))) ∙ ap (take j) (drop-drop i A w₆)
+        length-N : length N ≡ e
+        length-N = table-length (node NAMED (drop s w₅)) 0 e
 
-      -- and what a later run does not touch
-      back-6 : (i j : ℕ) → i + j ≤ A + 13 * c → take j (drop i w₆) ≡ take j (drop i w₅)
-      back-6 i j h = ap (λ l. take j (drop i l)) e₆ ∙ mid-before N w₅ (A + 13 * c) i j h (omega (arith, length-5, q .room))
+        length-6 : length w₆ ≡ length w
+        length-6 = ap length e₆ ∙ length-sets w₅ (A + 13 * c) N ∙ length-5
 
-      back-5 : (i j : ℕ) → i + j ≤ A + 9 * c → take j (drop i w₅) ≡ take j (drop i w₄)
-      back-5 i j h = ap (λ l. take j (drop i l)) e₅ ∙ mid-before Y w₄ (A + 9 * c) i j h (omega (arith, length-4, q .room))
+        -- what stands from A + i on in the area
+        abbrev z : List ℕ
+        z = take (17 * c) (drop A w₆)
 
-      back-4 : (i j : ℕ) → i + j ≤ A + 5 * c → take j (drop i w₄) ≡ take j (drop i w₃)
-      back-4 i j h = ap (λ l. take j (drop i l)) e₄ ∙ mid-before X w₃ (A + 5 * c) i j h (omega (arith, length-3, q .room))
+        at-z : (i j : ℕ) → i + j ≤ 17 * c → take j (drop i z) ≡ take j (drop (A + i) w₆)
+        at-z i j h = mid-take i j (17 * c) (drop A w₆) h (rw length-drop (omega (arith, length-6, q .room))) ∙ ap (take j) (drop-drop i A w₆)
 
-      back-3 : (i j : ℕ) → i + j ≤ A + 2 * c → take j (drop i w₃) ≡ take j (drop i w₂)
-      back-3 i j h = ap (λ l. take j (drop i l)) e₃ ∙ mid-before W w₂ (A + 2 * c) i j h (omega (arith, length-2, q .room))
+        -- and what a later run does not touch
+        back-6 : (i j : ℕ) → i + j ≤ A + 13 * c → take j (drop i w₆) ≡ take j (drop i w₅)
+        back-6 i j h = ap (λ l. take j (drop i l)) e₆ ∙ mid-before N w₅ (A + 13 * c) i j h (omega (arith, length-5, q .room))
 
-      places : take (2 * c) z ≡ map (node MAPPED zs) T
-      places =
-          take-take (2 * c) (17 * c) (drop A w₆) (omega arith)
-          ∙ back-6 A (2 * c) (omega arith) ∙ back-5 A (2 * c) (omega arith) ∙ back-4 A (2 * c) (omega arith) ∙ back-3 A (2 * c) (omega arith)
-          ∙ ap (λ l. take (2 * c) (drop A l)) e₂ ∙ ap (λ j. take j (drop A (sets w₁ A M))) (sym length-M) ∙ mid-sets M w₁ A (omega (arith, length-M, length-1, q .room))
-          ∙ ap₂ (λ f l. map (node MAPPED f) l) behind-1 T-1
+        back-5 : (i j : ℕ) → i + j ≤ A + 9 * c → take j (drop i w₅) ≡ take j (drop i w₄)
+        back-5 i j h = ap (λ l. take j (drop i l)) e₅ ∙ mid-before Y w₄ (A + 9 * c) i j h (omega (arith, length-4, q .room))
 
-      words : take (3 * c) (drop (2 * c) z) ≡ take (3 * c) (drop (p .words) w)
-      words =
-          at-z (2 * c) (3 * c) (omega arith)
-          ∙ back-6 (A + 2 * c) (3 * c) (omega arith) ∙ back-5 (A + 2 * c) (3 * c) (omega arith) ∙ back-4 (A + 2 * c) (3 * c) (omega arith)
-          ∙ ap (λ l. take (3 * c) (drop (A + 2 * c) l)) e₃ ∙ ap (λ j. take j (drop (A + 2 * c) (sets w₂ (A + 2 * c) W))) (sym length-W)
-          ∙ mid-sets W w₂ (A + 2 * c) (omega (arith, length-W, length-2, q .room))
-          ∙ ap (λ l. take (3 * c) (drop (p .words) l)) e₂ ∙ mid-before M w₁ A (p .words) (3 * c) (q .words) (omega (arith, length-1, q .room, q .words))
-          ∙ mid-less (p .words) (3 * c) s w w₁ (omega (arith, q .words)) (omega (arith, length-1, q .room, q .words)) (omega (arith, q .room, q .words)) front-1
+        back-4 : (i j : ℕ) → i + j ≤ A + 5 * c → take j (drop i w₄) ≡ take j (drop i w₃)
+        back-4 i j h = ap (λ l. take j (drop i l)) e₄ ∙ mid-before X w₃ (A + 5 * c) i j h (omega (arith, length-3, q .room))
 
-      lows : take e (drop (5 * c) z) ≡ table (node LOWER zs) 0 e
-      lows =
-          at-z (5 * c) e (omega (arith, few-out)) ∙ back-6 (A + 5 * c) e (omega (arith, few-out)) ∙ back-5 (A + 5 * c) e (omega (arith, few-out))
-          ∙ ap (λ l. take e (drop (A + 5 * c) l)) e₄ ∙ ap (λ j. take j (drop (A + 5 * c) (sets w₃ (A + 5 * c) X))) (sym length-X)
-          ∙ mid-sets X w₃ (A + 5 * c) (omega (arith, length-X, few-out, length-3, q .room)) ∙ ap (λ l. table (node LOWER l) 0 e) behind-3
+        back-3 : (i j : ℕ) → i + j ≤ A + 2 * c → take j (drop i w₃) ≡ take j (drop i w₂)
+        back-3 i j h = ap (λ l. take j (drop i l)) e₃ ∙ mid-before W w₂ (A + 2 * c) i j h (omega (arith, length-2, q .room))
 
-      highs : take e (drop (9 * c) z) ≡ table (node UPPER zs) 0 e
-      highs =
-          at-z (9 * c) e (omega (arith, few-out)) ∙ back-6 (A + 9 * c) e (omega (arith, few-out))
-          ∙ ap (λ l. take e (drop (A + 9 * c) l)) e₅ ∙ ap (λ j. take j (drop (A + 9 * c) (sets w₄ (A + 9 * c) Y))) (sym length-Y)
-          ∙ mid-sets Y w₄ (A + 9 * c) (omega (arith, length-Y, few-out, length-4, q .room)) ∙ ap (λ l. table (node UPPER l) 0 e) behind-4
+        places : take (2 * c) z ≡ map (node MAPPED zs) T
+        places =
+            take-take (2 * c) (17 * c) (drop A w₆) (omega arith)
+            ∙ back-6 A (2 * c) (omega arith) ∙ back-5 A (2 * c) (omega arith) ∙ back-4 A (2 * c) (omega arith) ∙ back-3 A (2 * c) (omega arith)
+            ∙ ap (λ l. take (2 * c) (drop A l)) e₂ ∙ ap (λ j. take j (drop A (sets w₁ A M))) (sym length-M) ∙ mid-sets M w₁ A (omega (arith, length-M, length-1, q .room))
+            ∙ ap₂ (λ f l. map (node MAPPED f) l) behind-1 T-1
 
-      names : take e (drop (13 * c) z) ≡ table (node NAMED zs) 0 e
-      names =
-          at-z (13 * c) e (omega (arith, few-out))
-          ∙ ap (λ l. take e (drop (A + 13 * c) l)) e₆ ∙ ap (λ j. take j (drop (A + 13 * c) (sets w₅ (A + 13 * c) N))) (sym length-N)
-          ∙ mid-sets N w₅ (A + 13 * c) (omega (arith, length-N, few-out, length-5, q .room)) ∙ ap (λ l. table (node NAMED l) 0 e) behind-5
+        words : take (3 * c) (drop (2 * c) z) ≡ take (3 * c) (drop (p .words) w)
+        words =
+            at-z (2 * c) (3 * c) (omega arith)
+            ∙ back-6 (A + 2 * c) (3 * c) (omega arith) ∙ back-5 (A + 2 * c) (3 * c) (omega arith) ∙ back-4 (A + 2 * c) (3 * c) (omega arith)
+            ∙ ap (λ l. take (3 * c) (drop (A + 2 * c) l)) e₃ ∙ ap (λ j. take j (drop (A + 2 * c) (sets w₂ (A + 2 * c) W))) (sym length-W)
+            ∙ mid-sets W w₂ (A + 2 * c) (omega (arith, length-W, length-2, q .room))
+            ∙ ap (λ l. take (3 * c) (drop (p .words) l)) e₂ ∙ mid-before M w₁ A (p .words) (3 * c) (q .words) (omega (arith, length-1, q .room, q .words))
+            ∙ mid-less (p .words) (3 * c) s w w₁ (omega (arith, q .words)) (omega (arith, length-1, q .room, q .words)) (omega (arith, q .room, q .words)) front-1
 
-      edges-z : areaEdges c e z ≡ edgesOut e zs
-      edges-z =
-          ap₂ pairs (ap₂ pairs lows highs ∙ pairs-tables (node LOWER zs) (node UPPER zs) 0 e) names
-          ∙ pairs-tables (λ j. (node LOWER zs j, node UPPER zs j)) (node NAMED zs) 0 e
+        lows : take e (drop (5 * c) z) ≡ table (node LOWER zs) 0 e
+        lows =
+            at-z (5 * c) e (omega (arith, few-out)) ∙ back-6 (A + 5 * c) e (omega (arith, few-out)) ∙ back-5 (A + 5 * c) e (omega (arith, few-out))
+            ∙ ap (λ l. take e (drop (A + 5 * c) l)) e₄ ∙ ap (λ j. take j (drop (A + 5 * c) (sets w₃ (A + 5 * c) X))) (sym length-X)
+            ∙ mid-sets X w₃ (A + 5 * c) (omega (arith, length-X, few-out, length-3, q .room)) ∙ ap (λ l. table (node LOWER l) 0 e) behind-3
 
-      numbers : (t : ℕ) → List·Memᴰ t T → node MAPPED zs t ≡ K .σ t
-      numbers t m =
-          let (j, b, x) = table-mem (node ACTIVE L) 0 (l .active) t (subst (λ (S : List ℕ). List·Memᴰ t S) (sym list-L) (in-firsts T t m)) in
-          ap (node MAPPED zs) x ∙ K .numbers j (omega arith) ∙ ap (K .σ) (sym x)
+        highs : take e (drop (9 * c) z) ≡ table (node UPPER zs) 0 e
+        highs =
+            at-z (9 * c) e (omega (arith, few-out)) ∙ back-6 (A + 9 * c) e (omega (arith, few-out))
+            ∙ ap (λ l. take e (drop (A + 9 * c) l)) e₅ ∙ ap (λ j. take j (drop (A + 9 * c) (sets w₄ (A + 9 * c) Y))) (sym length-Y)
+            ∙ mid-sets Y w₄ (A + 9 * c) (omega (arith, length-Y, few-out, length-4, q .room)) ∙ ap (λ l. table (node UPPER l) 0 e) behind-4
 
-      graph-z : IsNamedSmallGraph (edgesIn (l .nodes) (l .edges) (drop s w)) T (r .nodes) (areaEdges c e z) (K .ρ) (K .σ)
-      graph-z =
-          let h : IsNamedSmallGraph (edgesIn (l .nodes) (l .edges) L) (firsts eqb T) (r .nodes) (edgesOut e zs) (K .ρ) (K .σ) =
-          subst (λ (S : List ℕ). IsNamedSmallGraph (edgesIn (l .nodes) (l .edges) L) S (r .nodes) (edgesOut e zs) (K .ρ) (K .σ)) list-L (K .small) in
-          subst (λ (v : List ℕ). IsNamedSmallGraph (edgesIn (l .nodes) (l .edges) v) T (r .nodes) (areaEdges c e z) (K .ρ) (K .σ)) same-L
-          (subst (λ (H : Named). IsNamedSmallGraph (edgesIn (l .nodes) (l .edges) L) T (r .nodes) H (K .ρ) (K .σ)) (sym edges-z) (named-small-repeats _ T _ _ _ _ h))
+        names : take e (drop (13 * c) z) ≡ table (node NAMED zs) 0 e
+        names =
+            at-z (13 * c) e (omega (arith, few-out))
+            ∙ ap (λ l. take e (drop (A + 13 * c) l)) e₆ ∙ ap (λ j. take j (drop (A + 13 * c) (sets w₅ (A + 13 * c) N))) (sym length-N)
+            ∙ mid-sets N w₅ (A + 13 * c) (omega (arith, length-N, few-out, length-5, q .room)) ∙ ap (λ l. table (node NAMED l) 0 e) behind-5
 
-      pub area-made : AreaMade p l w w₆ r
-      area-made = record {
-        front =
-            ap (take A) e₆ ∙ take-sets N w₅ (A + 13 * c) A (omega arith) ∙ ap (take A) e₅ ∙ take-sets Y w₄ (A + 9 * c) A (omega arith) ∙ ap (take A) e₄ ∙ take-sets X w₃ (A + 5 * c) A (omega arith)
-            ∙ ap (take A) e₃ ∙ take-sets W w₂ (A + 2 * c) A (omega arith) ∙ ap (take A) e₂ ∙ take-sets M w₁ A A (omega arith)
-            ∙ take-less A s w w₁ (omega arith) front-1;
-        ρ = K .ρ;
-        σ = K .σ;
-        small = graph-z;
-        places = places ∙ map-equal (node MAPPED zs) (K .σ) T numbers;
-        words = words;
-      }
+        edges-z : areaEdges c e z ≡ edgesOut e zs
+        edges-z =
+            ap₂ pairs (ap₂ pairs lows highs ∙ pairs-tables (node LOWER zs) (node UPPER zs) 0 e) names
+            ∙ pairs-tables (λ j. (node LOWER zs j, node UPPER zs j)) (node NAMED zs) 0 e
+
+        numbers : (t : ℕ) → List·Memᴰ t T → node MAPPED zs t ≡ K .σ t
+        numbers t m =
+            let (j, b, x) = table-mem (node ACTIVE L) 0 (l .active) t (subst (λ (S : List ℕ). List·Memᴰ t S) (sym list-L) (in-firsts T t m)) in
+            ap (node MAPPED zs) x ∙ K .numbers j (omega arith) ∙ ap (K .σ) (sym x)
+
+        graph-z : IsNamedSmallGraph (edgesIn (l .nodes) (l .edges) (drop s w)) T (r .nodes) (areaEdges c e z) (K .ρ) (K .σ)
+        graph-z =
+            let h : IsNamedSmallGraph (edgesIn (l .nodes) (l .edges) L) (firsts eqb T) (r .nodes) (edgesOut e zs) (K .ρ) (K .σ) =
+            subst (λ (S : List ℕ). IsNamedSmallGraph (edgesIn (l .nodes) (l .edges) L) S (r .nodes) (edgesOut e zs) (K .ρ) (K .σ)) list-L (K .small) in
+            subst (λ (v : List ℕ). IsNamedSmallGraph (edgesIn (l .nodes) (l .edges) v) T (r .nodes) (areaEdges c e z) (K .ρ) (K .σ)) same-L
+            (subst (λ (H : Named). IsNamedSmallGraph (edgesIn (l .nodes) (l .edges) L) T (r .nodes) H (K .ρ) (K .σ)) (sym edges-z) (named-small-repeats _ T _ _ _ _ h))
+
+        pub area-made : AreaMade p l w w₆ r
+        area-made = record {
+          front =
+              ap (take A) e₆ ∙ take-sets N w₅ (A + 13 * c) A (omega arith) ∙ ap (take A) e₅ ∙ take-sets Y w₄ (A + 9 * c) A (omega arith) ∙ ap (take A) e₄ ∙ take-sets X w₃ (A + 5 * c) A (omega arith)
+              ∙ ap (take A) e₃ ∙ take-sets W w₂ (A + 2 * c) A (omega arith) ∙ ap (take A) e₂ ∙ take-sets M w₁ A A (omega arith)
+              ∙ take-less A s w w₁ (omega arith) front-1;
+          ρ = K .ρ;
+          σ = K .σ;
+          small = graph-z;
+          places = places ∙ map-equal (node MAPPED zs) (K .σ) T numbers;
+          words = words;
+        }

@@ -81,19 +81,16 @@ edged-none : (s n m : ℕ) (v : List ℕ) → There s n m v → Edged s n m v v
 edged-none s n m v e = record { front = refl; nodes = λ j l u b. refl; ends = e .ends; names = e .names }
 
 module _ {s n : ℕ} {f : ℕ → Bool} {E : ℕ → Entry} {i m : ℕ} {v : List ℕ} (there : There s n m v) where
-  abbrev first : Named
-  first = edgesIn n m (drop s v)
-
   pub added-none : AddedBy s n f E i i m v v m
   added-none =
       let z : i - i ≡ 0 = omega arith in
-      record { long = refl; edged = edged-none s n m v there; more = sym (ap (λ (k : ℕ). first ++ pickEvents f E i k) z ∙ append-nil first); most = omega arith }
+      record { long = refl; edged = edged-none s n m v there; more = sym (ap (λ (k : ℕ). edgesIn n m (drop s v) ++ pickEvents f E i k) z ∙ append-nil (edgesIn n m (drop s v))); most = omega arith }
 
   pub added-skip : f i ≡ false → AddedBy s n f E i (i + 1) m v v m
   added-skip e = record {
     long = refl;
     edged = edged-none s n m v there;
-    more = sym (ap (λ (G : Named). first ++ G) (one-number f E i false e) ∙ append-nil first);
+    more = sym (ap (λ (G : Named). edgesIn n m (drop s v) ++ G) (one-number f E i false e) ∙ append-nil (edgesIn n m (drop s v)));
     most = omega arith;
   }
 
@@ -102,7 +99,7 @@ module _ {s n : ℕ} {f : ℕ → Bool} {E : ℕ → Entry} {i m : ℕ} {v : Lis
   added-put e {a} {b} ee la lb lc h {zs} k = record {
     long = same-len-mid s (length v - s) v zs (k .same);
     edged = edged-more (edged-none s n m v there) k h la lb lc;
-    more = edges-more (edged-none s n m v there) k h ∙ ap (λ (x : Entry). first ++ (x ∷ [])) ee ∙ sym (ap (λ (G : Named). first ++ G) (one-number f E i true e));
+    more = edges-more (edged-none s n m v there) k h ∙ ap (λ (x : Entry). edgesIn n m (drop s v) ++ (x ∷ [])) ee ∙ sym (ap (λ (G : Named). edgesIn n m (drop s v) ++ G) (one-number f E i true e));
     most = omega arith;
   }
 

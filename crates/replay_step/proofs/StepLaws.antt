@@ -2,7 +2,8 @@
 -- In order: the words of a part; what each piece needs; what is loaded; the step.
 -- Assumes nothing.
 use Prim.Native.Nat.{_*_, _+_, _-_, _<_, _≤_, suc, zero, ℕ}
-use mathlib.Core.List.{List, [], _++_, _∷_, map}
+use mathlib.Core.Bool.{true}
+use mathlib.Core.List.{List, List·Memᴰ, [], _++_, _∷_, append-assoc, map}
 use mathlib.Core.Path.{_∙_, _≡_, ap, ap₂, refl, subst, sym}
 use lib.Dec.{ltb}
 use lib.ListN.{drop, getD, length, length-drop, length-take, take}
@@ -13,34 +14,34 @@ use Rattle.core_loading.proofs.LoadingLaws.{entered-most}
 use Rattle.core_loading.specs.Loading.{Entered}
 use Rattle.core_reduce.specs.Core.{edgesIn}
 use Rattle.core_reduce.specs.declared.Counts.{Counts}
-use Rattle.core_words.specs.Fields.{ACTIVE, MARK, TO, half, node}
-use Rattle.theory_graph.proofs.CutEquivalence.{small-cuts-equal}
-use Rattle.theory_graph.proofs.Cuts.{cut-append, cut-image}
-use Rattle.theory_graph.proofs.Ends.{endsIn-at}
-use Rattle.theory_graph.proofs.Lists.{map-twice}
-use Rattle.theory_graph.proofs.Renumbering.{renumbered}
+use Rattle.core_words.specs.Fields.{ACTIVE, MARK, node}
+use Rattle.theory_graph.proofs.Booleans.{onBool}
+use Rattle.theory_graph.proofs.Ends.{endsIn-of}
+use Rattle.theory_graph.proofs.Lists.{map-twice, table-in}
 use Rattle.theory_graph.proofs.SmallGraphDefinition.{definition-small}
-use Rattle.theory_graph.proofs.SmallGraphs.{SmallGraph}
-use Rattle.theory_graph.proofs.TableLaws.{pairs-at, pairs-length, table-equal}
+use Rattle.theory_graph.proofs.TableLaws.{table-equal}
 use Rattle.theory_graph.proofs.Uniqueness.{small-bound}
-use Rattle.theory_graph.specs.Cut.{cut}
-use Rattle.theory_graph.specs.Graph.{Edge, NodeSet}
-use Rattle.theory_graph.specs.Lists.{pairs}
-use Rattle.theory_graph.specs.SmallGraph.{image}
+use Rattle.theory_graph.specs.Graph.{Edge}
+use Rattle.theory_names.proofs.NamedCuts.{plain-in, weigh-append, weigh-image}
+use Rattle.theory_names.proofs.NamedUniqueness.{named-renumbered, named-small-equal}
+use Rattle.theory_names.specs.Names.{Named, SameEntries, plain, weigh}
+use Rattle.theory_names.specs.NamedSmallGraph.{IsNamedSmallGraph, imageNamed}
 use Rattle.theory_timeline.proofs.Acceptance.{sound-good, sound-segment}
-use Rattle.theory_timeline.proofs.DemandThree.{small-is}
+use Rattle.theory_timeline.proofs.DemandThree.{named-is}
 use Rattle.theory_timeline.proofs.Networks.{middle, part-small}
-use Rattle.theory_timeline.proofs.TagLaws.{events-added, pick-image, pick-shift, words-at, words-part}
-use Rattle.theory_timeline.specs.Events.{Event, activeOf, ends}
+use Rattle.theory_timeline.proofs.RoadLaws.{road-most}
+use Rattle.theory_timeline.proofs.TagLaws.{adds-key, events-added, pick-image, pick-shift, tag-says, word-change, word-query, words-at, words-part}
+use Rattle.theory_timeline.specs.Events.{Event, activeOf, asks, ends}
 use Rattle.theory_timeline.specs.Steps as Steps
 use Rattle.theory_timeline.specs.Steps.{Sound, added}
-use Rattle.theory_timeline.specs.Tags.{addsEvent, endsAt, pickEvents, word}
+use Rattle.theory_timeline.specs.Tags.{addsEvent, endsAt, entryAt, key, keyOf, pickEvents, word}
 use Rattle.theory_timeline.specs.Windows as Windows
 use Rattle.theory_timeline.specs.Windows.{Timeline, active, during, event, network, size}
 use Rattle.replay_step.proofs.BesideLaws.{adds-same, beside-same}
+use Rattle.replay_step.proofs.EdgeLaws.{There, area-table, areaEntry}
 use Rattle.replay_step.proofs.WordLaws.{front-get, low-map, mid-less, mid-take, take-less}
 use Rattle.replay_step.specs.Area.{Area, EventsIn, SmallArea, StepReady, Stepped, areaEdges, span}
-use Rattle.replay_step.specs.Load.{ActiveReady, Actives, AddReady, Added, AreaMade, Copied, EdgesReady, IsPart, PartLoaded, addsIn, placesIn, scratch}
+use Rattle.replay_step.specs.Load.{ActiveReady, Actives, AddReady, Added, AreaMade, Copied, EdgesReady, IsPart, PartLoaded, addsIn, entryIn, scratch}
 use Rattle.replay_step.specs.declared.Graph.{Graph}
 use Rattle.replay_step.specs.declared.Part.{Part}
 use Rattle.replay_step.specs.declared.Window.{Window}
@@ -117,33 +118,46 @@ module _ {w : Window} {p : Part} {v : List ℕ} (st : StepReady w (p .at) (p .ev
   abbrev A : List ℕ
   A = active (st .g) (span w)
 
-  scratch-is : s ≡ 13 * n + 13 * p .events
-  scratch-is = ap (λ k. k + 13 * p .events) (ip .area)
+  scratch-is : s ≡ 17 * n + 17 * p .events
+  scratch-is = ap (λ k. k + 17 * p .events) (ip .area)
 
   words-low : (i : ℕ) → i < 2 * n → getD v i 0 < w .nodes
   words-low i l =
       let a = st .area in
       let q : getD (map (a .σ) A) i 0 < w .nodes = low-map (w .nodes) (a .σ) A i (λ b m. a .carries .place b m .0) (omega (arith, window-length (st .g) (w .at) n (st .inside))) in
       let e : getD v i 0 ≡ getD (map (a .σ) A) i 0 =
-      sym (getD-take (13 * n) v i 0 (omega arith)) ∙ sym (getD-take (2 * n) (take (13 * n) v) i 0 l) ∙ ap (λ k. getD k i 0) (a .events .places) in
+      sym (getD-take (17 * n) v i 0 (omega arith)) ∙ sym (getD-take (2 * n) (take (17 * n) v) i 0 l) ∙ ap (λ k. getD k i 0) (a .events .places) in
       omega arith
 
-  edges-low : (j : ℕ) → j < w .edges → (getD v (5 * n + j) 0 < w .nodes) × (getD v (9 * n + j) 0 < w .nodes)
+  edges-low : (j : ℕ) → j < w .edges → (getD v (5 * n + j) 0 < w .nodes) × (getD v (9 * n + j) 0 < w .nodes) × (getD v (13 * n + j) 0 < 65536)
   edges-low j l =
       let a = st .area in
-      let u = take (13 * n) v in
-      let lu : length u ≡ 13 * n = length-take-le (13 * n) v (omega (arith, st .room)) in
-      let X = take (w .edges) (drop (5 * n) u) in
-      let Y = take (w .edges) (drop (9 * n) u) in
-      let la : j < length X = rw (length-take, length-drop) (omega (arith, a .few)) in
-      let lb : j < length Y = rw (length-take, length-drop) (omega (arith, a .few)) in
-      let (b, c) = endsIn-at (λ v. ltb v (w .nodes)) (pairs X Y) j (omega (arith, pairs-length X Y (j + 1) (omega arith) (omega arith))) (a .carries .inside) in
-      let e = pairs-at X Y j la lb in
-      let e1 : getD X j 0 ≡ getD v (5 * n + j) 0 = getD-take (w .edges) (drop (5 * n) u) j 0 l ∙ getD-drop (5 * n) u j 0 ∙ getD-take (13 * n) v (5 * n + j) 0 (omega (arith, a .few)) in
-      let e2 : getD Y j 0 ≡ getD v (9 * n + j) 0 = getD-take (w .edges) (drop (9 * n) u) j 0 l ∙ getD-drop (9 * n) u j 0 ∙ getD-take (13 * n) v (9 * n + j) 0 (omega (arith, a .few)) in (
-        subst (λ (k : ℕ). k < w .nodes) (ap (λ (k : Edge). k .0) e ∙ e1) (ltb-true _ (w .nodes) b),
-        subst (λ (k : ℕ). k < w .nodes) (ap (λ (k : Edge). k .1) e ∙ e2) (ltb-true _ (w .nodes) c),
+      let u = take (17 * n) v in
+      let lu : length u ≡ 17 * n = length-take-le (17 * n) v (omega (arith, st .room)) in
+      let m : List·Memᴰ (areaEntry n u j) (areaEdges n (w .edges) u) =
+      subst (λ (G : Named). List·Memᴰ (areaEntry n u j) G) (sym (area-table n (w .edges) u (omega arith) (a .few))) (table-in (areaEntry n u) 0 (w .edges) j (omega arith) (omega arith)) in
+      let (b, c) = endsIn-of (λ v. ltb v (w .nodes)) (plain (areaEdges n (w .edges) u)) (a .carries .inside) (plain-in m) in
+      let at : (i : ℕ) → i < 17 * n → getD u i 0 ≡ getD v i 0 = λ i h. getD-take (17 * n) v i 0 h in (
+        subst (λ (k : ℕ). k < w .nodes) (at (5 * n + j) (omega (arith, a .few))) (ltb-true _ (w .nodes) b),
+        subst (λ (k : ℕ). k < w .nodes) (at (9 * n + j) (omega (arith, a .few))) (ltb-true _ (w .nodes) c),
+        omega (arith, at (13 * n + j) (omega (arith, a .few)), a .names (areaEntry n u j) m),
       )
+
+  -- a key is that of a segment, or that of no tag
+  keys-low : (j : ℕ) → j < n → keyOf (getD v (2 * n + 3 * j) 0) < 65536
+  keys-low j l =
+      let a = st .area in
+      let u = take (17 * n) v in
+      let i = w .at + j in
+      let e : getD v (2 * n + 3 * j) 0 ≡ word (st .g) 0 i =
+      let z : 3 * j ≡ 3 * j + 0 = omega arith in
+      sym (getD-take (17 * n) v (2 * n + 3 * j) 0 (omega arith)) ∙ sym (getD-take (3 * n) (drop (2 * n) u) (3 * j) 0 (omega arith) ∙ getD-drop (2 * n) u (3 * j) 0)
+      ∙ ap₂ (λ (l : List ℕ) (k : ℕ). getD l k 0) (a .events .words) z ∙ words-at (st .g) (w .at) n j 0 l (omega arith) in
+      rw e (onBool (asks (event (st .g) i))
+      (λ q. rw (word-query (st .g) i 0 q) (omega arith))
+      (λ q.
+      rw (word-change (st .g) i q .0, tag-says (st .g) i .named)
+      (omega (arith, sound-segment (st .g) (st .sound) i (omega (arith, st .inside)) q, road-most (st .g .segments) (event (st .g) i .1), st .sound .segments-few))))
 
   pub active-need : ActiveReady (p .places) (2 * p .events) s (w .nodes) v
   active-need = record {
@@ -163,12 +177,12 @@ module _ {w : Window} {p : Part} {v : List ℕ} (st : StepReady w (p .at) (p .ev
     nodes = λ j l. let q = edges-low j l in (
       omega (arith, q .0, front-get s (5 * n + j) v z f (omega (arith, st .area .few, scratch-is))),
       omega (arith, q .1, front-get s (9 * n + j) v z f (omega (arith, st .area .few, scratch-is))),
+      omega (arith, q .2, front-get s (13 * n + j) v z f (omega (arith, st .area .few, scratch-is))),
     );
   }
 
   pub events-need : (i j m : ℕ) (z : List ℕ) → i ≤ j → j ≤ n → m ≤ w .edges + i → take s z ≡ take s v → length z ≡ length v
-      → ((h : ℕ) → h < 2 * m → half (w .nodes) TO (drop s z) h < w .nodes)
-      → AddReady w p i j m z × (p .at + p .events ≤ 4096)
+      → There s (w .nodes) m z → AddReady w p i j m z × (p .at + p .events ≤ 4096)
   events-need i j m z a b l f e h = (
     record {
       order = a;
@@ -179,7 +193,9 @@ module _ {w : Window} {p : Part} {v : List ℕ} (st : StepReady w (p .at) (p .ev
       few = omega (arith, st .area .few, st .much);
       many = st .many;
       nodes = λ d u. omega (arith, words-low d u, front-get s d v z f (omega (arith, scratch-is)));
-      ends = h;
+      keys = λ d u. rw (front-get s (2 * n + 3 * d) v z f (omega (arith, scratch-is))) (keys-low d u);
+      ends = h .ends;
+      names = h .names;
     },
     omega (arith, st .ends, st .much),
   )
@@ -187,7 +203,7 @@ module _ {w : Window} {p : Part} {v : List ℕ} (st : StepReady w (p .at) (p .ev
   pub behind-need : {y z : List ℕ} {m : ℕ} → Added w p 0 (p .at - w .at) (w .edges) y z m → take s y ≡ take s v → length y ≡ length v
       → AddReady w p (p .at - w .at + p .events) n m z × (p .at + p .events ≤ 4096)
   behind-need {z = z} {m} a f e =
-      events-need (p .at - w .at + p .events) n m z (omega (arith, st .starts, st .ends)) (omega arith) (omega (arith, a .most)) (a .edged .front ∙ f) (a .long ∙ e) (a .edged .ends)
+      events-need (p .at - w .at + p .events) n m z (omega (arith, st .starts, st .ends)) (omega arith) (omega (arith, a .most)) (a .edged .front ∙ f) (a .long ∙ e) (record { ends = a .edged .ends; names = a .edged .names })
 
   -- ---- what is loaded: active nodes entered (w₁), edges copied (w₂), the events before the part (w₃) and behind it (w₄)
   module _ {w₁ w₂ w₃ w₄ : List ℕ} {k m r : ℕ} (A₁ : Actives (p .places) (2 * p .events) s (w .nodes) v w₁ k) (B : Copied n (w .edges) s (w .nodes) w₁ w₂)
@@ -223,15 +239,16 @@ module _ {w : Window} {p : Part} {v : List ℕ} (st : StepReady w (p .at) (p .ev
             (omega (arith, active-need .front, st .room, C .long, D .long, scratch-is)) (omega (arith, active-need .front, st .room, scratch-is)) front-4)
             (entered-same (A₁ .entered) (fields MARK (omega arith)) (fields ACTIVE (omega arith)));
         ends = D .edged .ends;
+        names = D .edged .names;
       };
-      edges = λ U.
+      edges =
           let a = st .starts in
           let b = st .ends in
           let z : p .at - w .at - 0 ≡ p .at - w .at = omega arith in
-          let c1 = ap (λ (d : ℕ). cut U (pickEvents (addsIn w p w₂) (placesIn w₂) 0 d)) z ∙ ap (cut U) (beside-same w p v w₂ (words-of w₂ front-2) 0 (p .at - w .at) (omega arith)) in
-          let c2 = ap (cut U) (beside-same w p v w₃ (words-of w₃ front-3) (p .at - w .at + p .events) (n - (p .at - w .at + p .events)) (omega arith)) in
-          let c3 = B .same U ∙ ap (λ (l : List ℕ). cut U (areaEdges n (w .edges) l)) (take-less (13 * n) s v w₁ (omega (arith, scratch-is)) (A₁ .front)) in
-          omega (arith, D .more U, C .more U, c1, c2, c3);
+          let c1 = ap (λ (d : ℕ). pickEvents (addsIn w p w₂) (entryIn n w₂) 0 d) z ∙ beside-same w p v w₂ (words-of w₂ front-2) 0 (p .at - w .at) (omega arith) in
+          let c2 = beside-same w p v w₃ (words-of w₃ front-3) (p .at - w .at + p .events) (n - (p .at - w .at + p .events)) (omega arith) in
+          let c3 = B .same ∙ ap (areaEdges n (w .edges)) (take-less (17 * n) s v w₁ (omega (arith, scratch-is)) (A₁ .front)) in
+          D .more ∙ ap₂ _++_ (C .more ∙ ap₂ _++_ c3 c1) c2 ∙ append-assoc (areaEdges n (w .edges) (take (17 * n) v)) _ _;
     }
 
 -- ---- the step
@@ -255,12 +272,12 @@ abbrev pub windowOf : Part → Counts → Window
 windowOf p r = record { at = p .at; events = p .events; nodes = r .nodes; edges = r .edges }
 
 -- a small graph of a window's network, in the words that the reader knows
-pub small-area : (g : Timeline) → Sound g → (r : Window) {z : List ℕ} {ρ σ : ℕ → ℕ} → SmallGraph (network g (span r)) (active g (span r)) (r .nodes) (areaEdges (r .events) (r .edges) z) ρ σ
-    → EventsIn g (span r) σ z → SmallArea g r z
+pub small-area : (g : Timeline) → Sound g → (r : Window) {z : List ℕ} {ρ σ : ℕ → ℕ}
+    → IsNamedSmallGraph (network g (span r)) (active g (span r)) (r .nodes) (areaEdges (r .events) (r .edges) z) ρ σ → EventsIn g (span r) σ z → SmallArea g r z
 small-area g sound r {σ = σ} s e = record {
   σ = σ;
-  graph = renumbered (network g (span r)) (active g (span r)) _ _ _ _ (small-is g (sound-good g sound) (span r)) _ _ _ _ s;
-  bound = small-bound _ _ _ _ _ _ s;
+  graph = named-renumbered (network g (span r)) (active g (span r)) _ _ _ _ (named-is g (sound-good g sound) (span r)) _ _ _ _ s;
+  bound = small-bound _ _ _ _ _ _ (definition-small _ _ _ _ _ _ (s .small));
   events = e;
 }
 
@@ -277,10 +294,10 @@ module _ {w : Window} {p : Part} {v : List ℕ} (st : StepReady w (p .at) (p .ev
   S = scratch p
 
   abbrev u : List ℕ
-  u = take (13 * w .events) v
+  u = take (17 * w .events) v
 
-  scratch-at : S ≡ 13 * w .events + 13 * c
-  scratch-at = ap (λ k. k + 13 * c) (ip .area)
+  scratch-at : S ≡ 17 * w .events + 17 * c
+  scratch-at = ap (λ k. k + 17 * c) (ip .area)
 
   part : Steps.Part (span w) (p .at, c)
   part = record { after = st .starts; before = st .ends }
@@ -291,7 +308,7 @@ module _ {w : Window} {p : Part} {v : List ℕ} (st : StepReady w (p .at) (p .ev
       mid-less (p .places) (2 * c) S v z (omega (arith, pl .ready .places)) (omega (arith, pl .ready .places, pl .ready .room))
       (omega (arith, pl .ready .places, pl .ready .room, lz)) (pl .front)
       ∙ ap (λ k. take (2 * c) (drop k v)) (ip .places)
-      ∙ sym (ap (λ l. take (2 * c) (drop (2 * B) l)) (take-take (2 * w .events) (13 * w .events) v (omega arith))
+      ∙ sym (ap (λ l. take (2 * c) (drop (2 * B) l)) (take-take (2 * w .events) (17 * w .events) v (omega arith))
       ∙ mid-take (2 * B) (2 * c) (2 * w .events) v (omega (arith, st .starts, st .ends)) (omega (arith, st .room)))
 
   words-z : take (3 * c) (drop (p .words) z) ≡ take (3 * c) (drop (3 * B) (take (3 * w .events) (drop (2 * w .events) u)))
@@ -302,7 +319,7 @@ module _ {w : Window} {p : Part} {v : List ℕ} (st : StepReady w (p .at) (p .ev
       ∙ ap (λ k. take (3 * c) (drop k v)) (ip .words)
       ∙ sym (mid-take (3 * B) (3 * c) (3 * w .events) (drop (2 * w .events) u) (omega (arith, st .starts, st .ends)) (rw (length-drop, length-take) (omega (arith, st .room)))
       ∙ ap (take (3 * c)) (drop-more (3 * B) (2 * w .events) u)
-      ∙ mid-take (2 * w .events + 3 * B) (3 * c) (13 * w .events) v (omega (arith, st .starts, st .ends)) (omega (arith, st .room)))
+      ∙ mid-take (2 * w .events + 3 * B) (3 * c) (17 * w .events) v (omega (arith, st .starts, st .ends)) (omega (arith, st .room)))
     where
       drop-more : (i j : ℕ) (l : List ℕ) → drop i (drop j l) ≡ drop (j + i) l
       drop-more i zero l = let e : i ≡ 0 + i = omega arith in ap (λ k. drop k l) e
@@ -315,15 +332,15 @@ module _ {w : Window} {p : Part} {v : List ℕ} (st : StepReady w (p .at) (p .ev
 
   module _ (g : Timeline) (sound : Sound g) (inside : w .at + w .events ≤ size g) (a : Area g w u) where
     -- the events beside the part, by their words and by the list
-    beside : (U : NodeSet) (i k : ℕ) → i + k ≤ w .events
-        → cut U (pickEvents (addsIn w p v) (placesIn v) i k) ≡ cut U (image (a .σ) (pickEvents (addsEvent g (span w) (p .at, c)) (endsAt g) (w .at + i) k))
-    beside U i k h =
-        ap (cut U) (pick-shift (addsIn w p v) (addsEvent g (span w) (p .at, c)) (placesIn v) (λ j. (a .σ (endsAt g j .0), a .σ (endsAt g j .1))) (w .at) i k
-        λ j x y. (adds-at j (omega arith), nodes-at j (omega arith)))
-        ∙ ap (cut U) (pick-image (addsEvent g (span w) (p .at, c)) (endsAt g) (a .σ) (w .at + i) k)
+    beside : (i k : ℕ) → i + k ≤ w .events
+        → pickEvents (addsIn w p v) (entryIn (w .events) v) i k ≡ imageNamed (a .σ) (pickEvents (addsEvent g (span w) (p .at, c)) (entryAt g) (w .at + i) k)
+    beside i k h =
+        pick-shift (addsIn w p v) (addsEvent g (span w) (p .at, c)) (entryIn (w .events) v) (λ j. ((a .σ (endsAt g j .0), a .σ (endsAt g j .1)), key g j)) (w .at) i k
+        (λ j x y. (adds-at j (omega arith), λ t. entry-at j (omega arith) (sym (adds-at j (omega arith)) ∙ t)))
+        ∙ pick-image (addsEvent g (span w) (p .at, c)) (entryAt g) (a .σ) (w .at + i) k
       where
-        read : (d : ℕ) → d < 13 * w .events → getD v d 0 ≡ getD u d 0
-        read d l = sym (getD-take (13 * w .events) v d 0 l)
+        read : (d : ℕ) → d < 17 * w .events → getD v d 0 ≡ getD u d 0
+        read d l = sym (getD-take (17 * w .events) v d 0 l)
 
         word-at : (j d : ℕ) → j < w .events → d < 3 → getD v (2 * w .events + (3 * j + d)) 0 ≡ word g d (w .at + j)
         word-at j d x y =
@@ -342,44 +359,54 @@ module _ {w : Window} {p : Part} {v : List ℕ} (st : StepReady w (p .at) (p .ev
         node-at : (d : ℕ) → d < 2 * w .events → getD v d 0 ≡ getD (map (a .σ) (active g (span w))) d 0
         node-at d x = read d (omega arith) ∙ sym (getD-take (2 * w .events) u d 0 x) ∙ ap (λ l. getD l d 0) (a .events .places)
 
-        nodes-at : (j : ℕ) → j < w .events → placesIn v j ≡ (a .σ (endsAt g (w .at + j) .0), a .σ (endsAt g (w .at + j) .1))
-        nodes-at j x =
+        -- an event that adds its key is no query, so that its tag has the key
+        entry-at : (j : ℕ) → j < w .events → addsEvent g (span w) (p .at, c) (w .at + j) ≡ true
+            → entryIn (w .events) v j ≡ ((a .σ (endsAt g (w .at + j) .0), a .σ (endsAt g (w .at + j) .1)), key g (w .at + j))
+        entry-at j x t =
             let (e, f) = event-nodes g (a .σ) (w .at) (w .events) j inside x in
-            ap₂ (λ (x y : ℕ). (x, y)) (node-at (2 * j) (omega arith) ∙ e) (node-at (2 * j + 1) (omega arith) ∙ f)
+            let z0 : 2 * w .events + 3 * j ≡ 2 * w .events + (3 * j + 0) = omega arith in
+            ap₂ (λ (x : Edge) (y : ℕ). (x, y)) (ap₂ (λ (x y : ℕ). (x, y)) (node-at (2 * j) (omega arith) ∙ e) (node-at (2 * j + 1) (omega arith) ∙ f))
+            (ap keyOf (ap (λ k. getD v k 0) z0 ∙ word-at j 0 x (omega arith)) ∙ adds-key g (w .at + j) (span w) (p .at, c) t)
 
     -- what is loaded is the window's graph with the added roads
-    edges-are : (U : NodeSet) → cut U (edgesIn (l .nodes) (l .edges) (drop S z)) ≡ cut U (areaEdges (w .events) (w .edges) u ++ image (a .σ) (added g (span w) (p .at, c)))
-    edges-are U =
+    edges-are : SameEntries (edgesIn (l .nodes) (l .edges) (drop S z)) (areaEdges (w .events) (w .edges) u ++ imageNamed (a .σ) (added g (span w) (p .at, c)))
+    edges-are = record { weights = λ φ U.
         let s1 = st .starts in
         let s2 = st .ends in
         let z0 : w .at + 0 ≡ w .at = omega arith in
         let z1 : w .at + (B + c) ≡ p .at + c = omega arith in
         let z2 : w .events - (B + c) ≡ w .at + w .events - (p .at + c) = omega arith in
         let f = addsEvent g (span w) (p .at, c) in
-        let b1 = beside U 0 B (omega arith) ∙ ap (λ (k : ℕ). cut U (image (a .σ) (pickEvents f (endsAt g) k B))) z0 ∙ cut-image U (a .σ) (pickEvents f (endsAt g) (w .at) B) in
-        let b2 = beside U (B + c) (w .events - (B + c)) (omega arith) ∙ ap₂ (λ (k n : ℕ). cut U (image (a .σ) (pickEvents f (endsAt g) k n))) z1 z2
-        ∙ cut-image U (a .σ) (pickEvents f (endsAt g) (p .at + c) (w .at + w .events - (p .at + c))) in
-        let e = events-added g (span w) (p .at, c) part inside (sound-segment g sound) (λ k. U (a .σ k)) in
+        let P = pickEvents f (entryAt g) (w .at) B in
+        let Q = pickEvents f (entryAt g) (p .at + c) (w .at + w .events - (p .at + c)) in
+        let E = areaEdges (w .events) (w .edges) u in
+        let b1 = beside 0 B (omega arith) ∙ ap (λ (k : ℕ). imageNamed (a .σ) (pickEvents f (entryAt g) k B)) z0 in
+        let b2 = beside (B + c) (w .events - (B + c)) (omega arith) ∙ ap₂ (λ (k n : ℕ). imageNamed (a .σ) (pickEvents f (entryAt g) k n)) z1 z2 in
+        let e = events-added g (span w) (p .at, c) part inside (sound-segment g sound) φ (λ k. U (a .σ k)) in
+        let m : weigh φ U (edgesIn (l .nodes) (l .edges) (drop S z)) ≡ weigh φ U (E ++ (imageNamed (a .σ) P ++ imageNamed (a .σ) Q)) =
+        ap (weigh φ U) (pl .edges ∙ ap₂ (λ (x y : Named). E ++ (x ++ y)) b1 b2) in
         omega (
           arith,
-          pl .edges U,
-          b1,
-          b2,
+          m,
+          weigh-append φ U E (imageNamed (a .σ) P ++ imageNamed (a .σ) Q),
+          weigh-append φ U (imageNamed (a .σ) P) (imageNamed (a .σ) Q),
+          weigh-image φ U (a .σ) P,
+          weigh-image φ U (a .σ) Q,
           e,
-          cut-append U (areaEdges (w .events) (w .edges) u) (image (a .σ) (added g (span w) (p .at, c))),
-          cut-image U (a .σ) (added g (span w) (p .at, c)),
-        )
+          weigh-append φ U E (imageNamed (a .σ) (added g (span w) (p .at, c))),
+          weigh-image φ U (a .σ) (added g (span w) (p .at, c)),
+        ) }
 
-    part-made : SmallArea g (windowOf p r) (take (13 * c) (drop (13 * w .events) y))
+    part-made : SmallArea g (windowOf p r) (take (17 * c) (drop (17 * w .events) y))
     part-made =
         let T : take (2 * c) (drop (p .places) z) ≡ map (a .σ) (active g (p .at, c)) = places-z ∙ ap (λ l. take (2 * c) (drop (2 * B) l)) (a .events .places)
         ∙ part-places g (span w) (p .at, c) part (a .σ) in
-        let g1 : SmallGraph (edgesIn (l .nodes) (l .edges) (drop S z)) (map (a .σ) (active g (p .at, c))) (r .nodes)
-        (areaEdges c (r .edges) (take (13 * c) (drop (p .area) y))) (am .ρ) (am .σ) =
-        rw T at (definition-small _ _ _ _ _ _ (am .small)) in
+        let g1 : IsNamedSmallGraph (edgesIn (l .nodes) (l .edges) (drop S z)) (map (a .σ) (active g (p .at, c))) (r .nodes)
+        (areaEdges c (r .edges) (take (17 * c) (drop (p .area) y))) (am .ρ) (am .σ) =
+        rw T at (am .small) in
         let g2 = part-small g (span w) (p .at, c) part (w .nodes) (areaEdges (w .events) (w .edges) u) (a .ρ) (a .σ) (a .carries) (r .nodes) _ (am .ρ) (am .σ)
-        (small-cuts-equal _ _ edges-are _ _ _ _ _ g1) in
-        subst (λ (k : ℕ). SmallArea g (windowOf p r) (take (13 * c) (drop k y))) (ip .area)
+        (named-small-equal edges-are g1) in
+        subst (λ (k : ℕ). SmallArea g (windowOf p r) (take (17 * c) (drop k y))) (ip .area)
         (small-area g sound (windowOf p r) g2 (record {
           places = am .places ∙ ap (map (am .σ)) T ∙ map-twice (am .σ) (a .σ) (active g (p .at, c));
           words = am .words ∙ words-z ∙ ap (λ l. take (3 * c) (drop (3 * B) l)) (a .events .words) ∙ words-part g (w .at) (w .events) (p .at) c (st .starts) (st .ends);

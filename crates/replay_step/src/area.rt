@@ -60,6 +60,7 @@ pub fn make_area(part: crate::Part, l: crate::Graph, work: &mut [u32]) -> core_r
 {
     let q = part.area;
     let c = part.events;
+    let names = q + 13 * c;
     let s = q + 17 * c;
     let n = l.nodes;
     let r = core_reduce::reduce(&mut work[s..], n, l.edges, l.active);
@@ -67,6 +68,6 @@ pub fn make_area(part: crate::Part, l: crate::Graph, work: &mut [u32]) -> core_r
     copy_words(work, part.words, 3 * c, q + 2 * c);
     put_field(work, r.edges, core_words::LOWER, s, q + 5 * c);
     put_field(work, r.edges, core_words::UPPER, s, q + 9 * c);
-    put_field(work, r.edges, core_words::NAMED, s, q + 13 * c);
+    put_field(work, r.edges, core_words::NAMED, s, names);
     r
 }

@@ -3,7 +3,7 @@
 use Prim.Native.Nat.{_<_, _≤_, suc, zero, ℕ}
 use mathlib.Core.Bool.{_&&_, true}
 use mathlib.Core.List.{List, List·Memᴰ, List·Memᴰ·head, List·Memᴰ·tail, [], _++_, _∷_}
-use mathlib.Core.Path.{_≡_, ap₂, refl}
+use mathlib.Core.Path.{_∙_, _≡_, ap, ap₂, refl}
 use lib.ListN.{getD, length}
 use native.Mathlib.Omega.{arith}
 use Rattle.theory_graph.proofs.Booleans.{and-elim}
@@ -14,6 +14,11 @@ use Rattle.theory_graph.specs.SmallGraph.{endsIn, image}
 pub endsIn-mem : (N : NodeSet) (E : List Edge) → ((i j : ℕ) → List·Memᴰ (i, j) E → (N i ≡ true) × (N j ≡ true)) → endsIn N E ≡ true
 endsIn-mem N [] f = refl
 endsIn-mem N (e ∷ E) f = let (p, q) = f (e .0) (e .1) (List·Memᴰ·head refl) in ap₂ _&&_ p (ap₂ _&&_ q (endsIn-mem N E (λ i j m. f i j (List·Memᴰ·tail m))))
+
+pub endsIn-of : (N : NodeSet) (E : List Edge) {e : Edge} → endsIn N E ≡ true → List·Memᴰ e E → (N (e .0) ≡ true) × (N (e .1) ≡ true)
+endsIn-of N (f ∷ E) h (List·Memᴰ·head p) = and-elim (N (f .0)) (N (f .1) && endsIn N E) h λ a b. and-elim (N (f .1)) (endsIn N E) b λ c r.
+    (ap (λ (e : Edge). N (e .0)) p ∙ a, ap (λ (e : Edge). N (e .1)) p ∙ c)
+endsIn-of N (f ∷ E) h (List·Memᴰ·tail m) = and-elim (N (f .0)) (N (f .1) && endsIn N E) h λ a b. and-elim (N (f .1)) (endsIn N E) b λ c r. endsIn-of N E r m
 
 pub endsIn-append : (N : NodeSet) (E F : List Edge) → endsIn N E ≡ true → endsIn N F ≡ true → endsIn N (E ++ F) ≡ true
 endsIn-append N [] F p q = q

@@ -14,7 +14,7 @@ use native.Mathlib.Omega.{arith}
 use borrow.Author.Tests.{eq-eqb, eqb-false, eqb-true, le-ltb, leb-false, leb-true, lt-ltb, ltb-false, ltb-true, ne-eqb, not-false, not-true}
 use Rattle.call_sizes.proofs.RefusalLaws.{seek-before, seek-found}
 use Rattle.call_sizes.specs.Refusal.{seek}
-use Rattle.theory_graph.proofs.Booleans.{contradict, onBool}
+use Rattle.theory_graph.proofs.Booleans.{and-elim, contradict, onBool}
 use Rattle.theory_graph.proofs.Lists.{any-in, range-mem}
 use Rattle.theory_graph.specs.Cut.{crosses}
 use Rattle.theory_graph.specs.Graph.{Edge, NodeSet}
@@ -28,7 +28,7 @@ use Rattle.theory_timeline.proofs.Networks.{after-append}
 use Rattle.theory_timeline.proofs.RoadLaws.{ends-cross, road-most, road-same}
 use Rattle.theory_timeline.specs.Events.{Event, SegmentSet, after, afterAll, asks, closes, namedRoads, openRoads, opens, pick}
 use Rattle.theory_timeline.specs.Steps.{Part, added}
-use Rattle.theory_timeline.specs.Tags.{adds, addsEvent, bit, endsAt, entryAt, eventWords, isOpenAfter, key, last, namesKey, next, pickEvents, seekLast, tag, wasOpen, word}
+use Rattle.theory_timeline.specs.Tags.{adds, addsEvent, bit, endsAt, entryAt, eventWords, isOpenAfter, key, keyOf, last, namesKey, next, pickEvents, seekLast, tag, wasOpen, word}
 use Rattle.theory_timeline.specs.Windows.{Timeline, Window, during, event, openBefore, roadsBefore, size}
 
 -- ---- seeking
@@ -73,7 +73,7 @@ odd n k false e = ne-eqb (n % 2) 1 (λ x. omega arith)
 
 pub record Says (t k : ℕ) (a b : Bool) : Type 0 where
   pub change : ltb 0 t ≡ true
-  pub named : (t - 1) / 4 ≡ k
+  pub named : keyOf t ≡ k
   pub was : wasOpen t ≡ a
   pub is : isOpenAfter t ≡ b
 
@@ -98,6 +98,13 @@ module _ (g : Timeline) (i : ℕ) where
   pub word-change : asks (event g i) ≡ false → (word g 0 i ≡ tag g i) × (word g 1 i ≡ next g i) × (word g 2 i ≡ last g i)
   unfolding word
   word-change h = (ap (λ (b : Bool). cond b 0 (tag g i)) h, ap (λ (b : Bool). cond b 0 (next g i)) h, ap (λ (b : Bool). cond b 0 (last g i)) h)
+
+  -- an event that adds its key is no query, and its tag has the key
+  pub adds-key : (w c : Window) → addsEvent g w c i ≡ true → keyOf (word g 0 i) ≡ key g i
+  unfolding adds
+  adds-key w c h = onBool (asks (event g i))
+      (λ q. and-elim (ltb 0 (word g 0 i)) _ h (λ t _. contradict t (ap (ltb 0) (word-query 0 q))))
+      (λ q. ap keyOf (word-change q .0) ∙ tag-says .named)
 
   -- no event between i and its next names its key, and the next does; likewise before it
   next-low : i + 1 ≤ next g i
@@ -469,8 +476,8 @@ module _ (g : Timeline) (w c : Window) (h : Part w c) (fit : w .0 + w .1 ≤ siz
           rw (nw, nc, nb) (passes (O r) (namesIn g (w .0) x r) (namesIn g (c .0) (c .1) r) (namesIn g (c .0 + c .1) y r))
 
 -- ---- the words of some events, as a list
--- events numbered from another start
-pub pick-shift : (f f′ : ℕ → Bool) (E E′ : ℕ → Entry) (at i n : ℕ) → ((j : ℕ) → i ≤ j → j < i + n → (f j ≡ f′ (at + j)) × (E j ≡ E′ (at + j)))
+-- events numbered from another start: the same pass, and have the same entries where they do
+pub pick-shift : (f f′ : ℕ → Bool) (E E′ : ℕ → Entry) (at i n : ℕ) → ((j : ℕ) → i ≤ j → j < i + n → (f j ≡ f′ (at + j)) × (f j ≡ true → E j ≡ E′ (at + j)))
     → pickEvents f E i n ≡ pickEvents f′ E′ (at + i) n
 pick-shift f f′ E E′ at i zero h = refl
 pick-shift f f′ E E′ at i (suc n) h =
@@ -478,12 +485,16 @@ pick-shift f f′ E E′ at i (suc n) h =
     let z : at + suc i ≡ suc (at + i) = omega arith in
     let r : pickEvents f E (suc i) n ≡ pickEvents f′ E′ (suc (at + i)) n = pick-shift f f′ E E′ at (suc i) n (λ j p q. h j (omega arith) (omega arith))
     ∙ ap (λ (k : ℕ). pickEvents f′ E′ k n) z in
-    ap₂ (λ (t : Bool) (l : Named). cond t (E i ∷ l) l) a r ∙ ap (λ (e : Entry). cond (f′ (at + i)) (e ∷ pickEvents f′ E′ (suc (at + i)) n) (pickEvents f′ E′ (suc (at + i)) n)) b
+    onBool (f i)
+    (λ t. ap (λ (c : Bool). cond c (E i ∷ pickEvents f E (suc i) n) (pickEvents f E (suc i) n)) t ∙ ap₂ (λ (e : Entry) (l : Named). e ∷ l) (b t) r
+    ∙ sym (ap (λ (c : Bool). cond c (E′ (at + i) ∷ pickEvents f′ E′ (suc (at + i)) n) (pickEvents f′ E′ (suc (at + i)) n)) (sym a ∙ t)))
+    (λ t. ap (λ (c : Bool). cond c (E i ∷ pickEvents f E (suc i) n) (pickEvents f E (suc i) n)) t ∙ r
+    ∙ sym (ap (λ (c : Bool). cond c (E′ (at + i) ∷ pickEvents f′ E′ (suc (at + i)) n) (pickEvents f′ E′ (suc (at + i)) n)) (sym a ∙ t)))
 
 pub pick-ext-events : (f f′ : ℕ → Bool) (E E′ : ℕ → Entry) (i n : ℕ) → ((j : ℕ) → i ≤ j → j < i + n → (f j ≡ f′ j) × (E j ≡ E′ j)) → pickEvents f E i n ≡ pickEvents f′ E′ i n
 pick-ext-events f f′ E E′ i n h =
     let z : (j : ℕ) → j ≡ 0 + j = λ j. omega arith in
-    pick-shift f f′ E E′ 0 i n (λ j a b. let (p, q) = h j a b in (p ∙ ap f′ (z j), q ∙ ap E′ (z j))) ∙ ap (λ (k : ℕ). pickEvents f′ E′ k n) (sym (z i))
+    pick-shift f f′ E E′ 0 i n (λ j a b. let (p, q) = h j a b in (p ∙ ap f′ (z j), λ _. q ∙ ap E′ (z j))) ∙ ap (λ (k : ℕ). pickEvents f′ E′ k n) (sym (z i))
 
 -- the edges moved to the nodes of a graph
 pub pick-image : (f : ℕ → Bool) (E : ℕ → Entry) (σ : ℕ → ℕ) (i n : ℕ) → pickEvents f (λ j. ((σ (E j .0 .0), σ (E j .0 .1)), E j .1)) i n ≡ imageNamed σ (pickEvents f E i n)

@@ -24,7 +24,7 @@ add-events-requires c κs =
     let start = at-enter-places .before .before .before .before .before .before in
     events-need (start .pre .0) (start .pre .1) _ _ _ (at-copy-edges .copy-edges .last .0) (omega arith) (omega arith) (omega arith)
     (at-copy-edges .copy-edges .ensures .edged .front ∙ at-enter-places .enter-places .ensures .front) (omega arith)
-    (at-copy-edges .copy-edges .ensures .edged .ends)
+    (record { ends = at-copy-edges .copy-edges .ensures .edged .ends; names = at-copy-edges .copy-edges .ensures .edged .names })
 
 add-add-events : tie.Need-add-add-events
 add-add-events c =

@@ -1,7 +1,7 @@
--- The contraction, then the four runs of words.
+-- The contraction, then the five runs of words.
 use native.Mathlib.Omega.{arith}
 use borrow.Author.Needs.{needs}
-use Rattle.replay_step.proofs.AreaLaws.{area-made, fields-need, loaded, map-need}
+use Rattle.replay_step.proofs.AreaLaws.{area-made, fields-need, loaded, map-need, names-need}
 use Rattle.replay_step.proofs.area.make_area.Statement.{statement}
 use Rattle.replay_step.proofs.area.make_area.Tie as tie
 
@@ -33,21 +33,36 @@ put-field-requires-2 c κs =
     let (_, a, b) = fields-need (start .pre) (at-reduce .reduce .ensures) (omega arith) (at-field .put-field .last .0) (omega arith) in
     (a, omega arith, b)
 
+put-field-requires-3 : tie.Need-put-field-requires-3
+put-field-requires-3 c κs =
+    let at-field2 = c .before .before .before in
+    let at-field = at-field2 .before .before .before .before in
+    let at-copy = at-field .before .before .before .before in
+    let at-map = at-copy .before .before .before .before in
+    let at-reduce = at-map .before .before .before .before in
+    let start = at-reduce .before .before .before in
+    let (a, b) = names-need (start .pre) (at-reduce .reduce .ensures) (omega arith) (at-map .put-map .ensures) (at-copy .copy-words .ensures)
+    (at-field .put-field .ensures) (at-field2 .put-field2 .ensures) in
+    (a, omega arith, b)
+
 returns : tie.Need-returns
 returns c =
-    let at-field2 = c .before .before in
+    let at-field3 = c .before .before in
+    let at-field2 = at-field3 .before .before .before .before in
     let at-field = at-field2 .before .before .before .before in
     let at-copy = at-field .before .before .before .before in
     let at-map = at-copy .before .before .before .before in
     let at-reduce = at-map .before .before .before .before in
     let start = at-reduce .before .before .before in
     area-made (start .pre) (at-reduce .reduce .ensures) (omega arith) (at-map .put-map .ensures) (at-copy .copy-words .ensures)
-    (at-field .put-field .ensures) (at-field2 .put-field2 .ensures)
+    (at-field .put-field .ensures) (at-field2 .put-field2 .ensures) (at-field3 .put-field3 .ensures)
 
 pub make-area-spec : {M : Type 1} → statement M
 make-area-spec =
     tie.close
     (tie.spec
+    (λ c. search needs)
+    (λ c. search needs)
     (λ c. search needs)
     (λ c. search needs)
     (λ c. search needs)
@@ -67,5 +82,6 @@ make-area-spec =
     (λ c. search needs)
     (λ c. search needs)
     put-field-requires-2
+    put-field-requires-3
     (λ c. search needs)
     returns)

@@ -50,21 +50,39 @@ cast-b c =
     let start = at-loop .before .before in
     omega (arith, copying-ends (start .pre) (at-loop .loop .inv) (omega arith) .1)
 
+mul-c : tie.Need-mul-c Inv-loop μ-loop
+mul-c c = omega arith
+
+add-c : tie.Need-add-c Inv-loop μ-loop
+add-c c = omega arith
+
+mul-c-2 : tie.Need-mul-c-2 Inv-loop μ-loop
+mul-c-2 c = omega arith
+
+slice-read-c : tie.Need-slice-read-c Inv-loop μ-loop
+slice-read-c c = omega (arith, c .before .before .before .before .loop .inv .long)
+
+cast-c : tie.Need-cast-c Inv-loop μ-loop
+cast-c c =
+    let at-loop = c .before .before .before .before in
+    let start = at-loop .before .before in
+    omega (arith, copying-ends (start .pre) (at-loop .loop .inv) (omega arith) .2)
+
 mul-put-edge : tie.Need-mul-put-edge Inv-loop μ-loop
 mul-put-edge c = omega arith
 
 sub-put-edge : tie.Need-sub-put-edge Inv-loop μ-loop
-sub-put-edge c = omega (arith, c .before .before .before .loop .inv .long)
+sub-put-edge c = omega (arith, c .before .before .before .before .loop .inv .long)
 
 part-put-edge-start : tie.Need-part-put-edge-start Inv-loop μ-loop
-part-put-edge-start c = omega (arith, c .before .before .before .loop .inv .long)
+part-put-edge-start c = omega (arith, c .before .before .before .before .loop .inv .long)
 
 part-put-edge-end : tie.Need-part-put-edge-end Inv-loop μ-loop
 part-put-edge-end c = omega arith
 
 put-edge-requires : tie.Need-put-edge-requires Inv-loop μ-loop
 put-edge-requires c κs =
-    let at-loop = c .before .before .before .before in
+    let at-loop = c .before .before .before .before .before in
     let start = at-loop .before .before in
     copying-need (start .pre) (at-loop .loop .inv) (omega arith)
 
@@ -77,7 +95,7 @@ loop-less c = omega arith
 loop-again : tie.Need-loop-again Inv-loop μ-loop
 loop-again c =
     let at-put-edge = c .before .before in
-    let at-loop = at-put-edge .before .before .before .before .before in
+    let at-loop = at-put-edge .before .before .before .before .before .before in
     let start = at-loop .before .before in
     copying-more (start .pre) (at-loop .loop .inv) (omega arith) (at-put-edge .put-edge .last .0) (at-put-edge .put-edge .ensures)
 
@@ -85,7 +103,7 @@ same-length : tie.Need-same-length Inv-loop μ-loop
 same-length c = c .before .loop .inv .long
 
 returns : tie.Need-returns Inv-loop μ-loop
-returns c = copied (c .before .loop .inv) (omega (arith, c .before .loop .inv .low))
+returns c = copied (c .before .before .before .pre) (c .before .loop .inv) (omega (arith, c .before .loop .inv .low))
 
 pub copy-edges-spec : {M : Type 1} → statement M
 copy-edges-spec =
@@ -104,6 +122,11 @@ copy-edges-spec =
     mul-b-2
     slice-read-b
     cast-b
+    mul-c
+    add-c
+    mul-c-2
+    slice-read-c
+    cast-c
     mul-put-edge
     sub-put-edge
     part-put-edge-start
