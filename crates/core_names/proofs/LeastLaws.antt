@@ -40,6 +40,13 @@ module _ {n seen i v : ℕ} {ord nm pos par te top nr least : ℕ → ℕ} (g : 
       stays c l p b h = update-other least v y (top (par c)) (λ e. let x : pos (top (par c)) ≡ pos v = ap pos e in omega (arith, g .up c l p h))
 
 -- ---- at the words
+module _ {w : List ℕ} {q c x : ℕ} (ex : x ≡ node NUMBER w q) where
+  pub past-numbered : ¬ (x ≡ 0) → NamedPast w q c c
+  past-numbered ne = record { numbered = λ _. refl; up = λ z. absurd (ne (ex ∙ z)) }
+
+  pub past-up : {l r : ℕ} → x ≡ 0 → l ≡ node LEAST w q → r ≡ min c l → NamedPast w q c r
+  past-up z el er = record { numbered = λ ne. absurd (ne (sym ex ∙ z)); up = λ _. er ∙ ap (min c) el }
+
 -- a name on the way is at most that of the first edge, so it is a word
 pub past-most : {w : List ℕ} {q c r : ℕ} → NamedPast w q c r → r ≤ c
 past-most {w} {q} k = onEq (node NUMBER w q) 0 (λ z. omega (arith, k .up z)) (λ ne. omega (arith, k .numbered ne))

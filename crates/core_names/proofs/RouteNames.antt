@@ -119,6 +119,10 @@ module _ {n m h last : ℕ} {to nm pos par te root top nr rep near least : ℕ �
       let tw = T .top-two (par v) (T .par-seen v (k .on) (k .no-root)) in
       A .numbered v l p (low v l p .0) t ne nz ∙ sym (name-parent G E cuts S T v (k .on) t (k .no-root) c m q tw) ∙ ap (hangs G v) (sym e))
 
+  -- a top that is no root hangs on its LEAST together with the nearest kept class above
+  pub top-hangs : (v : ℕ) → v < n → 0 < pos v → top v ≡ v → ¬ (te v ≡ 0) → least v ≡ hangs G v (top (rep (near (top (par v)) - 1)))
+  top-hangs v = least-is (suc (pos v)) v (omega arith)
+
   -- a number and its parent number
   module _ {up : ℕ → ℕ} (U : ParentNumbers h par te top near rep up) (on : (x : ℕ) → x < h → 0 < pos (rep x)) where
     top-class : (x : ℕ) → x < h → TwoEdgeConnected (plain G) (rep x) (top (rep x))
@@ -131,7 +135,7 @@ module _ {n m h last : ℕ} {to nm pos par te root top nr rep near least : ℕ �
         let v = top (rep x) in
         let ne : ¬ (te v ≡ 0) = λ z. omega (arith, U .none x a z) in
         let o : near (top (par v)) - 1 ≡ y = omega (arith, U .some x a ne) in
-        least-is (suc (pos v)) v (omega arith) (g .tops .fit (rep x) l) (g .seen (rep x) l (on x a)) (g .flat (rep x) l) ne
+        top-hangs v (g .tops .fit (rep x) l) (g .seen (rep x) l (on x a)) (g .flat (rep x) l) ne
         ∙ ap (λ i. hangs G v (top (rep i))) o ∙ sym (hangs-same G (rep x) (rep y) v (top (rep y)) (top-class x a) (top-class y b))
 
     -- the child of the two has the name
