@@ -15,7 +15,7 @@ use Rattle.theory_graph.proofs.Links.{linked-from, linked-to}
 use Rattle.theory_graph.proofs.Renumbering.{linked-flip}
 use Rattle.theory_graph.proofs.Separation.{insep-sym, insep-trans, same-side, twoEdge-connected}
 use Rattle.theory_graph.proofs.SmallGraphs.{Linked, OnePerClass}
-use Rattle.theory_graph.proofs.SpanningForest.{ChildClass, ClassForest, KeptTop, NearestAbove, NoThird, above-linked, below-antisym}
+use Rattle.theory_graph.proofs.SpanningForest.{ChildClass, ClassForest, KeptTop, NearestAbove, NoThird, above-linked, above-position, below-antisym}
 use Rattle.theory_graph.proofs.SpanningForest.{below-class, below-position, branches-kept, kept-branches, linked-nearest, onEq, top-unique}
 use Rattle.theory_graph.specs.Cut.{Between, Connected, TwoEdgeConnected, cut}
 use Rattle.theory_graph.specs.Graph.{Edge}
@@ -35,12 +35,6 @@ module _ (E : List Edge) (S : List ℕ) (T : ClassForest E S) where
     pub two : (t : ℕ) → seen t ≡ true → ¬ (other t ≡ 0) → ChildClass E S T t (other t - 1) × ¬ (live (other t - 1) ≡ 0) × ¬ (other t ≡ child t) × ¬ (child t ≡ 0)
     pub all : (t c : ℕ) → seen t ≡ true → ChildClass E S T t c → ¬ (live c ≡ 0) → ¬ (live t ≡ 0) × ((c + 1 ≡ child t) ⊎ ¬ (other t ≡ 0))
 
-  -- the class above comes before
-  above-position : (x : ℕ) → seen x ≡ true → root x ≡ false → pos (top (par x)) < pos x
-  above-position x s r =
-      let sp = T .par-seen x s r in
-      onEq (top (par x)) (par x) (λ i. omega (arith, ap pos i, T .par-pos x s r)) (λ i. omega (arith, T .top-pos (par x) sp i, T .par-pos x s r))
-
   -- what has c below it, and is not c, has the class above c below it
   below-up : (z c : ℕ) → seen z ≡ true → top z ≡ z → seen c ≡ true → root c ≡ false → ¬ (c ≡ z) → below z c ≡ below z (top (par c))
   below-up z c sz tz s r ne = T .below-parent z c s r ne ∙ below-class E S T z (par c) sz tz (T .par-seen c s r)
@@ -55,7 +49,7 @@ module _ (E : List Edge) (S : List ℕ) (T : ClassForest E S) where
         let y = top (par x) in
         let sy = T .top-seen (par x) sp in
         let k : ChildClass E S T y x = record { on = s; is-top = t; no-root = r; under = refl } in
-        live-up n c y (omega (arith, above-position x s r)) sy (T .top-top (par x) sp) (W .all y x sy k a .0) sc tc (sym (below-up c x sc tc s r ne) ∙ h)
+        live-up n c y (omega (arith, above-position E S T x s r)) sy (T .top-top (par x) sp) (W .all y x sy k a .0) sc tc (sym (below-up c x sc tc s r ne) ∙ h)
 
     pub live-active : (c a : ℕ) → seen c ≡ true → top c ≡ c → List·Memᴰ a S → below c a ≡ true → ¬ (live c ≡ 0)
     live-active c a sc tc m h =
@@ -92,7 +86,7 @@ module _ (E : List Edge) (S : List ℕ) (T : ClassForest E S) where
 
   module _ (c : ℕ) (s : seen c ≡ true) (t : top c ≡ c) (r : root c ≡ false) (e : ℕ) (k : Nearest (top (par c)) e) where
     before : pos e < pos c
-    before = omega (arith, nearest-position (top (par c)) e (T .top-seen (par c) (T .par-seen c s r)) k, above-position c s r)
+    before = omega (arith, nearest-position (top (par c)) e (T .top-seen (par c) (T .par-seen c s r)) k, above-position E S T c s r)
 
     apart : ¬ (c ≡ e)
     apart i = omega (arith, ap pos i, before)

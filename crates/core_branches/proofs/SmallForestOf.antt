@@ -43,6 +43,14 @@ table-order σ act f s (suc c) j b nz pr low =
     lows : (b′ : ℕ) → b ≤ b′ → f j ≤ b′ → (i : ℕ) → i < suc j → f i ≤ b′
     lows b′ p q i l = onBool (eqb i j) (λ e. omega (arith, ap f (eqb-true i j e))) (λ e. let ne : ¬ (i ≡ j) = eqb-false i j e in omega (arith, low i (omega arith)))
 
+-- a root is an active node
+pub root-place : {n m k : ℕ} {to pos par te root mark act : ℕ → ℕ} → Forest n m to pos par te root → ((v : ℕ) → v < n → 0 < mark v → (j : ℕ) × (j < k) × (act j ≡ v))
+    → ((u : ℕ) → u < n → 0 < pos u → 0 < mark (root u)) → (r : ℕ) → r < n → 0 < pos r → te r ≡ 0 → (j : ℕ) × (j < k) × (act j ≡ r)
+root-place {mark = mark} f marks marked r l p z = marks r l (⊎-elim
+    (λ q. subst (λ (v : ℕ). 0 < mark v) (q .top) (marked r l p))
+    (λ q. absurd (omega (arith, q .is)))
+    (f .kind r l p))
+
 module _ {n m k seen h₀ h : ℕ} {to pos par te root top mark act nr₀ rep₀ live₀ live child other nr rep near up : ℕ → ℕ}
     (f : Forest n m to pos par te root) (g : FinalTops n m to pos par te top)
     (marks : (v : ℕ) → v < n → 0 < mark v → (j : ℕ) × (j < k) × (act j ≡ v))
@@ -71,10 +79,7 @@ module _ {n m k seen h₀ h : ℕ} {to pos par te root top mark act nr₀ rep₀
   marked-in v l p = let (j, b, e) = marks v l p in subst (λ (v : ℕ). List·Memᴰ v S) e (in-act j b)
 
   rooted : (r : ℕ) → r < n → 0 < pos r → te r ≡ 0 → List·Memᴰ r S
-  rooted r l p z = ⊎-elim
-      (λ q. marked-in r l (subst (λ (v : ℕ). 0 < mark v) (q .top) (marked r l p)))
-      (λ q. absurd (omega (arith, q .is)))
-      (f .kind r l p)
+  rooted r l p z = let (j, b, e) = root-place f marks marked r l p z in subst (λ (v : ℕ). List·Memᴰ v S) e (in-act j b)
 
   abbrev T : ClassForest E S
   T = classForest f g S active rooted

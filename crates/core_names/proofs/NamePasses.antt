@@ -4,9 +4,10 @@
 use Prim.Native.Nat.{_*_, _+_, _<_, _≤_, ℕ}
 use mathlib.Core.List.{List, List·Memᴰ}
 use mathlib.Core.Logic.{⊎-elim}
-use mathlib.Core.Path.{_∙_, _≡_, ap, refl, subst, sym}
+use mathlib.Core.Path.{_≡_, refl, subst}
 use native.Mathlib.Omega.{arith}
 use Rattle.core_branches.proofs.ClassLaws.{tree-order-at}
+use Rattle.core_branches.proofs.SmallForestOf.{root-place}
 use Rattle.core_branches.specs.Classes.{CanNumberClasses, ClassNumbers}
 use Rattle.core_branches.specs.SmallForest.{ParentPair}
 use Rattle.core_forest.specs.Forest.{edgesBelow}
@@ -18,7 +19,7 @@ use Rattle.theory_graph.specs.Cut.{cut}
 use Rattle.theory_graph.specs.Graph.{NodeSet}
 use Rattle.theory_graph.specs.Lists.{table}
 use Rattle.theory_names.specs.Names.{Named, hangs, plain}
-use Rattle.core_words.specs.Fields.{ABOVE, ACTIVE, EDGE, LEAST, MARK, MEMBER, NAME, NUMBER, PARENT, POSITION, TO, TOP, half, node}
+use Rattle.core_words.specs.Fields.{ABOVE, ACTIVE, EDGE, LEAST, MEMBER, NAME, NUMBER, PARENT, POSITION, TO, TOP, half, node}
 
 module _ {n m k seen h : ℕ} {a b : List ℕ} (s : CanNumberClasses n m k seen a) (d : ClassNumbers n m k a h b) where
   -- a tree edge is one of the m edges
@@ -43,20 +44,17 @@ module _ {n m k seen h : ℕ} {a b : List ℕ} (s : CanNumberClasses n m k seen 
       rw e (s .search .active j (omega arith) .0, s .search .have j (omega arith))
 
   -- a root is active, so its class has a number
-  root-place : (r : ℕ) → r < n → 0 < node POSITION a r → node EDGE a r ≡ 0 → (j : ℕ) × (j < k) × (node ACTIVE a j ≡ r)
-  root-place r l p z = s .marks r l (⊎-elim
-      (λ q. subst (λ (v : ℕ). 0 < node MARK a v) (q .top) (s .search .search .marked r l p))
-      (λ q. absurd (omega (arith, q .is)))
-      (s .forest .kind r l p))
+  place : (r : ℕ) → r < n → 0 < node POSITION a r → node EDGE a r ≡ 0 → (j : ℕ) × (j < k) × (node ACTIVE a j ≡ r)
+  place = root-place (s .forest) (s .marks) (s .search .search .marked)
 
   rooted : (r : ℕ) → r < n → 0 < node POSITION a r → node EDGE a r ≡ 0 → List·Memᴰ r S
   rooted r l p z =
-      let (j, i, e) = root-place r l p z in
+      let (j, i, e) = place r l p z in
       subst (λ (v : ℕ). List·Memᴰ v S) e (table-in (node ACTIVE a) 0 k j (omega arith) (omega arith))
 
   root-number : (r : ℕ) → r < n → 0 < node POSITION a r → node EDGE a r ≡ 0 → ¬ (node NUMBER b (node TOP a r) ≡ 0)
   root-number r l p z =
-      let (j, i, e) = root-place r l p z in
+      let (j, i, e) = place r l p z in
       rw (d .rest .nodes TOP (omega arith) refl, e) at (d .placed j i .some)
 
   low : (u : ℕ) → u < n → 0 < node POSITION a u → (node POSITION a u ≤ seen) × (node POSITION a u ≤ n)

@@ -1,7 +1,7 @@
 -- Laws of naming the edges out: one edge, and one more.
 -- Assumes nothing.
-use Prim.Native.Nat.{_*_, _+_, _<_, _≤_, ℕ}
-use mathlib.Core.List.{List, [], _∷_}
+use Prim.Native.Nat.{_+_, _<_, ℕ}
+use mathlib.Core.List.{List}
 use mathlib.Core.Logic.{⊎-elim}
 use mathlib.Core.Path.{_∙_, _≡_, ap, refl, subst, sym}
 use native.Mathlib.Omega.{arith}

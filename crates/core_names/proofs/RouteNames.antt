@@ -5,7 +5,7 @@ use Prim.Native.Nat.{_*_, _+_, _-_, _<_, _≤_, min, suc, zero, ℕ}
 use mathlib.Core.Bool.{false, true}
 use mathlib.Core.List.{List, List·Memᴰ}
 use mathlib.Core.Logic.{_⊎_, inl, inr}
-use mathlib.Core.Path.{_∙_, _≡_, ap, subst, sym}
+use mathlib.Core.Path.{_∙_, _≡_, ap, sym}
 use native.Mathlib.Omega.{arith}
 use Rattle.core_branches.proofs.ForestOfClasses.{atOrBelow, classForest, has-parent, isRoot, isSeen, root-no, seen-in, seen-is}
 use Rattle.core_branches.specs.Numbers.{NearestNumbers, Numbers, ParentNumbers}
@@ -14,10 +14,10 @@ use Rattle.core_forest.specs.Forest.{Forest, Joins, edgesBelow}
 use Rattle.core_branches.specs.SmallForest.{ParentPair}
 use Rattle.core_names.specs.EdgeNames.{ChildEnd}
 use Rattle.core_names.specs.LeastNames.{LeastNames}
-use Rattle.theory_graph.proofs.SpanningForest.{ClassForest, below-class, onEq}
+use Rattle.theory_graph.proofs.SpanningForest.{ClassForest, above-position, below-class, onEq}
 use Rattle.theory_graph.specs.Cut.{TwoEdgeConnected, cut}
 use Rattle.theory_graph.specs.Graph.{Edge, NodeSet}
-use Rattle.theory_names.proofs.ForestNames.{above-earlier, name-over, name-parent, unparted}
+use Rattle.theory_names.proofs.ForestNames.{name-over, name-parent, unparted}
 use Rattle.theory_names.proofs.Hangs.{hangs-same, hangs-sym}
 use Rattle.theory_names.specs.Names.{Named, hangs, plain}
 
@@ -75,7 +75,7 @@ module _ {n m h last : ℕ} {to nm pos par te root top nr rep near least : ℕ �
       let s = seen-is n pos v l p in
       let r = root-no n pos te v ne in
       let (lp, pp) = seen-in n pos (par v) (T .par-seen v s r) in
-      record { on = s; no-root = r; fit = g .tops .fit (par v) lp; seen = g .seen (par v) lp pp; flat = g .flat (par v) lp; earlier = above-earlier G E cuts S T v s r }
+      record { on = s; no-root = r; fit = g .tops .fit (par v) lp; seen = g .seen (par v) lp pp; flat = g .flat (par v) lp; earlier = above-position E S T v s r }
 
   -- a class without a number is no root's
   no-root-of : (y : ℕ) → y < n → 0 < pos y → top y ≡ y → nr y ≡ 0 → ¬ (te y ≡ 0)

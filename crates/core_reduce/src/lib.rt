@@ -19,8 +19,8 @@
 // | LEAST | a top, no root | the smallest name from its class to the nearest kept class above | |
 // | NAMED | i | the name of the i-th edge (out) | |
 //
-// HEAD, POSITION, LIVE, BRANCH, OTHER and NUMBER start at 0. TO of a half-edge is its far end, NEXT the next at the same node, NAME at the first half-edge of an edge
-// the edge's name. LEAST is found before the edges are listed, as the list takes the words of POSITION and PARENT.
+// HEAD, POSITION, LIVE, BRANCH, OTHER and NUMBER start at 0. TO of a half-edge is its far end, NEXT the next at the same node; NAME of the first half-edge of
+// an edge is the edge's name. LEAST is found before the edges are listed, since their list takes the words of POSITION and PARENT.
 mod edge_list;
 
 use core_words::*;

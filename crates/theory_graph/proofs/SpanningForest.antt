@@ -80,6 +80,12 @@ module _ (E : List Edge) (S : List ℕ) (T : ClassForest E S) where
       go (inl e) = omega (arith, T .par-pos v s r, ap pos e)
       go (inr q) = omega (arith, T .par-pos v s r)
 
+  -- the class above comes before
+  pub above-position : (v : ℕ) → seen v ≡ true → root v ≡ false → pos (top (par v)) < pos v
+  above-position v s r =
+      let sp = T .par-seen v s r in
+      onEq (top (par v)) (par v) (λ i. omega (arith, ap pos i, T .par-pos v s r)) (λ i. omega (arith, T .top-pos (par v) sp i, T .par-pos v s r))
+
   -- a class lies below a top or not
   pub below-class : (t x : ℕ) → seen t ≡ true → top t ≡ t → seen x ≡ true → below t x ≡ below t (top x)
   below-class t x st tt′ sx = same-side E x (top x) (T .top-two x sx) (below t) (T .top-cut t st tt′)
@@ -332,7 +338,7 @@ module _ (E : List Edge) (S : List ℕ) (T : ClassForest E S) where
       let sy = T .top-seen (par x) sp in
       let ty = T .top-top (par x) sp in
       let k : ChildClass y x = record { on = s; is-top = t; no-root = r; under = refl } in
-      let ly : pos y < pos x = onEq y (par x) (λ i. omega (arith, ap pos i, T .par-pos x s r)) (λ i. omega (arith, T .top-pos (par x) sp i, T .par-pos x s r)) in
+      let ly : pos y < pos x = above-position x s r in
       let yx : below y x ≡ true = T .below-parent y x s r (λ i. omega (arith, ap pos i)) ∙ below-class y (par x) sy ty sp ∙ T .below-self y in
       let yc : below y c ≡ true = below-trans (suc (pos c)) y x c (omega arith) (mc .on) yx p in
       onBool (below y e)

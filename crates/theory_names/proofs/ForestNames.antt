@@ -10,7 +10,7 @@ use mathlib.Core.Path.{_∙_, _≡_, ap, sym}
 use native.Mathlib.Omega.{arith}
 use Rattle.theory_graph.proofs.Booleans.{onBool}
 use Rattle.theory_graph.proofs.Separation.{insep-refl, insep-trans, twoEdge-connected}
-use Rattle.theory_graph.proofs.SpanningForest.{ClassForest, below-class, below-connected, below-position, onEq, parent-outside}
+use Rattle.theory_graph.proofs.SpanningForest.{ClassForest, above-position, below-class, below-connected, below-position, parent-outside}
 use Rattle.theory_graph.specs.Cut.{Connected, Inseparable, Separated, TwoEdgeConnected, cut}
 use Rattle.theory_graph.specs.Graph.{Edge, NodeSet}
 use Rattle.theory_names.proofs.Along.{hangs-over, hangs-step}
@@ -31,12 +31,6 @@ module _ (G : Named) (E : List Edge) (cuts : (U : NodeSet) → cut U (plain G) �
   earlier-outside v x s l = onBool (below v x)
       (λ h. absurd (⊎-elim (λ (e : x ≡ v). omega (arith, ap pos e)) (λ (q : pos v < pos x). omega arith) (below-position E S T (suc (pos x)) v x (omega arith) s h)))
       (λ f. f)
-
-  -- the class above comes before
-  pub above-earlier : (v : ℕ) → seen v ≡ true → root v ≡ false → pos (top (par v)) < pos v
-  above-earlier v s r =
-      let sp = T .par-seen v s r in
-      onEq (top (par v)) (par v) (λ i. omega (arith, ap pos i, T .par-pos v s r)) (λ i. omega (arith, T .top-pos (par v) sp i, T .par-pos v s r))
 
   -- the tree edge of v is an entry with the name n
   module _ (v : ℕ) (s : seen v ≡ true) (t : top v ≡ v) (r : root v ≡ false) (n : ℕ) (m : List·Memᴰ ((v, par v), n) G ⊎ List·Memᴰ ((par v, v), n) G) where
@@ -69,5 +63,5 @@ module _ (G : Named) (E : List Edge) (cuts : (U : NodeSet) → cut U (plain G) �
         let inside : below q (par v) ≡ true = below-class E S T q (par v) sq tq sp ∙ T .below-self q in
         name-further e
         (insep-trans E (twoEdge-connected E (T .top-two (par v) sp)) (below-connected E S T (suc (pos q)) e q (omega arith) sq h))
-        (earlier-outside v e se (omega (arith, above-earlier v s r)))
+        (earlier-outside v e se (omega (arith, above-position E S T v s r)))
         (below q, inside, earlier-outside q e se l, T .top-cut q sq tq)
