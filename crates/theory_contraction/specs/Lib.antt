@@ -1,2 +1,3 @@
 pub mod Contraction
 pub mod Pieces
+pub mod EdgeNames
