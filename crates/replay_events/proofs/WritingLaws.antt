@@ -27,7 +27,7 @@ use Rattle.theory_timeline.proofs.TagLaws.{names-none, tag-says, word-change, w
 use Rattle.theory_timeline.specs.Events.{Event, activeOf, asks, closes, ends, kindOf, opens}
 use Rattle.theory_timeline.specs.Roads.{road}
 use Rattle.theory_timeline.specs.Steps.{Sound}
-use Rattle.theory_timeline.specs.Tags.{eventWords, key, last, namesKey, next, seekLast, tag, word}
+use Rattle.theory_timeline.specs.Tags.{eventWords, key, keyOf, last, namesKey, next, seekLast, tag, word}
 use Rattle.theory_timeline.specs.Windows.{Timeline, active, during, event, openBefore, roadsBefore, size}
 use Rattle.replay_step.proofs.WordLaws.{map-self, mid-sets}
 use Rattle.replay_step.specs.Area.{EventsIn}

@@ -12,7 +12,6 @@ use borrow.Author.Tests.{eqb-false, eqb-true, le-ltb, lt-ltb}
 use borrow.Rule.Slice.PartMut.{putMid}
 use Rattle.core_loading.specs.Loading.{PutEdge}
 use Rattle.replay_events.specs.Writing.{namesTag}
-use Rattle.theory_timeline.specs.Tags.{keyOf}
 use Rattle.replay_start.specs.Start.{ClearReady, Cleared, LoadReady, fixed, namedBy, segment, tagsFrom}
 use Rattle.replay_step.proofs.EdgeLaws.{added-more, added-none, added-put, added-skip}
 use Rattle.replay_step.proofs.WordLaws.{front-get}
@@ -20,9 +19,10 @@ use Rattle.replay_step.specs.Load.{AddedBy}
 use Rattle.theory_graph.proofs.Booleans.{onBool}
 use Rattle.theory_graph.specs.Graph.{Edge}
 use Rattle.theory_graph.specs.Lists.{any, range}
+use Rattle.theory_names.specs.Names.{Entry, Named}
 use Rattle.theory_timeline.proofs.TagLaws.{any-add}
 use Rattle.theory_timeline.specs.Events.{pick}
-use Rattle.theory_timeline.specs.Tags.{pickEvents}
+use Rattle.theory_timeline.specs.Tags.{keyOf, pickEvents}
 
 -- ---- one event's key
 module _ (from i : ℕ) (w : List ℕ) (s : ℕ) where
@@ -113,28 +113,29 @@ clearing-all a x = rw x at a
 module _ {n s : ℕ} {a b : List ℕ} {counts j k : ℕ} {v : List ℕ} (q : LoadReady n s a b counts j (j + 1) k v) where
   -- it has no count, or one
   pub load-none : getD v (counts + j) 0 ≡ 0 → AddedBy s n (fixed counts v) (segment a b) j (j + 1) k v v k
-  load-none h = added-skip (q .ends) (le-ltb 0 (getD v (counts + j) 0) (omega arith))
+  load-none h = added-skip (record { ends = q .ends; names = q .names }) (le-ltb 0 (getD v (counts + j) 0) (omega arith))
 
-  pub load-need : (16 * n + 4 * k + 4 ≤ length (take (length v - s) (drop s v))) × (getD a j 0 < 65536) × (getD b j 0 < 65536) × (n ≤ 65536) × (k < 32768)
+  pub load-need : (16 * n + 6 * k + 6 ≤ length (take (length v - s) (drop s v))) × (getD a j 0 < 65536) × (getD b j 0 < 65536) × (j < 65536) × (n ≤ 65536) × (k < 32768)
   load-need =
       let (la, lb) = q .nodes j (omega (arith, q .inside)) in (
         rw (length-take, length-drop) (omega (arith, q .room)),
         omega (arith, q .many),
         omega (arith, q .many),
+        omega (arith, q .inside, q .much),
         q .many,
         omega (arith, q .few, q .inside, q .much),
       )
 
-  pub load-put : ¬ (getD v (counts + j) 0 ≡ 0) → (zs : List ℕ) → PutEdge n k (getD a j 0) (getD b j 0) (take (length v - s) (drop s v)) zs
+  pub load-put : ¬ (getD v (counts + j) 0 ≡ 0) → (zs : List ℕ) → PutEdge n k (getD a j 0) (getD b j 0) j (take (length v - s) (drop s v)) zs
       → AddedBy s n (fixed counts v) (segment a b) j (j + 1) k v (putMid s (length v - s) v zs) (k + 1)
   load-put h zs p =
       let (la, lb) = q .nodes j (omega (arith, q .inside)) in
-      added-put (q .ends) (lt-ltb 0 (getD v (counts + j) 0) (omega arith)) refl la lb (omega (arith, q .room)) p
+      added-put (record { ends = q .ends; names = q .names }) (lt-ltb 0 (getD v (counts + j) 0) (omega arith)) refl la lb (omega (arith, q .inside, q .much)) (omega (arith, q .room)) p
 
 -- ---- roads one after another
 module _ {n s : ℕ} {a b : List ℕ} {counts : ℕ} {v : List ℕ} (q : LoadReady n s a b counts 0 (length a) 0 v) where
   pub loading-none : AddedBy s n (fixed counts v) (segment a b) 0 0 0 v v 0
-  loading-none = added-none (q .ends)
+  loading-none = added-none (record { ends = q .ends; names = q .names })
 
   module _ {j k : ℕ} {z : List ℕ} (c : AddedBy s n (fixed counts v) (segment a b) 0 j 0 v z k) (l : j < length a) where
     pub loading-ready : LoadReady n s a b counts j (j + 1) k z
@@ -149,6 +150,7 @@ module _ {n s : ℕ} {a b : List ℕ} {counts : ℕ} {v : List ℕ} (q : LoadRea
       room = omega (arith, q .room, c .long, c .most);
       nodes = q .nodes;
       ends = c .edged .ends;
+      names = c .edged .names;
     }
 
     -- the counts stand before the words of the graph, and stay
@@ -163,7 +165,7 @@ module _ {n s : ℕ} {a b : List ℕ} {counts : ℕ} {v : List ℕ} (q : LoadRea
 
 -- ---- which they are
 -- of the numbers from i on, as many as there are edges, and of the list of these edges
-pub pick-numbers : (f h : ℕ → Bool) (E : ℕ → Edge) (i : ℕ) (es : List Edge) → ((k : ℕ) → k < length es → (f (i + k) ≡ h (i + k)) × (E (i + k) ≡ getD es k (0, 0)))
+pub pick-numbers : (f h : ℕ → Bool) (E : ℕ → Entry) (i : ℕ) (es : List Edge) → ((k : ℕ) → k < length es → (f (i + k) ≡ h (i + k)) × (E (i + k) ≡ (getD es k (0, 0), i + k)))
     → pickEvents f E i (length es) ≡ pick h i es
 pick-numbers f h E i [] s = refl
 pick-numbers f h E i (e ∷ es) s =
@@ -171,5 +173,6 @@ pick-numbers f h E i (e ∷ es) s =
     let next : (k : ℕ) → suc i + k ≡ i + suc k = λ k. omega arith in
     let (a, b) = s 0 (omega arith) in
     let r = pick-numbers f h E (suc i) es (λ k l. let (c, d) = s (suc k) (omega arith) in
-    (ap f (next k) ∙ c ∙ ap h (sym (next k)), ap E (next k) ∙ d)) in
-    ap₂ (λ (c : Bool) (l : List Edge). cond c (E i ∷ l) l) (ap f z ∙ a ∙ ap h (sym z)) r ∙ ap (λ (x : Edge). cond (h i) (x ∷ pick h (suc i) es) (pick h (suc i) es)) (ap E z ∙ b)
+    (ap f (next k) ∙ c ∙ ap h (sym (next k)), ap E (next k) ∙ d ∙ ap (λ (j : ℕ). (getD es k (0, 0), j)) (sym (next k)))) in
+    ap₂ (λ (c : Bool) (l : Named). cond c (E i ∷ l) l) (ap f z ∙ a ∙ ap h (sym z)) r
+    ∙ ap (λ (x : Entry). cond (h i) (x ∷ pick h (suc i) es) (pick h (suc i) es)) (ap E z ∙ b ∙ ap (λ (j : ℕ). (e, j)) (sym z))

@@ -25,20 +25,18 @@ use Rattle.replay_step.specs.Load.{ActiveReady, Actives, AddedBy, AreaMade, scr
 use Rattle.replay_step.specs.declared.Graph.{Graph}
 use Rattle.replay_step.specs.declared.Part.{Part}
 use Rattle.theory_graph.proofs.Booleans.{onBool}
-use Rattle.theory_graph.proofs.CutEquivalence.{small-cuts-equal}
-use Rattle.theory_graph.proofs.SmallGraphDefinition.{definition-small}
-use Rattle.theory_graph.proofs.SmallGraphs.{SmallGraph}
 use Rattle.theory_graph.proofs.TableLaws.{pairs-at}
-use Rattle.theory_graph.specs.Cut.{cut}
-use Rattle.theory_graph.specs.Graph.{Edge, NodeSet}
+use Rattle.theory_graph.specs.Graph.{Edge}
 use Rattle.theory_graph.specs.Lists.{any, pairs, range}
 use Rattle.theory_graph.specs.SmallGraph.{endsIn}
+use Rattle.theory_names.specs.Names.{Named}
+use Rattle.theory_names.specs.NamedSmallGraph.{IsNamedSmallGraph}
 use Rattle.theory_timeline.proofs.Acceptance.{pairs-equal, sound-good}
 use Rattle.theory_timeline.proofs.CountLaws.{road-open}
 use Rattle.theory_timeline.proofs.EventLaws.{pick-same}
 use Rattle.theory_timeline.proofs.TagLaws.{named-during, quiet, words-at}
 use Rattle.theory_timeline.specs.Events.{namedRoads, networkOf, pick}
-use Rattle.theory_timeline.specs.Tags.{namesKey, pickEvents, word}
+use Rattle.theory_timeline.specs.Tags.{keyOf, namesKey, pickEvents, word}
 use Rattle.theory_timeline.specs.Windows.{Timeline, active, during, network, openBefore, roadsBefore}
 
 -- ---- what is loaded: the named roads cleared (v₁), active nodes entered (w₁), roads loaded (z)
@@ -68,6 +66,7 @@ module _ {n : ℕ} {p : Part} {a b : List ℕ} {counts : ℕ} {v : List ℕ} (q 
         room = omega (arith, q .room, M .long);
         nodes = q .nodes;
         ends = λ h u. absurd (omega arith);
+        names = λ h u. absurd (omega arith);
       }
 
       module _ {z : List ℕ} {m : ℕ} (B : AddedBy s n (fixed counts w₁) (segment a b) 0 (length a) 0 w₁ z m) where
@@ -98,7 +97,7 @@ module _ {n : ℕ} {p : Part} {a b : List ℕ} {counts : ℕ} {v : List ℕ} (q 
             ∙ pick-numbers (fixed counts w₁) (λ r. ltb 0 (getD v (counts + r) 0) && not (namedBy (p .words) 0 (p .events) v r)) (segment a b) 0 (pairs a b) λ i l.
             let y : 0 + i ≡ i = omega arith in
             let u : i < length a = omega (arith, pairs-equal a b (q .b-long)) in
-            (fixed-is (0 + i) (omega arith), ap (segment a b) y ∙ sym (pairs-at a b i u (omega (arith, q .b-long))))
+            (fixed-is (0 + i) (omega arith), ap (λ (k : ℕ). ((getD a k 0, getD b k 0), 0 + i)) y ∙ ap (λ (e : Edge). (e, 0 + i)) (sym (pairs-at a b i u (omega (arith, q .b-long)))))
 
         places-z : take (2 * p .events) (drop (p .places) z) ≡ take (2 * p .events) (drop (p .places) v₁)
         places-z = mid-less (p .places) (2 * p .events) s v₁ z (omega (arith, q .active .front)) (omega (arith, q .active .front, q .room, B .long, M .long))
@@ -118,8 +117,9 @@ module _ {n : ℕ} {p : Part} {a b : List ℕ} {counts : ℕ} {v : List ℕ} (q 
             nodes = λ i l. omega (arith, enter-need .nodes i l, front-get s (p .places + i) v₁ z front-z (omega (arith, q .active .front)));
             entered = rw places-z (entered-same (A .entered) (B .edged .nodes MARK (omega arith)) (B .edged .nodes ACTIVE (omega arith)));
             ends = B .edged .ends;
+            names = B .edged .names;
           };
-          edges = λ U. omega (arith, B .more U, ap (cut U) picked);
+          edges = B .more ∙ picked;
         }
 
 -- ---- what stands in the words and the tables of a list
@@ -218,12 +218,12 @@ module _ {n t : ℕ} {a b : List ℕ} {counts area : ℕ} {v : List ℕ} (q : Wh
       events = refl;
       made = λ g e.
           let T : take (2 * t) (drop 0 z) ≡ active g (0, t) = words-z 0 (2 * t) (omega arith) ∙ e .events .places ∙ map-self (active g (0, t)) in
-          let E : (U : NodeSet) → cut U (edgesIn (l .nodes) (l .edges) (drop (area + 13 * t) z)) ≡ cut U (network g (0, t)) =
-          λ U. wl .edges U ∙ ap (cut U) (network-is e (q .b-long)) in
-          let s : SmallGraph (edgesIn (l .nodes) (l .edges) (drop (area + 13 * t) z)) (active g (0, t)) (r .nodes)
-          (areaEdges t (r .edges) (take (13 * t) (drop area y))) (am .ρ) (am .σ) =
-          rw T at (definition-small _ _ _ _ _ _ (am .small)) in
-          small-area g (e .sound) (windowOf (above t area) r) (small-cuts-equal _ _ E _ _ _ _ _ s) (record {
+          let s : IsNamedSmallGraph (edgesIn (l .nodes) (l .edges) (drop (area + 17 * t) z)) (active g (0, t)) (r .nodes)
+          (areaEdges t (r .edges) (take (17 * t) (drop area y))) (am .ρ) (am .σ) =
+          rw T at (am .small) in
+          small-area g (e .sound) (windowOf (above t area) r)
+          (subst (λ (G : Named). IsNamedSmallGraph G (active g (0, t)) (r .nodes) (areaEdges t (r .edges) (take (17 * t) (drop area y))) (am .ρ) (am .σ))
+          (wl .edges ∙ network-is e (q .b-long)) s) (record {
             places = am .places ∙ ap (map (am .σ)) T;
             words = am .words ∙ words-z (2 * t) (3 * t) (omega arith) ∙ e .events .words;
           });

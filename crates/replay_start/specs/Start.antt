@@ -9,10 +9,10 @@ use lib.Dec.{ltb}
 use lib.ListN.{drop, getD, length}
 use Rattle.core_words.specs.Fields.{NAME, TO, half}
 use Rattle.replay_events.specs.Writing.{namesTag}
-use Rattle.theory_timeline.specs.Tags.{keyOf}
 use Rattle.replay_roads.specs.Runs.{run}
 use Rattle.theory_graph.specs.Lists.{any, range}
 use Rattle.theory_names.specs.Names.{Entry}
+use Rattle.theory_timeline.specs.Tags.{keyOf}
 
 -- ---- the keys that events name
 -- the tags of the events whose words stand from `from` on, three to an event
