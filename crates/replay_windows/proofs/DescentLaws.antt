@@ -2,11 +2,11 @@
 -- In order: the counts of an area; the windows of a share; what a step and a part need; a window of two parts; a window of one event.
 -- Assumes nothing.
 use Prim.Native.Nat.{_*_, _+_, _-_, _<_, _≤_, suc, zero, ℕ}
-use mathlib.Core.Bool.{cond, false, true}
-use mathlib.Core.List.{List, [], _++_, _∷_, map}
+use mathlib.Core.Bool.{Bool, cond, false, true}
+use mathlib.Core.List.{List, List·Memᴰ, [], _++_, _∷_, map}
 use mathlib.Core.Path.{_∙_, _≡_, ap, ap₂, refl, subst, sym}
 use lib.Dec.{eqb, ltb}
-use lib.ListN.{drop, getD, length, length-drop, length-take, set, take}
+use lib.ListN.{drop, getD, length, length-drop, length-map, length-take, set, take}
 use lib.Seq.{getD-drop, getD-take, sets, take-take}
 use native.Mathlib.Nat.{mul-le-mul-left}
 use native.Mathlib.Omega.{arith}
@@ -14,29 +14,35 @@ use borrow.Author.Tests.{eq-eqb, eqb-false, eqb-true, ltb-false, ltb-true, ne-eq
 use borrow.Rule.Slice.PartMut.{putMid, take-put}
 use Rattle.theory_graph.proofs.Booleans.{onBool}
 use Rattle.theory_graph.proofs.EdgeCount.{firsts-most, small-edges, small-edges-most}
-use Rattle.theory_graph.proofs.Renumbering.{renumbered-small}
-use Rattle.theory_graph.proofs.SmallGraphs.{SmallGraph}
+use Rattle.theory_graph.proofs.Lists.{table-in, table-length}
+use Rattle.theory_graph.proofs.SmallGraphDefinition.{definition-small}
 use Rattle.theory_graph.proofs.TableLaws.{pairs-length}
-use Rattle.theory_graph.proofs.Transfer.{small-carries}
-use Rattle.theory_graph.specs.Graph.{Edge, answer}
-use Rattle.theory_graph.specs.Lists.{sum, table}
+use Rattle.theory_graph.specs.Graph.{answer}
+use Rattle.theory_graph.specs.Lists.{pairs, sum, table}
 use Rattle.theory_graph.specs.SmallGraph.{different, mostNodes, noEdge}
-use Rattle.theory_timeline.proofs.Acceptance.{length-pairs, sound-good}
-use Rattle.theory_timeline.proofs.DemandThree.{small-is}
-use Rattle.theory_timeline.proofs.Leaves.{alone, during-one}
+use Rattle.theory_names.proofs.Hangs.{hangs-none}
+use Rattle.theory_names.proofs.NamedSmallCuts.{named-small-carries, named-small-sixteen}
+use Rattle.theory_names.proofs.NamedUniqueness.{named-renumbered-small}
+use Rattle.theory_names.specs.Names.{Entry, Named, Sixteen, hangs, plain}
+use Rattle.theory_names.specs.NamedSmallGraph.{IsNamedSmallGraph, readName}
+use Rattle.theory_timeline.proofs.Acceptance.{sound-good}
+use Rattle.theory_timeline.proofs.DemandThree.{named-is}
+use Rattle.theory_timeline.proofs.Leaves.{alone, alone-name, during-one}
+use Rattle.theory_timeline.proofs.Networks.{network-sixteen}
 use Rattle.theory_timeline.proofs.TagLaws.{tag-says, word-change, word-query, words-at}
 use Rattle.theory_timeline.proofs.WindowLaws.{large-one, small-one}
 use Rattle.theory_timeline.specs.DemandThree.{Allowed}
 use Rattle.theory_timeline.specs.Events.{asks}
-use Rattle.theory_timeline.specs.Replay.{byte}
+use Rattle.theory_timeline.specs.Replay.{byte, nameAt}
 use Rattle.theory_timeline.specs.Steps.{Sound}
 use Rattle.theory_timeline.specs.Tags.{eventWords, tag, word}
 use Rattle.theory_timeline.specs.Windows.{Timeline, Window, active, during, event, firstPart, network, openBefore, openGraph, size, small, windowsFrom}
+use Rattle.replay_step.proofs.EdgeLaws.{area-table, areaEntry}
 use Rattle.replay_step.proofs.StepLaws.{active-length}
 use Rattle.replay_step.proofs.WordLaws.{sets-two}
 use Rattle.replay_step.specs.Area.{Area, SmallArea, StepReady, Stepped, areaEdges, span}
 use Rattle.replay_step.specs.declared.Window as W
-use Rattle.replay_windows.specs.Descent.{OneDone, WindowDone, WindowReady, byteBy}
+use Rattle.replay_windows.specs.Descent.{OneDone, WindowDone, WindowReady, Written, byteBy, nameBy, written}
 
 -- ---- the counts of an area
 most-less : (k n : ℕ) → k ≤ 2 * n → 0 < n → mostNodes k + 2 ≤ 4 * n
@@ -56,32 +62,47 @@ module _ {g : Timeline} {w : W.Window} {v : List ℕ} (a : SmallArea g w v) (som
   area-nodes = omega (arith, nodes-less)
 
   pub area-small : w .nodes ≡ (small g (span w)) .nodes
-  area-small = sym (a .graph .nodes)
+  area-small = sym (a .graph .graph .nodes)
 
-  module _ (sound : Sound g) (l : 13 * w .events ≤ length v) where
-    graph : (ρ : ℕ → ℕ) × SmallGraph (network g (span w)) (active g (span w)) (w .nodes) (areaEdges (w .events) (w .edges) v) ρ (a .σ)
-    graph = (_, renumbered-small (small-is g (sound-good g sound) (span w)) (a .graph))
+  module _ (sound : Sound g) (l : 17 * w .events ≤ length v) where
+    graph : (ρ : ℕ → ℕ) × IsNamedSmallGraph (network g (span w)) (active g (span w)) (w .nodes) (areaEdges (w .events) (w .edges) v) ρ (a .σ)
+    graph = (_, named-renumbered-small (named-is g (sound-good g sound) (span w)) (a .graph))
 
     edges-less : length (areaEdges (w .events) (w .edges) v) < 4 * w .events
-    edges-less = onBool (ltb 0 (w .nodes))
-        (λ t. omega (arith, small-edges _ _ _ _ _ _ (graph .1) (ltb-true 0 (w .nodes) t), nodes-less))
-        (λ t. omega (arith, small-edges-most _ _ _ _ _ _ (graph .1), ltb-false 0 (w .nodes) t))
+    edges-less =
+        let s = definition-small _ _ _ _ _ _ (graph .1 .small) in
+        let m = length-map (areaEdges (w .events) (w .edges) v) (λ (e : Entry). e .0) in
+        onBool (ltb 0 (w .nodes))
+        (λ t. omega (arith, small-edges _ _ _ _ _ _ s (ltb-true 0 (w .nodes) t), nodes-less))
+        (λ t. omega (arith, small-edges-most _ _ _ _ _ _ s, ltb-false 0 (w .nodes) t))
 
     area-edges : w .edges ≤ 4 * w .events
     area-edges = onBool (ltb (4 * w .events) (w .edges))
         (λ t. let u = ltb-true (4 * w .events) (w .edges) t in
-        let x : 4 * w .events ≤ length (take (w .edges) (drop (5 * w .events) v)) = rw (length-take, length-drop) (omega arith) in
-        let y : 4 * w .events ≤ length (take (w .edges) (drop (9 * w .events) v)) = rw (length-take, length-drop) (omega arith) in
-        absurd (omega (arith, edges-less, pairs-length (take (w .edges) (drop (5 * w .events) v)) (take (w .edges) (drop (9 * w .events) v)) (4 * w .events) x y)))
+        let X = take (w .edges) (drop (5 * w .events) v) in
+        let Y = take (w .edges) (drop (9 * w .events) v) in
+        let Z = take (w .edges) (drop (13 * w .events) v) in
+        let x : 4 * w .events ≤ length X = rw (length-take, length-drop) (omega arith) in
+        let y : 4 * w .events ≤ length Y = rw (length-take, length-drop) (omega arith) in
+        let z : 4 * w .events ≤ length Z = rw (length-take, length-drop) (omega arith) in
+        absurd (omega (arith, edges-less, pairs-length (pairs X Y) Z (4 * w .events) (pairs-length X Y (4 * w .events) x y) z)))
         (λ t. ltb-false (4 * w .events) (w .edges) t)
 
-    pub area-count : length (areaEdges (w .events) (w .edges) v) ≡ w .edges
-    area-count =
-        let f = area-edges in
-        length-pairs (w .edges) (drop (5 * w .events) v) (drop (9 * w .events) v) (rw length-drop (omega arith)) (rw length-drop (omega arith))
+    area-is : areaEdges (w .events) (w .edges) v ≡ table (areaEntry (w .events) v) 0 (w .edges)
+    area-is = area-table (w .events) (w .edges) v l area-edges
+
+    area-names : Sixteen (areaEdges (w .events) (w .edges) v)
+    area-names = named-small-sixteen _ _ _ _ _ _ (graph .1) (network-sixteen g (span w) (sound .segments-few))
 
     pub area-of : Area g w v
-    area-of = record { ρ = graph .0; σ = a .σ; carries = small-carries _ _ _ _ _ _ (graph .1); events = a .events; few = area-edges }
+    area-of = record {
+      ρ = graph .0;
+      σ = a .σ;
+      carries = named-small-carries _ _ _ _ _ _ (graph .1);
+      events = a .events;
+      few = area-edges;
+      names = area-names;
+    }
 
 -- ---- the windows of a share
 pub record Shares (n c : ℕ) : Type 0 where
@@ -136,17 +157,17 @@ module _ (p : ℕ) (a : Allowed p) where
 pub lent-take : (k j : ℕ) (z : List ℕ) → k + j ≤ length z → take j (take (length z - k) (drop k z)) ≡ take j (drop k z)
 lent-take k j z l = take-take j (length z - k) (drop k z) (omega arith)
 
-module _ {w : W.Window} {p : ℕ} {answers v : List ℕ} (r : WindowReady w p answers v) where
+module _ {w : W.Window} {p : ℕ} {answers names v : List ℕ} (r : WindowReady w p answers names v) where
   abbrev n : ℕ
   n = w .events
 
-  long : 13 * n ≤ length (take (13 * n) v)
+  long : 17 * n ≤ length (take (17 * n) v)
   long = rw length-take (omega (arith, r .room))
 
-  own : (g : Timeline) → Sound g → SmallArea g w (take (13 * n) v) → Area g w (take (13 * n) v)
+  own : (g : Timeline) → Sound g → SmallArea g w (take (17 * n) v) → Area g w (take (17 * n) v)
   own g sound a = area-of a (r .some) sound long
 
-  pub step-ready : (lo c : ℕ) (z : List ℕ) → w .at ≤ lo → lo + c ≤ w .at + n → 0 < c → length z ≡ length v → take (13 * n) z ≡ take (13 * n) v → StepReady w lo c z
+  pub step-ready : (lo c : ℕ) (z : List ℕ) → w .at ≤ lo → lo + c ≤ w .at + n → 0 < c → length z ≡ length v → take (17 * n) z ≡ take (17 * n) v → StepReady w lo c z
   step-ready lo c z a b s e f =
       let o = own (r .g) (r .sound) (r .area) in
       record {
@@ -163,17 +184,18 @@ module _ {w : W.Window} {p : ℕ} {answers v : List ℕ} (r : WindowReady w p an
       }
 
   -- what a step leaves for the part, in the words that are lent on
-  module _ {lo c : ℕ} {y z : List ℕ} {k : W.Window} (t : Stepped w lo c y z k) (f : take (13 * n) y ≡ take (13 * n) v) (e : length z ≡ length v)
+  module _ {lo c : ℕ} {y z : List ℕ} {k : W.Window} (t : Stepped w lo c y z k) (f : take (17 * n) y ≡ take (17 * n) v) (e : length z ≡ length v)
       (b : lo + c ≤ w .at + n) (lo-ok : w .at ≤ lo) where
-    part-area : (g : Timeline) → Sound g → w .at + n ≤ size g → SmallArea g w (take (13 * n) v) → SmallArea g k (take (13 * k .events) (take (length z - 13 * n) (drop (13 * n) z)))
+    part-area : (g : Timeline) → Sound g → w .at + n ≤ size g → SmallArea g w (take (17 * n) v) → SmallArea g k (take (17 * k .events) (take (length z - 17 * n) (drop (17 * n) z)))
     part-area g sound i a =
-        let x : 13 * n + 13 * k .events ≤ length z = omega (arith, r .room, t .events) in
-        let h : take (13 * c) (drop (13 * n) z) ≡ take (13 * k .events) (take (length z - 13 * n) (drop (13 * n) z)) =
-        ap (λ (m : ℕ). take (13 * m) (drop (13 * n) z)) (sym (t .events)) ∙ sym (lent-take (13 * n) (13 * k .events) z x) in
+        let x : 17 * n + 17 * k .events ≤ length z = omega (arith, r .room, t .events) in
+        let h : take (17 * c) (drop (17 * n) z) ≡ take (17 * k .events) (take (length z - 17 * n) (drop (17 * n) z)) =
+        ap (λ (m : ℕ). take (17 * m) (drop (17 * n) z)) (sym (t .events)) ∙ sym (lent-take (17 * n) (17 * k .events) z x) in
         subst (λ (v : List ℕ). SmallArea g k v) h (t .made g sound i (rw f (own g sound a)))
 
-    pub part-ready : (answers′ : List ℕ) → length answers′ ≡ length answers → 0 < c → 11 * c ≤ 10 * n → WindowReady k p answers′ (take (length z - 13 * n) (drop (13 * n) z))
-    part-ready answers′ l s h = record {
+    pub part-ready : (answers′ names′ : List ℕ) → length answers′ ≡ length answers → length names′ ≡ length names → 0 < c → 11 * c ≤ 10 * n
+        → WindowReady k p answers′ names′ (take (length z - 17 * n) (drop (17 * n) z))
+    part-ready answers′ names′ l l′ s h = record {
       g = r .g;
       sound = r .sound;
       inside = omega (arith, r .inside, t .at, t .events);
@@ -182,30 +204,32 @@ module _ {w : W.Window} {p : ℕ} {answers v : List ℕ} (r : WindowReady w p an
       much = omega (arith, r .much, t .at, t .events);
       share = r .share;
       long = omega (arith, r .long, t .at, t .events);
+      names-long = omega (arith, r .names-long, t .at, t .events);
       room = rw (length-take, length-drop) (omega (arith, r .room, t .events));
     }
 
   -- ---- a window of two parts
   module _ (two : 2 ≤ n) {c : ℕ} (q : c ≡ firstPart p n) {w₁ : List ℕ} {a : W.Window} (s : Stepped w (w .at) c v w₁ a) (l₁ : length w₁ ≡ length v) where
-    pub first-ready : (a .events < n) × WindowReady a p answers (take (length w₁ - 13 * n) (drop (13 * n) w₁))
+    pub first-ready : (a .events < n) × WindowReady a p answers names (take (length w₁ - 17 * n) (drop (17 * n) w₁))
     first-ready =
         let sh = shares p n two (r .share) in
         let cn : (c < n) × (0 < c) × (11 * c ≤ 10 * n) = rw q (omega arith, omega arith, sh .first) in
-        (omega (arith, s .events), part-ready s refl l₁ (omega arith) (omega arith) answers refl (cn .1) (cn .2))
+        (omega (arith, s .events), part-ready s refl l₁ (omega arith) (omega arith) answers names refl refl (cn .1) (cn .2))
 
     -- the words after the first part: the window's area is as it was
-    pub area-kept : (zs : List ℕ) → take (13 * n) (putMid (13 * n) (length w₁ - 13 * n) w₁ zs) ≡ take (13 * n) v
-    area-kept zs = take-put (13 * n) (length w₁ - 13 * n) w₁ zs (omega (arith, r .room)) ∙ s .front
+    pub area-kept : (zs : List ℕ) → take (17 * n) (putMid (17 * n) (length w₁ - 17 * n) w₁ zs) ≡ take (17 * n) v
+    area-kept zs = take-put (17 * n) (length w₁ - 17 * n) w₁ zs (omega (arith, r .room)) ∙ s .front
 
-    module _ {w₂ w₃ : List ℕ} {d : W.Window} (f : take (13 * n) w₂ ≡ take (13 * n) v) (t : Stepped w (w .at + c) (n - c) w₂ w₃ d) (l₃ : length w₃ ≡ length v) where
-      pub second-ready : (mid : List ℕ) → length mid ≡ length answers → (d .events < n) × WindowReady d p mid (take (length w₃ - 13 * n) (drop (13 * n) w₃))
-      second-ready mid l =
+    module _ {w₂ w₃ : List ℕ} {d : W.Window} (f : take (17 * n) w₂ ≡ take (17 * n) v) (t : Stepped w (w .at + c) (n - c) w₂ w₃ d) (l₃ : length w₃ ≡ length v) where
+      pub second-ready : (mid mid′ : List ℕ) → length mid ≡ length answers → length mid′ ≡ length names → (d .events < n) × WindowReady d p mid mid′ (take (length w₃ - 17 * n) (drop (17 * n) w₃))
+      second-ready mid mid′ l l′ =
           let sh = shares p n two (r .share) in
           let cn : (c < n) × (0 < c) × (11 * (n - c) ≤ 10 * n) = rw q (omega arith, omega arith, sh .second) in
-          (omega (arith, t .events), part-ready t f l₃ (omega arith) (omega arith) mid l (omega arith) (cn .2))
+          (omega (arith, t .events), part-ready t f l₃ (omega arith) (omega arith) mid mid′ l l′ (omega arith) (cn .2))
 
-      pub done-two : {mid after : List ℕ} {b e : ℕ} → WindowDone a p (take (13 * a .events) (take (length w₁ - 13 * n) (drop (13 * n) w₁))) answers mid b
-          → WindowDone d p (take (13 * d .events) (take (length w₃ - 13 * n) (drop (13 * n) w₃))) mid after e → WindowDone w p (take (13 * n) v) answers after (w .nodes + b + e)
+      pub done-two : {mid after : Written} {b e : ℕ} → WindowDone a p (take (17 * a .events) (take (length w₁ - 17 * n) (drop (17 * n) w₁))) (written answers names) mid b
+          → WindowDone d p (take (17 * d .events) (take (length w₃ - 17 * n) (drop (17 * n) w₃))) mid after e
+          → WindowDone w p (take (17 * n) v) (written answers names) after (w .nodes + b + e)
       done-two {mid} {after} {b} {e} i j =
           let sh = shares p n two (r .share) in
           let cn : c ≤ n = rw q (omega arith) in
@@ -216,19 +240,21 @@ module _ {w : W.Window} {p : ℕ} {answers v : List ℕ} (r : WindowReady w p an
                 let x = rw (t .at, t .events) at (j .replied g o (omega (arith, t .at, t .events)) (part-area t f l₃ (omega arith) (omega arith) g o h z)) in
                 record {
                   answers = x .answers ∙ ap (λ m. sets m (w .at + c) (table (byte g) (w .at + c) (n - c))) (u .answers) ∙ sym (sets-two (byte g) answers (w .at) n c cn);
+                  names = x .names ∙ ap (λ m. sets m (w .at + c) (table (nameAt g) (w .at + c) (n - c))) (u .names) ∙ sym (sets-two (nameAt g) names (w .at) n c cn);
                   kept = ap₂ (λ (a b : ℕ). a + b) (ap₂ (λ (a b : ℕ). a + b) (area-small z (r .some)) (u .kept)) (x .kept)
                       ∙ sym (sum-two p (r .share) (λ w. (small g w) .nodes) (w .at) n c two q);
                 };
           }
 
   -- ---- a window of one event
-  pub done-one : n ≡ 1 → (after : List ℕ) → OneDone w (take 13 v) answers after → WindowDone w p (take (13 * n) v) answers after (w .nodes)
+  pub done-one : n ≡ 1 → (after : Written) → OneDone w (take 17 v) (written answers names) after → WindowDone w p (take (17 * n) v) (written answers names) after (w .nodes)
   done-one e after o = record {
     few = omega (arith, area-nodes (r .area) (r .some));
     replied = λ g s i a.
-        let z : 13 * n ≡ 13 = omega arith in
+        let z : 17 * n ≡ 17 = omega arith in
         record {
-          answers = o g s (omega arith) (rw z at a) ∙ rw e refl;
+          answers = o .answers g s (omega arith) (rw z at a) ∙ rw e refl;
+          names = o .names g s (omega arith) (rw z at a) ∙ rw e refl;
           kept = area-small a (r .some) ∙ rw e (sym (sum-one p (r .share) (λ w. (small g w) .nodes) (w .at)));
         };
   }
@@ -236,13 +262,13 @@ module _ {w : W.Window} {p : ℕ} {answers v : List ℕ} (r : WindowReady w p an
 -- the byte of an event that opens or closes, and of a query, by the counts of its area
 byte-change : (g : Timeline) (i : ℕ) → asks (event g i) ≡ false → byte g i ≡ 3
 unfolding byte
-byte-change g i t = ap (λ b. cond b (answer (openGraph g i) (event g i .0) (event g i .1)) 3) t
+byte-change g i t = ap (λ b. cond b (answer (plain (openGraph g i)) (event g i .0) (event g i .1)) 3) t
 
-byte-query : (g : Timeline) (i : ℕ) → asks (event g i) ≡ true → byte g i ≡ answer (openGraph g i) (event g i .0) (event g i .1)
+byte-query : (g : Timeline) (i : ℕ) → asks (event g i) ≡ true → byte g i ≡ answer (plain (openGraph g i)) (event g i .0) (event g i .1)
 unfolding byte
-byte-query g i t = ap (λ b. cond b (answer (openGraph g i) (event g i .0) (event g i .1)) 3) t
+byte-query g i t = ap (λ b. cond b (answer (plain (openGraph g i)) (event g i .0) (event g i .1)) 3) t
 
-none-is : (H : List Edge) (edges : ℕ) → length H ≡ edges → noEdge H ≡ eqb edges 0
+none-is : (H : Named) (edges : ℕ) → length H ≡ edges → noEdge (plain H) ≡ eqb edges 0
 none-is [] edges e = sym (eq-eqb edges 0 (sym e))
 none-is (h ∷ H) edges e = sym (ne-eqb edges 0 (λ z. omega arith))
 
@@ -263,38 +289,113 @@ module _ (tag nodes edges : ℕ) where
   pub byte-1 : tag ≡ 0 → ¬ (nodes ≡ 1) → ¬ (edges ≡ 0) → _≡_ {A = ℕ} 1 (byteBy tag nodes edges)
   byte-1 z h e = sym (byte-asked z ∙ ap₂ (λ a b. cond a 2 (cond b 0 1)) (ne-eqb nodes 1 h) (ne-eqb edges 0 e))
 
-module _ {w : W.Window} (v : List ℕ) (one : w .events ≡ 1) (l : 13 ≤ length v) (g : Timeline) (sound : Sound g) (i : w .at < size g) (a : SmallArea g w (take 13 v)) where
+-- a byte 1 is that of a query of two nodes with an edge
+byte-one : (tag nodes edges : ℕ) → byteBy tag nodes edges ≡ 1 → (tag ≡ 0) × (0 < edges)
+byte-one tag nodes edges h = onBool (eqb tag 0)
+    (λ t. let z = eqb-true tag 0 t in
+    (z, onBool (eqb edges 0)
+    (λ e. absurd (two (eqb nodes 1) (sym (byte-asked tag nodes edges z ∙ ap (λ b. cond (eqb nodes 1) 2 (cond b 0 1)) e) ∙ h)))
+    (λ e. let k = eqb-false edges 0 e in omega arith)))
+    (λ t. absurd (three (byte-3 tag nodes edges (eqb-false tag 0 t) ∙ h)))
+  where
+    two : (b : Bool) → ¬ (_≡_ {A = ℕ} (cond b 2 0) 1)
+    two true e = omega arith
+    two false e = omega arith
+
+    three : ¬ (_≡_ {A = ℕ} 3 1)
+    three e = omega arith
+
+-- the first of some entries
+first-name : (f : ℕ → Entry) (k : ℕ) → 0 < k → readName (table f 0 k) ≡ f 0 .1
+first-name f zero l = absurd (omega arith)
+first-name f (suc k) l = refl
+
+module _ {w : W.Window} (v : List ℕ) (one : w .events ≡ 1) (l : 17 ≤ length v) (g : Timeline) (sound : Sound g) (i : w .at < size g) (a : SmallArea g w (take 17 v)) where
   -- the tag of its event
   first-word : getD v 2 0 ≡ word g 0 (w .at)
   first-word =
       let z : w .at + 0 ≡ w .at = omega arith in
       let W = a .events .words in
-      let x : take 3 (drop 2 (take 13 v)) ≡ eventWords g (w .at) 1 = rw one at W in
-      sym (getD-take 13 v 2 0 (omega arith)) ∙ sym (getD-take 3 (drop 2 (take 13 v)) 0 0 (omega arith) ∙ getD-drop 2 (take 13 v) 0 0)
+      let x : take 3 (drop 2 (take 17 v)) ≡ eventWords g (w .at) 1 = rw one at W in
+      sym (getD-take 17 v 2 0 (omega arith)) ∙ sym (getD-take 3 (drop 2 (take 17 v)) 0 0 (omega arith) ∙ getD-drop 2 (take 17 v) 0 0)
       ∙ ap (λ l. getD l 0 0) x ∙ words-at g (w .at) 1 0 0 (omega arith) (omega arith) ∙ ap (word g 0) z
 
-  tag-change : ¬ (getD v 2 0 ≡ 0) → byte g (w .at) ≡ 3
-  tag-change h = onBool (asks (event g (w .at))) (λ q. absurd (h (first-word ∙ word-query g (w .at) 0 q))) (λ q. byte-change g (w .at) q)
+  changed : ¬ (getD v 2 0 ≡ 0) → asks (event g (w .at)) ≡ false
+  changed h = onBool (asks (event g (w .at))) (λ q. absurd (h (first-word ∙ word-query g (w .at) 0 q))) (λ q. q)
 
   asked : getD v 2 0 ≡ 0 → asks (event g (w .at)) ≡ true
   asked z = onBool (asks (event g (w .at))) (λ q. q) (λ q. let t = ltb-true 0 (tag g (w .at)) (tag-says g (w .at) .change) in absurd (omega (arith, first-word, word-change g (w .at) q .0)))
 
-  tag-query : getD v 2 0 ≡ 0 → byte g (w .at) ≡ cond (eqb (w .nodes) 1) 2 (cond (eqb (w .edges) 0) 0 1)
+  some : 0 < w .events
+  some = omega arith
+
+  enough : 17 * w .events ≤ length (take 17 v)
+  enough = rw length-take (omega arith)
+
+  abbrev H : Named
+  H = areaEdges (w .events) (w .edges) (take 17 v)
+
+  alone-here : during g (span w) ≡ event g (w .at) ∷ []
+  alone-here = ap (λ (n : ℕ). during g (w .at, n)) one ∙ during-one g (w .at) i
+
+  count : length H ≡ w .edges
+  count = ap length (area-is a some sound enough) ∙ table-length (areaEntry (w .events) (take 17 v)) 0 (w .edges)
+
+  -- the byte
+  pub byte-is : byteBy (getD v 2 0) (w .nodes) (w .edges) ≡ byte g (w .at)
   unfolding network active
-  tag-query z =
-      let s : 0 < w .events = omega arith in
-      let k : 13 * w .events ≤ length (take 13 v) = rw length-take (omega arith) in
-      let H : List Edge = areaEdges (w .events) (w .edges) (take 13 v) in
-      let e : during g (span w) ≡ event g (w .at) ∷ [] = ap (λ (n : ℕ). during g (w .at, n)) one ∙ during-one g (w .at) i in
-      byte-query g (w .at) (asked z)
-      ∙ alone (g .segments) (event g (w .at)) (openBefore g (w .at)) (asked z) (during g (span w)) e (w .nodes) H _ (a .σ) (graph a s sound k .1)
-      ∙ ap (λ b. cond (eqb (w .nodes) 1) 2 (cond b 0 1)) (none-is H (w .edges) (area-count a s sound k))
+  byte-is = onBool (eqb (getD v 2 0) 0)
+      (λ t. let z = eqb-true (getD v 2 0) 0 t in
+      byte-asked (getD v 2 0) (w .nodes) (w .edges) z
+      ∙ sym (byte-query g (w .at) (asked z)
+      ∙ alone (g .segments) (event g (w .at)) (openBefore g (w .at)) (asked z) (during g (span w)) alone-here (w .nodes) H _ (a .σ) (graph a some sound enough .1)
+      ∙ ap (λ b. cond (eqb (w .nodes) 1) 2 (cond b 0 1)) (none-is H (w .edges) count)))
+      (λ t. let h = eqb-false (getD v 2 0) 0 t in sym (byte-3 (getD v 2 0) (w .nodes) (w .edges) h) ∙ sym (byte-change g (w .at) (changed h)))
 
-module _ {w : W.Window} {p : ℕ} {answers v : List ℕ} (r : WindowReady w p answers v) (one : w .events ≡ 1) where
-  enough : 13 ≤ length v
-  enough = omega (arith, r .room)
+  -- the name of its one edge
+  edge-name : 0 < w .edges → readName H ≡ getD v 13 0
+  edge-name k =
+      let z : 13 * w .events + 0 ≡ 13 = omega arith in
+      ap readName (area-is a some sound enough) ∙ first-name (areaEntry (w .events) (take 17 v)) (w .edges) k
+      ∙ ap (λ (j : ℕ). getD (take 17 v) j 0) z ∙ getD-take 17 v 13 0 (omega arith)
 
-  pub one-done : {after : List ℕ} (b : ℕ) → b ≡ byteBy (getD v 2 0) (w .nodes) (w .edges) → after ≡ set answers (w .at) b → OneDone w (take 13 v) answers after
-  one-done b e f g s i a = f ∙ ap (set answers (w .at)) (e ∙ onBool (eqb (getD v 2 0) 0)
-      (λ t. let z = eqb-true (getD v 2 0) 0 t in byte-asked (getD v 2 0) (w .nodes) (w .edges) z ∙ sym (tag-query v one enough g s i a z))
-      (λ t. let h = eqb-false (getD v 2 0) 0 t in sym (byte-3 (getD v 2 0) (w .nodes) (w .edges) h) ∙ sym (tag-change v one enough g s i a h)))
+  pub name-is : nameBy (byteBy (getD v 2 0) (w .nodes) (w .edges)) (getD v 13 0) ≡ nameAt g (w .at)
+  unfolding network active byte nameAt
+  name-is = onBool (eqb (byteBy (getD v 2 0) (w .nodes) (w .edges)) 1)
+      (λ t.
+      let (z, k) = byte-one (getD v 2 0) (w .nodes) (w .edges) (eqb-true (byteBy (getD v 2 0) (w .nodes) (w .edges)) 1 t) in
+      ap (λ b. cond b (getD v 13 0) 65535) t ∙ sym (edge-name k)
+      ∙ sym (alone-name (g .segments) (event g (w .at)) (openBefore g (w .at)) (asked z) (during g (span w)) alone-here (w .nodes) H _ (a .σ) (graph a some sound enough .1))
+      ∙ sym (ap (λ b. cond b (hangs (openGraph g (w .at)) (event g (w .at) .0) (event g (w .at) .1)) 65535) (asked z)))
+      (λ t.
+      let n = eqb-false (byteBy (getD v 2 0) (w .nodes) (w .edges)) 1 t in
+      ap (λ b. cond b (getD v 13 0) 65535) t
+      ∙ sym (onBool (asks (event g (w .at)))
+      (λ q. ap (λ b. cond b (hangs (openGraph g (w .at)) (event g (w .at) .0) (event g (w .at) .1)) 65535) q
+      ∙ hangs-none (openGraph g (w .at)) (event g (w .at) .0) (event g (w .at) .1)
+      (λ e. n (byte-is ∙ ap (λ b. cond b (answer (plain (openGraph g (w .at))) (event g (w .at) .0) (event g (w .at) .1)) 3) q ∙ e)))
+      (λ q. ap (λ b. cond b (hangs (openGraph g (w .at)) (event g (w .at) .0) (event g (w .at) .1)) 65535) q)))
+
+  -- which is a 16-bit number
+  pub name-fits : byteBy (getD v 2 0) (w .nodes) (w .edges) ≡ 1 → getD v 13 0 < 65536
+  name-fits e =
+      let (_, k) = byte-one (getD v 2 0) (w .nodes) (w .edges) e in
+      let m : List·Memᴰ (areaEntry (w .events) (take 17 v) 0) H =
+      subst (λ (G : Named). List·Memᴰ (areaEntry (w .events) (take 17 v) 0) G) (sym (area-is a some sound enough))
+      (table-in (areaEntry (w .events) (take 17 v)) 0 (w .edges) 0 (omega arith) (omega arith)) in
+      let z : 13 * w .events + 0 ≡ 13 = omega arith in
+      omega (arith, area-of a some sound enough .names (areaEntry (w .events) (take 17 v) 0) m, ap (λ (j : ℕ). getD (take 17 v) j 0) z ∙ getD-take 17 v 13 0 (omega arith))
+
+module _ {w : W.Window} {p : ℕ} {answers names v : List ℕ} (r : WindowReady w p answers names v) (one : w .events ≡ 1) where
+  long-enough : 17 ≤ length v
+  long-enough = omega (arith, r .room)
+
+  pub name-need : byteBy (getD v 2 0) (w .nodes) (w .edges) ≡ 1 → getD v 13 0 < 65536
+  name-need = let z : 17 * w .events ≡ 17 = omega arith in name-fits v one long-enough (r .g) (r .sound) (omega (arith, r .inside)) (rw z at (r .area))
+
+  pub one-done : {after : Written} (b n : ℕ) → b ≡ byteBy (getD v 2 0) (w .nodes) (w .edges) → n ≡ nameBy b (getD v 13 0)
+      → after .answers ≡ set answers (w .at) b → after .names ≡ set names (w .at) n → OneDone w (take 17 v) (written answers names) after
+  one-done b n e f x y = record {
+    answers = λ g s i a. x ∙ ap (set answers (w .at)) (e ∙ byte-is v one long-enough g s i a);
+    names = λ g s i a. y ∙ ap (set names (w .at)) (f ∙ ap (λ (b : ℕ). nameBy b (getD v 13 0)) e ∙ name-is v one long-enough g s i a);
+  }

@@ -26,7 +26,7 @@ pub record WindowReady (w : Window) (p : ℕ) (answers names work : List ℕ) : 
   pub share : Allowed p
   pub long : w .at + w .events ≤ length answers
   pub names-long : w .at + w .events ≤ length names
-  pub room : 143 * w .events ≤ length work
+  pub room : 187 * w .events ≤ length work
 
 -- the two tables that the windows write, as they are before or afterwards
 pub record Written : Type 0 where

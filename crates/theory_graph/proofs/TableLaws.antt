@@ -67,7 +67,7 @@ pub triples-table : (m : ℕ) (xs ys zs : List ℕ) → m ≤ length xs → m �
 triples-table m xs ys zs a b c = ap₂ pairs (pairs-table m xs ys a b) (take-table m zs c) ∙ pairs-tables (λ e. (getD xs e 0, getD ys e 0)) (λ i. getD zs i 0) 0 m
 
 -- ---- two parallel lists
-pub pairs-length : (x y : List ℕ) (n : ℕ) → n ≤ length x → n ≤ length y → n ≤ length (pairs x y)
+pub pairs-length : {A B : Type 0} (x : List A) (y : List B) (n : ℕ) → n ≤ length x → n ≤ length y → n ≤ length (pairs x y)
 pairs-length [] y n a b = a
 pairs-length (x ∷ xs) [] n a b = b
 pairs-length (x ∷ xs) (y ∷ ys) zero a b = omega arith

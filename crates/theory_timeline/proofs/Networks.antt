@@ -7,7 +7,7 @@ use mathlib.Core.Bool.{_&&_, and-false, false, not, true}
 use mathlib.Core.List.{List, List·Memᴰ, [], _++_, _∷_, map}
 use mathlib.Core.Logic.{_⊎_, inl, inr}
 use mathlib.Core.Path.{_∙_, _≡_, ap, ap₂, refl, subst, subst₂, sym}
-use lib.ListN.{drop, getD, take, take-append-drop}
+use lib.ListN.{drop, getD, length, take, take-append-drop}
 use lib.Seq.{drop-drop, take-add, take-length, take-nil, take-take}
 use native.Mathlib.Omega.{arith}
 use borrow.Author.Tests.{not-true}
@@ -20,10 +20,10 @@ use Rattle.theory_names.proofs.NamedComposition.{named-compose}
 use Rattle.theory_names.proofs.NamedCuts.{weigh-append}
 use Rattle.theory_names.proofs.NamedSmallCuts.{named-small-carries}
 use Rattle.theory_names.proofs.NamedUniqueness.{named-small-equal}
-use Rattle.theory_names.specs.Names.{Named, SameEntries, plain}
+use Rattle.theory_names.specs.Names.{Entry, Named, SameEntries, Sixteen, plain}
 use Rattle.theory_names.specs.NamedSmallGraph.{IsNamedSmallGraph, NamedCarries, imageNamed}
 use Rattle.theory_timeline.proofs.EventLaws.{active-left, active-named, active-right, named-roads-append, pick-sum, pick-within, road-named, roads-stay}
-use Rattle.theory_timeline.proofs.RoadLaws.{ends-in, ends-sym, names-different, open-name, road-same}
+use Rattle.theory_timeline.proofs.RoadLaws.{ends-in, ends-sym, names-different, open-name, pick-mem, road-same}
 use Rattle.theory_timeline.proofs.WindowLaws.{first-part}
 use Rattle.theory_timeline.specs.DemandThree.{Allowed}
 use Rattle.theory_timeline.specs.Events.{Event, SegmentSet, activeOf, after, afterAll, namedRoads, networkOf, openRoads, pick}
@@ -177,6 +177,11 @@ module _ (g : Timeline) (w : Window) where
   pub network-different : DifferentRoads (plain (network g w))
   unfolding network networkOf
   network-different = names-different (g .segments) around (λ r h. around-name r h .0)
+
+  -- their names are 16-bit numbers
+  pub network-sixteen : length (g .segments) ≤ 8192 → Sixteen (network g w)
+  unfolding network networkOf
+  network-sixteen l e m = let (s, k, _, q) = pick-mem around 0 (g .segments) e m in omega (arith, ap (λ (e : Entry). e .1) q)
 
 -- the whole list's network: the roads that are open at the start and that no event names
 pub network-start : (g : Timeline) → network g (0, size g) ≡ networkOf (g .segments) (g .events) (g .start)
