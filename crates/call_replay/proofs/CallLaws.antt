@@ -19,23 +19,23 @@ use Rattle.replay_start.specs.Whole.{ListIn, WholeMade, WholeReady}
 use Rattle.replay_step.specs.Area.{SmallArea}
 use Rattle.replay_step.specs.declared.Window.{Window}
 use Rattle.replay_windows.proofs.DescentLaws.{lent-take}
-use Rattle.replay_windows.specs.Descent.{Replied, WindowDone, WindowReady}
+use Rattle.replay_windows.specs.Descent.{Replied, WindowDone, WindowReady, Written, written}
 use Rattle.theory_graph.proofs.TableLaws.{pairs-at}
 use Rattle.theory_graph.specs.Lists.{over, range, sum, table}
 use Rattle.theory_timeline.proofs.Acceptance.{Accepted, accepted-from, accepted-sound, events-length}
 use Rattle.theory_timeline.proofs.Counting.{count, count-split}
-use Rattle.theory_timeline.proofs.DemandThree.{accepted-done, bytes-length, demand-3}
+use Rattle.theory_timeline.proofs.DemandThree.{accepted-done, bytes-length, demand-3, names-length}
 use Rattle.theory_timeline.specs.Call.{outcome}
 use Rattle.theory_timeline.specs.DemandThree.{KeepsDemand3}
 use Rattle.theory_timeline.specs.Events.{Event, asks, kindOf}
 use Rattle.theory_timeline.specs.Steps.{Sound}
-use Rattle.theory_timeline.specs.Replay.{Faultless, Lent, Outcome, byte, bytes, done, fault, given, openAtEnd, queries, refused, replay, required}
+use Rattle.theory_timeline.specs.Replay.{Faultless, Lent, Outcome, byte, bytes, done, fault, given, nameAt, namesAt, openAtEnd, queries, refused, replay, required}
 use Rattle.theory_timeline.specs.Windows.{Timeline, event, kept, size, small, windows, windowsFrom}
 use Rattle.theory_timeline.specs.declared.ReplayReply.the-variants.{Done, Refused}
 use Rattle.call_replay.specs.List.{ListReady, ListReplied}
 
 -- ---- the list
-module _ {n p : ℕ} {a b start x y answers work : List ℕ} (q : ListReady n p a b start x y answers work) where
+module _ {n p : ℕ} {a b start x y answers names work : List ℕ} (q : ListReady n p a b start x y answers names work) where
   abbrev g : Timeline
   g = listOf n a b start x y
 
@@ -50,9 +50,9 @@ module _ {n p : ℕ} {a b start x y answers work : List ℕ} (q : ListReady n p 
   area = 5 * length x + length a + length a
 
   -- a list without events
-  pub empty-replied : t ≡ 0 → ListReplied n p a b start x y answers answers 0
+  pub empty-replied : t ≡ 0 → ListReplied n p a b start x y (written answers names) (written answers names) 0
   unfolding windowsFrom
-  empty-replied z = subst (λ (k : ℕ). Replied g 0 k p answers answers 0) (sym z) (record { answers = refl; kept = refl })
+  empty-replied z = subst (λ (k : ℕ). Replied g 0 k p (written answers names) (written answers names) 0) (sym z) (record { answers = refl; names = refl; kept = refl })
 
   module _ (some : 0 < t) {w : List ℕ} (e : EventsWritten n a b start x y w) (l : length w ≡ length work) where
     list-in : ListIn n t a b counts w g
@@ -71,13 +71,13 @@ module _ {n p : ℕ} {a b start x y answers work : List ℕ} (q : ListReady n p 
     }
 
     module _ {z : List ℕ} {r : Window} (m : WholeMade n t a b counts area w z r) (k : length z ≡ length work) where
-      small-in : SmallArea g r (take (13 * r .events) (take (length z - area) (drop area z)))
+      small-in : SmallArea g r (take (17 * r .events) (take (length z - area) (drop area z)))
       small-in =
-          let h : take (13 * t) (drop area z) ≡ take (13 * r .events) (take (length z - area) (drop area z)) =
-          ap (λ (n : ℕ). take (13 * n) (drop area z)) (sym (m .events)) ∙ sym (lent-take area (13 * r .events) z (omega (arith, q .room, m .events))) in
+          let h : take (17 * t) (drop area z) ≡ take (17 * r .events) (take (length z - area) (drop area z)) =
+          ap (λ (n : ℕ). take (17 * n) (drop area z)) (sym (m .events)) ∙ sym (lent-take area (17 * r .events) z (omega (arith, q .room, m .events))) in
           subst (λ (v : List ℕ). SmallArea g r v) h (m .made g list-in)
 
-      pub window-need : WindowReady r p answers (take (length z - area) (drop area z))
+      pub window-need : WindowReady r p answers names (take (length z - area) (drop area z))
       window-need = record {
         g = g;
         sound = q .events .sound;
@@ -87,11 +87,12 @@ module _ {n p : ℕ} {a b start x y answers work : List ℕ} (q : ListReady n p 
         much = omega (arith, m .at, m .events, q .events .much);
         share = q .share;
         long = omega (arith, m .at, m .events, q .long);
+        names-long = omega (arith, m .at, m .events, q .names-long);
         room = rw (length-take, length-drop) (omega (arith, q .room, m .events));
       }
 
-      pub list-replied : {after : List ℕ} {kept : ℕ} → WindowDone r p (take (13 * r .events) (take (length z - area) (drop area z))) answers after kept
-          → ListReplied n p a b start x y answers after kept
+      pub list-replied : {after : Written} {kept : ℕ} → WindowDone r p (take (17 * r .events) (take (length z - area) (drop area z))) (written answers names) after kept
+          → ListReplied n p a b start x y (written answers names) after kept
       list-replied d = let u = d .replied g (q .events .sound) (omega (arith, m .at, m .events, size-is (q .events))) small-in in rw (m .at, m .events) at u
 
 -- ---- the queries
@@ -118,9 +119,9 @@ queries-same g sound x (suc t) l h =
 sets-over : (vs l : List ℕ) → length vs ≤ length l → sets l 0 vs ≡ over vs l
 sets-over vs l h = let z : 0 + length vs ≡ length vs = omega arith in sets-eq vs l 0 (omega arith) ∙ ap (λ (k : ℕ). vs ++ drop k l) z
 
-bytes-table : (f : ℕ → ℕ) (i k : ℕ) → table f i k ≡ map f (range i k)
-bytes-table f i zero = refl
-bytes-table f i (suc k) = ap (λ (l : List ℕ). f i ∷ l) (bytes-table f (suc i) k)
+events-table : (f : ℕ → ℕ) (i k : ℕ) → table f i k ≡ map f (range i k)
+events-table f i zero = refl
+events-table f i (suc k) = ap (λ (l : List ℕ). f i ∷ l) (events-table f (suc i) k)
 
 over-prefix : (vs zs w : List ℕ) → length zs ≡ length vs → over vs (zs ++ drop (length vs) w) ≡ over vs w
 over-prefix vs zs w e = ap (λ (l : List ℕ). vs ++ l) (drop-at zs (drop (length vs) w) (length vs) e)
@@ -128,11 +129,11 @@ over-prefix vs zs w e = ap (λ (l : List ℕ). vs ++ l) (drop-at zs (drop (lengt
 -- a list, its tables cut to their sizes, with k words of work; and what its windows leave
 abbrev ReadyOf : Lent → ℕ → ℕ → Type 0
 ReadyOf l p k =
-    ListReady (l .n) p (take (l .m) (l .a)) (take (l .m) (l .b)) (take (l .m) (l .start)) (take (l .t) (l .x)) (take (l .t) (l .y)) (l .answers) (take k (l .work))
+    ListReady (l .n) p (take (l .m) (l .a)) (take (l .m) (l .b)) (take (l .m) (l .start)) (take (l .t) (l .x)) (take (l .t) (l .y)) (l .answers) (l .names) (take k (l .work))
 
-abbrev RepliedOf : Lent → ℕ → List ℕ → ℕ → Type 0
+abbrev RepliedOf : Lent → ℕ → Written → ℕ → Type 0
 RepliedOf l p after kept =
-    ListReplied (l .n) p (take (l .m) (l .a)) (take (l .m) (l .b)) (take (l .m) (l .start)) (take (l .t) (l .x)) (take (l .t) (l .y)) (l .answers) after kept
+    ListReplied (l .n) p (take (l .m) (l .a)) (take (l .m) (l .b)) (take (l .m) (l .start)) (take (l .t) (l .x)) (take (l .t) (l .y)) (written (l .answers) (l .names)) after kept
 
 module _ (l : Lent) (p : ℕ) (f : Faultless l p) where
   pub granted : Accepted l p
@@ -161,6 +162,7 @@ module _ (l : Lent) (p : ℕ) (f : Faultless l p) where
         };
         share = granted .share;
         long = omega (arith, long-x, granted .answers-long);
+        names-long = omega (arith, long-x, granted .names-long);
         room = omega (arith, long-x, la);
       }
 
@@ -170,20 +172,28 @@ module _ (l : Lent) (p : ℕ) (f : Faultless l p) where
       sym (ap (λ (e : Event). e .0) (pairs-at (take (l .t) (l .x)) (take (l .t) (l .y)) i (omega (arith, long-x))
       (omega (arith, length-take-le (l .t) (l .y) (granted .y-long)))) ∙ getD-take (l .t) (l .x) i 0 u)
 
-  module _ {after : List ℕ} {kept′ : ℕ} (d : RepliedOf l p after kept′) where
-    replied : Replied (given l) 0 (l .t) p (l .answers) after kept′
+  module _ {after : Written} {kept′ : ℕ} (d : RepliedOf l p after kept′) where
+    replied : Replied (given l) 0 (l .t) p (written (l .answers) (l .names)) after kept′
     unfolding given
     replied = rw long-x at d
 
-    answers-is : after ≡ over (bytes (given l)) (l .answers)
+    -- a table with an entry for each event written over its first entries
+    table-is : (f : ℕ → ℕ) (before : List ℕ) → length (map f (range 0 (size (given l)))) ≤ length before
+        → sets before 0 (table f 0 (l .t)) ≡ over (map f (range 0 (size (given l)))) before
+    table-is f before h =
+        ap (λ (k : ℕ). sets before 0 (table f 0 k)) (sym (events-length l p granted)) ∙ ap (sets before 0) (events-table f 0 (size (given l)))
+        ∙ sets-over (map f (range 0 (size (given l)))) before h
+
+    answers-is : after .answers ≡ over (bytes (given l)) (l .answers)
     unfolding bytes
-    answers-is =
-        replied .answers ∙ ap (λ (k : ℕ). sets (l .answers) 0 (table (byte (given l)) 0 k)) (sym (events-length l p granted))
-        ∙ ap (sets (l .answers) 0) (bytes-table (byte (given l)) 0 (size (given l)))
-        ∙ sets-over (map (byte (given l)) (range 0 (size (given l)))) (l .answers) (omega (arith, bytes-length l p granted, granted .answers-long))
+    answers-is = replied .answers ∙ table-is (byte (given l)) (l .answers) (omega (arith, bytes-length l p granted, granted .answers-long))
+
+    names-is : after .names ≡ over (namesAt (given l)) (l .names)
+    unfolding namesAt
+    names-is = replied .names ∙ table-is (nameAt (given l)) (l .names) (omega (arith, names-length l p granted, granted .names-long))
 
     pub done-is : {cleared : List ℕ} (zs : List ℕ) (q o : ℕ) → q ≡ queriesBy (l .n) (l .x) (l .t) → o ≡ openAtEnd (given l) → length zs ≡ length (take need (l .work))
-        → cleared ≡ over (replicate need 0) (zs ++ drop need (l .work)) → outcome (Done (record { queries = q; «open» = o; kept = kept′ })) after cleared ≡ done l p
+        → cleared ≡ over (replicate need 0) (zs ++ drop need (l .work)) → outcome (Done (record { queries = q; «open» = o; kept = kept′ })) (after .answers) (after .names) cleared ≡ done l p
     unfolding done kept windows queries
     done-is {cleared} zs q o eq eo lz ew =
         let lr : length (replicate {A = ℕ} need 0) ≡ need = length-replicate need 0 in
@@ -191,7 +201,7 @@ module _ (l : Lent) (p : ℕ) (f : Faultless l p) where
         let e1 = eq ∙ queries-are ∙ ap (count (λ i. asks (event (given l) i)) 0) (sym (events-length l p granted)) in
         let e3 = replied .kept ∙ ap (λ (k : ℕ). sum (map (λ w. (small (given l) w) .nodes) (windowsFrom p k 0 k))) (sym (events-length l p granted)) in
         let e5 = ew ∙ ap (λ (k : ℕ). over (replicate need 0) (zs ++ drop k (l .work))) (sym lr) ∙ over-prefix (replicate need 0) zs (l .work) (lz ∙ lw ∙ sym lr) in
-        λ i. record { accepted = true; code = 0; place = 0; queries = e1 i; opened = eo i; kept = e3 i; answers = answers-is i; work = e5 i }
+        λ i. record { accepted = true; code = 0; place = 0; queries = e1 i; opened = eo i; kept = e3 i; answers = answers-is i; names = names-is i; work = e5 i }
 
 -- ---- the outcome
 abbrev Promise : Lent → ℕ → Outcome → Type 0
@@ -201,7 +211,7 @@ Promise l p r = (r ≡ replay l p) × KeepsDemand3 l p r
 promise : (l : Lent) (p : ℕ) (r : Outcome) → r ≡ replay l p → Promise l p r
 promise l p r e = (e, λ k q a b. demand-3 l k p q a b r (replay k q) e refl)
 
-pub refused-is : (l : Lent) (p : ℕ) {r : Checked} → CheckedTables l p r → 0 < r .code → Promise l p (outcome (Refused (r .code) (r .place)) (l .answers) (l .work))
+pub refused-is : (l : Lent) (p : ℕ) {r : Checked} → CheckedTables l p r → 0 < r .code → Promise l p (outcome (Refused (r .code) (r .place)) (l .answers) (l .names) (l .work))
 unfolding replay refused
 refused-is l p {r} c h = promise l p _ (ap (λ (f : Refusal). refused l f) (c .refusal)
     ∙ sym (ap (λ (b : Bool). elim b as (λ x. Outcome) [ true ↦ done l p | false ↦ refused l (fault l p) ])
@@ -225,10 +235,10 @@ module _ {l : Lent} {p : ℕ} {r : Checked} (c : CheckedTables l p r) (z : r .co
     pub list-ready : ReadyOf l p k
     list-ready = rw e (list-need l p (faultless c z))
 
-    module _ {after : List ℕ} {kept′ : ℕ} (d : RepliedOf l p after kept′) where
+    module _ {after : Written} {kept′ : ℕ} (d : RepliedOf l p after kept′) where
       pub replay-is : {cleared : List ℕ} (zs : List ℕ) (q : ℕ) → q ≡ queriesBy (l .n) (l .x) (l .t) → length zs ≡ length (take k (l .work))
           → cleared ≡ over (replicate k 0) (zs ++ drop k (l .work))
-          → Promise l p (outcome (Done (record { queries = q; «open» = r .«open»; kept = kept′ })) after cleared)
+          → Promise l p (outcome (Done (record { queries = q; «open» = r .«open»; kept = kept′ })) (after .answers) (after .names) cleared)
       replay-is zs q eq lz ew =
           let f = faultless c z in
           replayed l p _ f (done-is l p f d zs q (r .«open») eq (c .open-last f) (lz ∙ ap (λ (n : ℕ). length (take n (l .work))) e)

@@ -4,15 +4,16 @@ use Prim.Native.Nat.{_*_, _+_, _≤_, ℕ}
 use mathlib.Core.List.{List}
 use lib.ListN.{length}
 use Rattle.replay_events.specs.Writing.{CanWriteEvents, listOf}
-use Rattle.replay_windows.specs.Descent.{Replied}
+use Rattle.replay_windows.specs.Descent.{Replied, Written}
 use Rattle.theory_timeline.specs.DemandThree.{Allowed}
 
 -- a list without a fault, tables of just its sizes, and room
-pub record ListReady (n p : ℕ) (a b start x y answers work : List ℕ) : Type 0 where
+pub record ListReady (n p : ℕ) (a b start x y answers names work : List ℕ) : Type 0 where
   pub events : CanWriteEvents n a b start x y work
   pub share : Allowed p
   pub long : length x ≤ length answers
-  pub room : 148 * length x + 16 * n + 6 * length a ≤ length work
+  pub names-long : length x ≤ length names
+  pub room : 192 * length x + 16 * n + 8 * length a ≤ length work
 
-abbrev pub ListReplied : ℕ → ℕ → List ℕ → List ℕ → List ℕ → List ℕ → List ℕ → List ℕ → List ℕ → ℕ → Type 0
+abbrev pub ListReplied : ℕ → ℕ → List ℕ → List ℕ → List ℕ → List ℕ → List ℕ → Written → Written → ℕ → Type 0
 ListReplied n p a b start x y before after kept = Replied (listOf n a b start x y) 0 (length x) p before after kept

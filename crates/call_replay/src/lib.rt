@@ -20,14 +20,16 @@ pub fn replay(
     x: &[u16],
     y: &[u16],
     answers: &mut [u8],
+    names: &mut [u16],
     work: &mut [u32],
 ) -> ReplayReply
-    ensures { λ r. ⌜ outcome r (now (answers .exit)) (now (work .exit)) ≡ replay
-        (lent n m t (now (a .entry)) (now (b .entry)) (now (start .entry)) (now (x .entry)) (now (y .entry)) (now (answers .entry)) (now (work .entry))) p ⌝ }
+    ensures { λ r. ⌜ outcome r (now (answers .exit)) (now (names .exit)) (now (work .exit)) ≡ replay
+        (lent n m t (now (a .entry)) (now (b .entry)) (now (start .entry)) (now (x .entry)) (now (y .entry))
+        (now (answers .entry)) (now (names .entry)) (now (work .entry))) p ⌝ }
     ensures { λ r. ⌜ KeepsDemand3 (lent n m t (now (a .entry)) (now (b .entry)) (now (start .entry)) (now (x .entry)) (now (y .entry))
-        (now (answers .entry)) (now (work .entry))) p (outcome r (now (answers .exit)) (now (work .exit))) ⌝ }
+        (now (answers .entry)) (now (names .entry)) (now (work .entry))) p (outcome r (now (answers .exit)) (now (names .exit)) (now (work .exit))) ⌝ }
 {
-    let f = replay_checks::check(n, m, t, p, a, b, start, x, y, answers, work);
+    let f = replay_checks::check(n, m, t, p, a, b, start, x, y, answers, names, work);
     if f.code > 0 {
         return ReplayReply::Refused(f.code, f.place);
     }
@@ -41,6 +43,7 @@ pub fn replay(
         &x[..t],
         &y[..t],
         answers,
+        names,
         &mut work[..need],
     );
     let queries = replay_events::count_queries(n, x, t);

@@ -67,32 +67,32 @@ slice-aggregate-replay-list-5 c =
 
 slice-relend-prefix-replay-list : tie.Need-slice-relend-prefix-replay-list
 slice-relend-prefix-replay-list c =
-    let at-required = c .before .before .before .before .before .before in
+    let at-required = c .before .before .before .before .before .before .before in
     let checked = at-required .before in
     work-need (checked .before .before .check .ensures) (zero checked) _ (at-required .required .ensures)
 
 slice-aggregate-replay-list-6 : tie.Need-slice-aggregate-replay-list-6
 slice-aggregate-replay-list-6 c =
-    let at-required = c .before .before .before .before .before .before .before in
+    let at-required = c .before .before .before .before .before .before .before .before in
     let checked = at-required .before in
     sym (length-take-le _ _ (work-need (checked .before .before .check .ensures) (zero checked) _ (at-required .required .ensures)))
 
 replay-list-requires : tie.Need-replay-list-requires
 replay-list-requires c κs =
-    let at-required = c .before .before .before .before .before .before .before in
+    let at-required = c .before .before .before .before .before .before .before .before in
     let checked = at-required .before in
     list-ready (checked .before .before .check .ensures) (zero checked) _ (at-required .required .ensures)
 
 count-queries-requires : tie.Need-count-queries-requires
 count-queries-requires c κs =
-    let at-replay-list = c .before .before .before .before in
-    let checked = at-replay-list .before .before .before .before .before .before .before .before .before in
+    let at-replay-list = c .before .before .before .before .before .before in
+    let checked = at-replay-list .before .before .before .before .before .before .before .before .before .before in
     grants (checked .before .before .check .ensures) (zero checked) .x-long
 
 clear-requires : tie.Need-clear-requires
 clear-requires c κs =
-    let at-replay-list = c .before .before .before .before .before .before in
-    let at-required = at-replay-list .before .before .before .before .before .before .before .before in
+    let at-replay-list = c .before .before .before .before .before .before .before .before in
+    let at-required = at-replay-list .before .before .before .before .before .before .before .before .before in
     let checked = at-required .before in
     omega (arith, work-need (checked .before .before .check .ensures) (zero checked) _ (at-required .required .ensures))
 
@@ -100,18 +100,19 @@ returns-2 : tie.Need-returns-2
 returns-2 c =
     let at-clear = c .before .before in
     let at-count-queries = at-clear .before .before in
-    let at-replay-list = at-count-queries .before .before .before .before .before in
-    let at-required = at-replay-list .before .before .before .before .before .before .before .before in
+    let at-replay-list = at-count-queries .before .before .before .before .before .before .before in
+    let at-required = at-replay-list .before .before .before .before .before .before .before .before .before in
     let checked = at-required .before in
     let d = at-replay-list .replay-list in
     replay-is (checked .before .before .check .ensures) (zero checked) _ (at-required .required .ensures) (d .ensures)
-    (d .last .1 .1 .1 .1 .1 .1 .1 .1 .0) _ (at-count-queries .count-queries .ensures) (omega arith) (at-clear .clear .ensures)
+    (d .last .1 .1 .1 .1 .1 .1 .1 .1 .1 .0) _ (at-count-queries .count-queries .ensures) (omega arith) (at-clear .clear .ensures)
 
 pub replay-spec : {M : Type 1} → statement M
 replay-spec =
     tie.close
     (tie.spec
     (λ c κs. search needs)
+    (λ c. search needs)
     (λ c. search needs)
     (λ c. search needs)
     returns
@@ -126,6 +127,7 @@ replay-spec =
     replay-list-requires
     count-queries-requires
     clear-requires
+    (λ c. search needs)
     (λ c. search needs)
     (λ c. search needs)
     returns-2)
