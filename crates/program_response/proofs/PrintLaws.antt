@@ -64,6 +64,6 @@ replay-printed l p = onBool (eqb (fault l p .0) 0)
     let d : replay l p ≡ refused l (fault l p) = ap (λ (b : Bool). elim b as (λ x. Outcome) [ true ↦ done l p | false ↦ refused l (fault l p) ]) e in
     ap (printedOf (l .t)) d ∙ refused-printed l (fault l p) ∙ ap (printed l) (sym d))
 
-pub outcome-work : (r : ReplayReply) (answers work : List ℕ) → (outcome r answers work) .work ≡ work
-outcome-work (Done t) answers work = refl
-outcome-work (Refused c i) answers work = refl
+pub outcome-work : (r : ReplayReply) (answers names work : List ℕ) → (outcome r answers names work) .work ≡ work
+outcome-work (Done t) answers names work = refl
+outcome-work (Refused c i) answers names work = refl

@@ -76,28 +76,28 @@ module _ (I : List ℕ) where
 
     pub lent-input : (work : List ℕ) {a b start x y : List ℕ} → a ≡ take m (drop 4 (words16 I)) → b ≡ take m (drop (4 + m) (words16 I))
         → start ≡ take m (drop (4 + 2 * m) (words16 I)) → x ≡ take t (drop (4 + 3 * m) (words16 I)) → y ≡ take t (drop (4 + 3 * m + t) (words16 I))
-        → lent n m t a b start x y (replicate 32 0) work ≡ inputLent work I
+        → lent n m t a b start x y (replicate 32 0) (replicate 32 0) work ≡ inputLent work I
     unfolding inputLent
     lent-input work e f s g h =
-        (λ i. lent n m t (e i) (f i) (s i) (g i) (h i) (replicate 32 0) work)
+        (λ i. lent n m t (e i) (f i) (s i) (g i) (h i) (replicate 32 0) (replicate 32 0) work)
         ∙ (λ i. lent (r .junctions i) (r .segments i) (r .events i)
         (take (r .segments i) (drop 4 (words16 I))) (take (r .segments i) (drop (4 + r .segments i) (words16 I)))
         (take (r .segments i) (drop (4 + 2 * r .segments i) (words16 I)))
         (take (r .events i) (drop (4 + 3 * r .segments i) (words16 I))) (take (r .events i) (drop (4 + 3 * r .segments i + r .events i) (words16 I)))
-        (replicate 32 0) work)
+        (replicate 32 0) (replicate 32 0) work)
 
 -- ---- the reply
 -- to what an input lends: its print, and the work table
 pub replied : (I : List ℕ) {n m t : ℕ} (r : Read n m t I) (p : ℕ) (work : List ℕ) {a b start x y : List ℕ}
     → a ≡ take m (drop 4 (words16 I)) → b ≡ take m (drop (4 + m) (words16 I)) → start ≡ take m (drop (4 + 2 * m) (words16 I))
     → x ≡ take t (drop (4 + 3 * m) (words16 I)) → y ≡ take t (drop (4 + 3 * m + t) (words16 I))
-    → (reply : ReplayReply) (answers left : List ℕ) → outcome reply answers left ≡ replay (lent n m t a b start x y (replicate 32 0) work) p
-    → (printedOf t (outcome reply answers left) ≡ printed (inputLent work I) (replay (inputLent work I) p)) × (left ≡ (replay (inputLent work I) p) .work)
+    → (reply : ReplayReply) (answers names left : List ℕ) → outcome reply answers names left ≡ replay (lent n m t a b start x y (replicate 32 0) (replicate 32 0) work) p
+    → (printedOf t (outcome reply answers names left) ≡ printed (inputLent work I) (replay (inputLent work I) p)) × (left ≡ (replay (inputLent work I) p) .work)
 unfolding inputLent
-replied I {n} {m} {t} r p work ea eb es ex ey reply answers left e =
+replied I {n} {m} {t} r p work ea eb es ex ey reply answers names left e =
     let f = e ∙ ap (λ (l : Lent). replay l p) (lent-input I r work ea eb es ex ey) in (
       ap₂ printedOf (r .events) f ∙ replay-printed (inputLent work I) p,
-      sym (outcome-work reply answers left) ∙ ap (λ (o : Outcome). o .work) f,
+      sym (outcome-work reply answers names left) ∙ ap (λ (o : Outcome). o .work) f,
     )
 
 -- ---- where a line ends

@@ -17,7 +17,7 @@ pub(crate) fn put_reply(
     reply: theory_timeline::ReplayReply,
 ) -> usize
     requires { ⌜ (2048 ≤ length (now out)) × (t ≤ 32) × (t ≤ length (now answers)) ⌝ }
-    ensures { λ r. ⌜ ((work : List ℕ) → Wrote 0 (printedOf t (outcome reply (now (answers .entry)) work)) (now (out .entry)) (now (out .exit)) r)
+    ensures { λ r. ⌜ ((names work : List ℕ) → Wrote 0 (printedOf t (outcome reply (now (answers .entry)) names work)) (now (out .entry)) (now (out .exit)) r)
         × (r ≤ 2048) ⌝ }
 {
     match reply {
@@ -52,6 +52,8 @@ pub(crate) fn replay_input(
     let mut x = [0u16; 32];
     let mut y = [0u16; 32];
     let mut answers = [0u8; 32];
+    // Names are asked for by the replay and not printed.
+    let mut names = [0u16; 32];
     program_reading::fill(input, 4, m, &mut a);
     program_reading::fill(input, 4 + m, m, &mut b);
     program_reading::fill(input, 4 + 2 * m, m, &mut start);
@@ -68,6 +70,7 @@ pub(crate) fn replay_input(
         &x[..t],
         &y[..t],
         &mut answers,
+        &mut names,
         work,
     );
     put_reply(out, t, &answers, reply)

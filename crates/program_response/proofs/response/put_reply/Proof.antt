@@ -17,8 +17,8 @@ returns c =
     let a = at-reply .before .before .before .before .args in
     let totals = at-reply .reply .given .0 .0 in
     let w = at-queries .put-queries .ensures in (
-      λ work.
-          wrote-as (ap (λ (k : ReplayReply). printedOf (a .t) (outcome k (a .answers .now) work)) (sym (at-reply .reply .given .1)))
+      λ names work.
+          wrote-as (ap (λ (k : ReplayReply). printedOf (a .t) (outcome k (a .answers .now) names work)) (sym (at-reply .reply .given .1)))
           (wrote-then _ _ (w .0) (at-totals .put-totals .ensures)),
       omega (arith, at-totals .put-totals .ensures .next, w .1, totals-most (totals .queries) (totals .«open») (totals .kept)),
     )
@@ -29,8 +29,8 @@ returns-2 c =
     let at-reply = at-refused .before .before .before in
     let a = at-reply .before .before .before .before .args in
     let refusal = at-reply .reply2 .given .0 in (
-      λ work.
-          wrote-as (ap (λ (k : ReplayReply). printedOf (a .t) (outcome k (a .answers .now) work)) (sym (at-reply .reply2 .given .1)))
+      λ names work.
+          wrote-as (ap (λ (k : ReplayReply). printedOf (a .t) (outcome k (a .answers .now) names work)) (sym (at-reply .reply2 .given .1)))
           (at-refused .put-refused .ensures),
       omega (arith, at-refused .put-refused .ensures .next, refused-most (refusal .0) (refusal .1 .0)),
     )

@@ -41,16 +41,16 @@ slice-aggregate-replay-5 c =
 
 put-reply-requires : tie.Need-put-reply-requires
 put-reply-requires c κs =
-    let at-replay = c .before .before .before .before .before in
-    let at-fill = at-replay .before .before .before .before .before .before .before .before .before in
+    let at-replay = c .before .before .before .before .before .before in
+    let at-fill = at-replay .before .before .before .before .before .before .before .before .before .before in
     let start = at-fill .before .before .before .before .before .before .before .before .before .before .before .before .before .before .before .before .before in
     (start .pre .1, start .pre .0 .few-events, omega (arith, start .pre .0 .few-events))
 
 returns : tie.Need-returns
 returns c =
     let at-put = c .before .before in
-    let at-replay = at-put .before .before .before .before .before .before in
-    let at-y = at-replay .before .before .before .before .before .before .before .before .before in
+    let at-replay = at-put .before .before .before .before .before .before .before in
+    let at-y = at-replay .before .before .before .before .before .before .before .before .before .before in
     let at-x = at-y .before .before .before in
     let at-start = at-x .before .before .before in
     let at-b = at-start .before .before .before in
@@ -67,8 +67,8 @@ returns c =
     let x = table-is i r (4 + 3 * m) t _ _ (at-x .fill4 .ensures) (omega (arith, r .few-events)) (omega arith) in
     let y = table-is i r (4 + 3 * m + t) t _ _ (at-y .fill5 .ensures) (omega (arith, r .few-events)) (omega arith) in
     let reply = at-replay .replay .result in
-    let (print, left) = replied i r (start .args .p) (start .args .work .now) a b s x y reply (tables .0) (tables .1 .0) (at-replay .replay .ensures .0) in
-    ((wrote-as print (at-put .put-reply .ensures .0 (tables .1 .0)), at-put .put-reply .ensures .1), left)
+    let (print, left) = replied i r (start .args .p) (start .args .work .now) a b s x y reply (tables .0) (tables .1 .0) (tables .1 .1 .0) (at-replay .replay .ensures .0) in
+    ((wrote-as print (at-put .put-reply .ensures .0 (tables .1 .0) (tables .1 .1 .0)), at-put .put-reply .ensures .1), left)
 
 pub replay-input-spec : {M : Type 1} → statement M
 replay-input-spec =
@@ -102,6 +102,7 @@ replay-input-spec =
     slice-aggregate-replay-4
     (λ c. search needs)
     slice-aggregate-replay-5
+    (λ c. search needs)
     (λ c. search needs)
     (λ c κs. search needs)
     (λ c. search needs)
