@@ -21,15 +21,16 @@ fn enter_active(work: &mut [u32], n: usize, k: usize, active: &[u16]) -> usize
     d
 }
 
-// Puts the first m edges into the half-edges.
-fn put_edges(work: &mut [u32], n: usize, m: usize, from: &[u16], to: &[u16])
-    requires { ⌜ (n ≤ 65536) × (m ≤ 32768) × (16 * n + 4 * m ≤ length (now work)) × (m ≤ length (now from)) × (m ≤ length (now to)) ⌝ }
-    ensures { λ _. ⌜ Edges n m (now (from .entry)) (now (to .entry)) (now (work .entry)) (now (work .exit)) m ⌝ }
+// Puts the first m edges, with their names, into the half-edges.
+fn put_edges(work: &mut [u32], n: usize, m: usize, from: &[u16], to: &[u16], names: &[u16])
+    requires { ⌜ (n ≤ 65536) × (m ≤ 32768) × (16 * n + 6 * m ≤ length (now work)) × (m ≤ length (now from)) × (m ≤ length (now to)) × (m ≤ length (now names)) ⌝ }
+    ensures { λ _. ⌜ Edges n m (now (from .entry)) (now (to .entry)) (now (names .entry)) (now (work .entry)) (now (work .exit)) m ⌝ }
 {
     for s in 0..m {
         let a = from[s] as usize;
         let b = to[s] as usize;
-        core_loading::put_edge(work, n, s, a, b);
+        let c = names[s] as usize;
+        core_loading::put_edge(work, n, s, a, b, c);
     }
 }
 
@@ -41,14 +42,15 @@ pub fn load(
     k: usize,
     from: &[u16],
     to: &[u16],
+    names: &[u16],
     active: &[u16],
 ) -> usize
-    requires { ⌜ Loadable n m k (now from) (now to) (now active) (now work) ⌝ }
-    ensures { λ r. ⌜ Prepared n m k (now (from .entry)) (now (to .entry)) (now (active .entry)) (now (work .entry)) (now (work .exit)) r ⌝ }
+    requires { ⌜ Loadable n m k (now from) (now to) (now names) (now active) (now work) ⌝ }
+    ensures { λ r. ⌜ Prepared n m k (now (from .entry)) (now (to .entry)) (now (names .entry)) (now (active .entry)) (now (work .entry)) (now (work .exit)) r ⌝ }
 {
     core_words::clear_field(work, n, core_words::MARK, n);
     let d = enter_active(work, n, k, active);
-    put_edges(work, n, m, from, to);
+    put_edges(work, n, m, from, to, names);
     d
 }
 
@@ -64,7 +66,7 @@ pub fn fill_map(work: &[u32], n: usize, k: usize, active: &[u16], map: &mut [u16
     }
 }
 
-// Internal: field j of the first e nodes: an end of each edge.
+// Internal: field j of the first e nodes: an end of each edge, or its name.
 pub fn fill_ends(work: &[u32], e: usize, j: usize, out: &mut [u16])
     requires { ⌜ (16 * e ≤ length (now work)) × (e ≤ length (now out)) × (j < 16) × ((i : ℕ) → i < e → node j (now work) i < 65536) ⌝ }
     ensures { λ _. ⌜ now (out .exit) ≡ over (table (node j (now (work .entry))) 0 e) (now (out .entry)) ⌝ }
