@@ -12,7 +12,7 @@ module _ (l : Lent) {c p : ℕ} (e : (c, p) ≡ fault l) where
   code : c ≡ fault l .0
   code = ap (λ (f : Refusal). f .0) e
 
-  pub outcome-refused : ¬ (c ≡ 0) → outcome (Refused c p) (l .map) (l .outFrom) (l .outTo) (l .pieces) (l .work) ≡ contraction l
+  pub outcome-refused : ¬ (c ≡ 0) → outcome (Refused c p) (l .map) (l .outFrom) (l .outTo) (l .outNames) (l .pieces) (l .work) ≡ contraction l
   unfolding refused
   outcome-refused n = ap (refused l) e ∙ sym (contraction-refused l (λ z. n (code ∙ z)))
 

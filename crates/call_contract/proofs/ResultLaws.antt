@@ -1,87 +1,89 @@
--- From the words to the outcome: the small graph that the words hold is the contraction that the definition gives, and the tables filled from them are
--- those of the outcome.
+-- From the words to the outcome: the named small graph that the words hold is the contraction that the definition gives, with its names, and the tables
+-- filled from them are those of the outcome.
 -- Assumes nothing.
-use Prim.Native.Nat.{_*_, _<_, _≤_, zero, ℕ}
+use Prim.Native.Nat.{_*_, _+_, _<_, _≤_, zero, ℕ}
 use mathlib.Core.Bool.{true}
 use mathlib.Core.List.{List, List·Memᴰ, map}
 use mathlib.Core.Path.{_∙_, _≡_, ap, refl, subst, sym}
 use lib.Dec.{eqb, ltb}
 use lib.ListN.{getD, length, length-replicate, replicate}
 use native.Mathlib.Omega.{arith}
-use Rattle.theory_contraction.proofs.Acceptance.{Accepted, edges-below, entries-at, entries-below, entries-length, entries-table}
-use Rattle.theory_graph.proofs.ActiveLists.{canonical-repeats, in-firsts, small-repeats}
+use Rattle.theory_contraction.proofs.Acceptance.{Accepted, edges-below, entries-at, entries-below, entries-length, entries-table, named-plain}
+use Rattle.theory_graph.proofs.ActiveLists.{canonical-repeats, in-firsts}
 use Rattle.theory_graph.proofs.Pieces.{numbered-map}
 use Rattle.theory_graph.proofs.TableLaws.{over-equal, over-length, table-map}
 use Rattle.theory_graph.proofs.Lists.{map-equal, table-in, table-length, table-mem}
-use Rattle.theory_contraction.specs.Contraction.{Lent, done, edges, entries, required}
+use Rattle.theory_contraction.specs.Contraction.{Lent, done, edges, entries, namedEdges, required}
 use Rattle.contraction_tables.specs.Transfer.{CanNumber, Loadable, Prepared, TreesNumbered, rootsOf}
 use Rattle.call_contract.specs.Reply.{outcome}
 use Rattle.call_contract.specs.declared.ContractReply.the-variants.{Done}
 use Rattle.core_reduce.specs.Core.{Reduced, activeIn, edgesIn, edgesOut}
-use Rattle.theory_graph.proofs.Canonical.{the-one}
-use Rattle.theory_graph.proofs.CanonicalContraction.{contract-canon}
-use Rattle.theory_graph.proofs.ContractionIsSmall.{contract-small}
 use Rattle.theory_graph.proofs.EdgeCount.{small-edges-entries, small-edges-most}
 use Rattle.theory_graph.proofs.SmallGraphDefinition.{definition-small}
 use Rattle.theory_graph.proofs.SmallGraphs.{SmallGraph}
-use Rattle.theory_graph.proofs.Uniqueness.{nodes-same, places-same}
-use Rattle.theory_graph.specs.Contraction.{Contracted, contract, keptClasses}
+use Rattle.theory_graph.specs.Contraction.{Contracted, contract}
 use Rattle.theory_graph.specs.Graph.{Edge, joined}
 use Rattle.theory_graph.specs.Lists.{firsts, over, table}
 use Rattle.theory_graph.specs.Pieces.{numbered, pieces}
-use Rattle.theory_graph.specs.SmallGraph.{Canonical, IsSmallGraph, endsIn}
-use Rattle.core_words.specs.Fields.{ACTIVE, LOWER, MAPPED, ROOT, UPPER, node}
-
--- ---- the definition's contraction is the only small graph so numbered
-module _ (n : ℕ) (E : List Edge) (S : List ℕ) (wE : endsIn (λ v. ltb v n) E ≡ true) (wS : (a : ℕ) → List·Memᴰ a S → a < n)
-    (h : ℕ) (H : List Edge) (ρ σ : ℕ → ℕ) (g : SmallGraph E S h H ρ σ) (c : Canonical E S h ρ σ) where
-  the-nodes : h ≡ contract n E S .nodes
-  unfolding contract
-  the-nodes = nodes-same E S h H ρ σ g _ _ _ _ (contract-small n E S wE wS)
-
-  the-map : map σ S ≡ contract n E S .map
-  unfolding contract
-  the-map = places-same E S h H ρ σ g _ _ _ _ (contract-small n E S wE wS)
-
-  the-edges : H ≡ contract n E S .edges
-  unfolding contract
-  the-edges = go h the-nodes g c
-    where
-      go : (x : ℕ) → x ≡ length (keptClasses n E S) → SmallGraph E S x H ρ σ → Canonical E S x ρ σ → H ≡ contract n E S .edges
-      go x e g c = the-one E S (length (keptClasses n E S)) H ρ σ (rw e at g) (rw e at c) _ _ _ (contract-small n E S wE wS) (contract-canon n E S wE wS)
+use Rattle.theory_graph.specs.SmallGraph.{Canonical, endsIn}
+use Rattle.theory_names.proofs.NamedCanonical.{named-contraction-one}
+use Rattle.theory_names.proofs.NamedContraction.{contract-plain, named-small-repeats}
+use Rattle.theory_names.proofs.NamedCuts.{plain-in}
+use Rattle.theory_names.proofs.NamedSmallCuts.{named-small-sixteen}
+use Rattle.theory_names.specs.NamedSmallGraph.{IsNamedSmallGraph}
+use Rattle.theory_names.specs.Names.{Entry, Named, Sixteen, contractNamed, plain}
+use Rattle.core_words.specs.Fields.{ACTIVE, LOWER, MAPPED, NAME, NAMED, ROOT, TO, UPPER, half, node}
 
 -- ---- the call
 module _ (l : Lent) (s : Accepted l) where
-  pub loadable : Loadable (l .n) (l .m) (l .k) (l .from) (l .to) (l .active) (l .work)
+  pub loadable : Loadable (l .n) (l .m) (l .k) (l .from) (l .to) (l .names) (l .active) (l .work)
   loadable = record {
     few = omega (arith, s .within .nodes);
     much = omega (arith, s .within .edges);
     room = omega (arith, s .long .work-length);
     from-length = s .long .from-length;
     to-length = s .long .to-length;
+    names-length = s .long .names-length;
     active-length = s .long .active-length;
     ends = s .ends;
     entries = s .entries;
   }
 
-  module _ {d h e : ℕ} {w w₂ : List ℕ} (p : Prepared (l .n) (l .m) (l .k) (l .from) (l .to) (l .active) (l .work) w d) (r : Reduced (l .n) (l .m) d w w₂ h e) where
-    given-edges : edgesIn (l .n) (l .m) w ≡ edges l
-    unfolding edges
+  named-below : endsIn (λ v. ltb v (l .n)) (plain (namedEdges l)) ≡ true
+  named-below = ap (endsIn (λ v. ltb v (l .n))) (named-plain l s) ∙ edges-below l s
+
+  module _ {d h e : ℕ} {w w₂ : List ℕ} (p : Prepared (l .n) (l .m) (l .k) (l .from) (l .to) (l .names) (l .active) (l .work) w d) (r : Reduced (l .n) (l .m) d w w₂ h e) where
+    given-edges : edgesIn (l .n) (l .m) w ≡ namedEdges l
+    unfolding namedEdges edges
     given-edges = p .edges
+
+    given-plain : plain (edgesIn (l .n) (l .m) w) ≡ edges l
+    given-plain = ap plain given-edges ∙ named-plain l s
 
     given-active : activeIn d w ≡ firsts eqb (entries l)
     unfolding entries
     given-active = p .actives
 
-    small : SmallGraph (edges l) (entries l) h (edgesOut e w₂) (r .ρ) (r .σ)
-    small = small-repeats (entries l) (definition-small (edges l) (firsts eqb (entries l)) h (edgesOut e w₂) (r .ρ) (r .σ)
-        (subst (λ (E : List Edge). IsSmallGraph E (firsts eqb (entries l)) h (edgesOut e w₂) (r .ρ) (r .σ)) given-edges
-        (subst (λ (S : List ℕ). IsSmallGraph (edgesIn (l .n) (l .m) w) S h (edgesOut e w₂) (r .ρ) (r .σ)) given-active (r .small))))
+    small : IsNamedSmallGraph (namedEdges l) (entries l) h (edgesOut e w₂) (r .ρ) (r .σ)
+    small = named-small-repeats (namedEdges l) (entries l) h (edgesOut e w₂) (r .ρ) (r .σ)
+        (subst (λ (G : Named). IsNamedSmallGraph G (firsts eqb (entries l)) h (edgesOut e w₂) (r .ρ) (r .σ)) given-edges
+        (subst (λ (S : List ℕ). IsNamedSmallGraph (edgesIn (l .n) (l .m) w) S h (edgesOut e w₂) (r .ρ) (r .σ)) given-active (r .small)))
 
-    canonical : Canonical (edges l) (entries l) h (r .ρ) (r .σ)
+    canonical : Canonical (plain (namedEdges l)) (entries l) h (r .ρ) (r .σ)
     canonical = canonical-repeats (entries l)
-        (subst (λ (E : List Edge). Canonical E (firsts eqb (entries l)) h (r .ρ) (r .σ)) given-edges
-        (subst (λ (S : List ℕ). Canonical (edgesIn (l .n) (l .m) w) S h (r .ρ) (r .σ)) given-active (r .canonical)))
+        (subst (λ (G : Named). Canonical (plain G) (firsts eqb (entries l)) h (r .ρ) (r .σ)) given-edges
+        (subst (λ (S : List ℕ). Canonical (plain (edgesIn (l .n) (l .m) w)) S h (r .ρ) (r .σ)) given-active (r .canonical)))
+
+    -- without the names
+    graph : SmallGraph (plain (namedEdges l)) (entries l) h (plain (edgesOut e w₂)) (r .ρ) (r .σ)
+    graph = definition-small (plain (namedEdges l)) (entries l) h (plain (edgesOut e w₂)) (r .ρ) (r .σ) (small .small)
+
+    -- the names given are 16-bit numbers
+    given-sixteen : Sixteen (namedEdges l)
+    given-sixteen = subst Sixteen given-edges
+        (λ x k.
+        let (i, j, q) = table-mem (λ e. ((half (l .n) TO w (2 * e), half (l .n) TO w (2 * e + 1)), half (l .n) NAME w (2 * e))) 0 (l .m) x k in
+        rw q (omega (arith, p .loaded .names i (omega arith))))
 
     -- an entry is one of the different active nodes
     active-at : (a : ℕ) → List·Memᴰ a (entries l) → (i : ℕ) × (i < d) × (a ≡ node ACTIVE w i)
@@ -98,46 +100,78 @@ module _ (l : Lent) (s : Accepted l) where
     words-length = r .same ∙ p .same
 
     pub map-fits : (i : ℕ) → i < l .k → (getD (l .active) i 0 < l .n) × (node MAPPED w₂ (getD (l .active) i 0) < 65536)
-    map-fits i j = (s .entries i j, omega (arith, number-at (getD (l .active) i 0) (entries-at l s i j), small .place (getD (l .active) i 0) (entries-at l s i j) .0, r .less, s .within .nodes))
+    map-fits i j = (s .entries i j, omega (arith, number-at (getD (l .active) i 0) (entries-at l s i j), graph .place (getD (l .active) i 0) (entries-at l s i j) .0, r .less, s .within .nodes))
+
+    abbrev edgeOut : ℕ → Entry
+    edgeOut i = ((node LOWER w₂ i, node UPPER w₂ i), node NAMED w₂ i)
+
+    out-at : (i : ℕ) → i < e → List·Memᴰ (edgeOut i) (edgesOut e w₂)
+    out-at i j = table-in edgeOut 0 e i (omega arith) (omega arith)
 
     pub ends-fit : (i : ℕ) → i < e → (node LOWER w₂ i < 65536) × (node UPPER w₂ i < 65536)
     ends-fit i j =
-        let q = small .edge (node LOWER w₂ i) (node UPPER w₂ i) (table-in (λ j. (node LOWER w₂ j, node UPPER w₂ j)) 0 e i (omega arith) (omega arith)) in
+        let q = graph .edge (node LOWER w₂ i) (node UPPER w₂ i) (plain-in (out-at i j)) in
         (omega (arith, q .0, q .1, r .less, s .within .nodes), omega (arith, q .1, r .less, s .within .nodes))
 
-    edges-length : length (edgesOut e w₂) ≡ e
-    edges-length = table-length (λ j. (node LOWER w₂ j, node UPPER w₂ j)) 0 e
+    pub names-fit : (i : ℕ) → i < e → node NAMED w₂ i < 65536
+    names-fit i j = omega (arith, named-small-sixteen (namedEdges l) (entries l) h (edgesOut e w₂) (r .ρ) (r .σ) small given-sixteen (edgeOut i) (out-at i j))
+
+    plain-out : plain (edgesOut e w₂) ≡ table (λ j. (node LOWER w₂ j, node UPPER w₂ j)) 0 e
+    plain-out = table-map (λ (x : Entry). x .0) edgeOut 0 e
+
+    edges-length : length (plain (edgesOut e w₂)) ≡ e
+    edges-length = ap length plain-out ∙ table-length (λ j. (node LOWER w₂ j, node UPPER w₂ j)) 0 e
 
     pub edges-few : e ≤ l .n
-    edges-few = omega (arith, edges-length, small-edges-most (edges l) (entries l) h (edgesOut e w₂) (r .ρ) (r .σ) small, r .less)
+    edges-few = omega (arith, edges-length, small-edges-most (plain (namedEdges l)) (entries l) h (plain (edgesOut e w₂)) (r .ρ) (r .σ) graph, r .less)
 
     pub edges-room : e ≤ 2 * l .k
-    edges-room = omega (arith, edges-length, small-edges-entries (edges l) (entries l) h (edgesOut e w₂) (r .ρ) (r .σ) small, entries-length l s)
+    edges-room = omega (arith, edges-length, small-edges-entries (plain (namedEdges l)) (entries l) h (plain (edgesOut e w₂)) (r .ρ) (r .σ) graph, entries-length l s)
 
     -- ---- what they give
     abbrev result : Contracted
     result = contract (l .n) (edges l) (entries l)
 
+    abbrev named : Named
+    named = contractNamed (l .n) (namedEdges l) (entries l)
+
+    abbrev unnamed : Contracted
+    unnamed = contract (l .n) (plain (namedEdges l)) (entries l)
+
+    unnamed-is : unnamed ≡ result
+    unnamed-is = ap (λ (E : List Edge). contract (l .n) E (entries l)) (named-plain l s)
+
+    -- the definition's contraction is the only named small graph so numbered
+    the-one : (h ≡ unnamed .nodes) × (map (r .σ) (entries l) ≡ unnamed .map) × (edgesOut e w₂ ≡ named)
+    the-one = named-contraction-one (l .n) (namedEdges l) (entries l) named-below (entries-below l s) h (edgesOut e w₂) (r .ρ) (r .σ) small canonical
+
+    result-nodes : h ≡ result .nodes
+    result-nodes = the-one .0 ∙ ap (λ (c : Contracted). c .nodes) unnamed-is
+
     result-map : table (λ i. node MAPPED w₂ (getD (l .active) i 0)) 0 (l .k) ≡ result .map
     result-map =
         sym (table-map (node MAPPED w₂) (λ i. getD (l .active) i 0) 0 (l .k)) ∙ ap (map (node MAPPED w₂)) (sym (entries-table l s)) ∙ map-equal (node MAPPED w₂) (r .σ) (entries l) number-at
-        ∙ the-map (l .n) (edges l) (entries l) (edges-below l s) (entries-below l s) h (edgesOut e w₂) (r .ρ) (r .σ) small canonical
+        ∙ the-one .1
+        ∙ ap (λ (c : Contracted). c .map) unnamed-is
 
-    result-edges : edgesOut e w₂ ≡ result .edges
-    result-edges = the-edges (l .n) (edges l) (entries l) (edges-below l s) (entries-below l s) h (edgesOut e w₂) (r .ρ) (r .σ) small canonical
+    result-edges : plain (edgesOut e w₂) ≡ result .edges
+    result-edges = ap plain (the-one .2) ∙ contract-plain (l .n) (namedEdges l) (entries l) ∙ ap (λ (c : Contracted). c .edges) unnamed-is
 
     result-from : table (node LOWER w₂) 0 e ≡ map (λ (x : Edge). x .0) (result .edges)
-    result-from = sym (table-map (λ (x : Edge). x .0) (λ j. (node LOWER w₂ j, node UPPER w₂ j)) 0 e) ∙ ap (map (λ (x : Edge). x .0)) result-edges
+    result-from = sym (table-map (λ (x : Edge). x .0) (λ j. (node LOWER w₂ j, node UPPER w₂ j)) 0 e) ∙ ap (map (λ (x : Edge). x .0)) (sym plain-out ∙ result-edges)
 
     result-to : table (node UPPER w₂) 0 e ≡ map (λ (x : Edge). x .1) (result .edges)
-    result-to = sym (table-map (λ (x : Edge). x .1) (λ j. (node LOWER w₂ j, node UPPER w₂ j)) 0 e) ∙ ap (map (λ (x : Edge). x .1)) result-edges
+    result-to = sym (table-map (λ (x : Edge). x .1) (λ j. (node LOWER w₂ j, node UPPER w₂ j)) 0 e) ∙ ap (map (λ (x : Edge). x .1)) (sym plain-out ∙ result-edges)
+
+    result-names : table (node NAMED w₂) 0 e ≡ map (λ (x : Entry). x .1) named
+    result-names = sym (table-map (λ (x : Entry). x .1) edgeOut 0 e) ∙ ap (map (λ (x : Entry). x .1)) (the-one .2)
 
     -- ---- the pieces: one root just where joined
     root-joined : (a b : ℕ) → List·Memᴰ a (entries l) → List·Memᴰ b (entries l) → joined (edges l) a b ≡ eqb (node ROOT w₂ a) (node ROOT w₂ b)
     root-joined a b ma mb =
         let (i, li, ei) = active-at a ma in
         let (j, lj, ej) = active-at b mb in
-        rw (ei, ej) (ap (λ (E : List Edge). joined E (node ACTIVE w i) (node ACTIVE w j)) (sym given-edges) ∙ sym (r .pieces i j li lj))
+        rw (ei, ej) (ap (λ (E : List Edge). joined E (node ACTIVE w i) (node ACTIVE w j)) (sym given-plain) ∙ sym (r .pieces i j li lj))
 
     result-pieces : numbered eqb (rootsOf (l .k) (l .active) w₂) ≡ pieces (edges l) (entries l)
     unfolding pieces
@@ -168,26 +202,29 @@ module _ (l : Lent) (s : Accepted l) where
       result-work = over-equal (replicate (required (l .n) (l .m)) 0) w₃ (l .work) numbered-length
           (λ i j. let k = length-replicate (required (l .n) (l .m)) zero in f .past i (omega arith) ∙ r .past i (omega arith) ∙ p .past i (omega arith))
 
-      pub outcome-is : {mp lows highs w₄ : List ℕ} {k : ℕ}
+      pub outcome-is : {mp lows highs names w₄ : List ℕ} {k : ℕ}
           → mp ≡ over (table (λ i. node MAPPED w₂ (getD (l .active) i 0)) 0 (l .k)) (l .map)
           → lows ≡ over (table (node LOWER w₂) 0 e) (l .outFrom)
           → highs ≡ over (table (node UPPER w₂) 0 e) (l .outTo)
+          → names ≡ over (table (node NAMED w₂) 0 e) (l .outNames)
           → k ≡ required (l .n) (l .m) → w₄ ≡ over (replicate k 0) w₃
-          → outcome (Done h e) mp lows highs ps w₄ ≡ done l
+          → outcome (Done h e) mp lows highs names ps w₄ ≡ done l
       unfolding done
-      outcome-is a b c k g =
+      outcome-is a b c n k g =
           rw (
-            the-nodes (l .n) (edges l) (entries l) (edges-below l s) (entries-below l s) h (edgesOut e w₂) (r .ρ) (r .σ) small canonical,
+            result-nodes,
             sym edges-length ∙ ap length result-edges,
             a,
             b,
             c,
+            n,
             f .filled,
             g,
             k,
             result-map,
             result-from,
             result-to,
+            result-names,
             result-pieces,
             result-work,
           ) refl
