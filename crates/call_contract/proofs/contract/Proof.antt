@@ -1,12 +1,10 @@
 -- `contract` meets its contract.
 -- Assumes nothing.
-use mathlib.Core.Path.{_∙_, ap, sym}
 use native.Mathlib.Omega.{arith}
 use borrow.Author.Needs.{needs}
-use Rattle.call_contract.proofs.OutcomeLaws.{outcome-done, outcome-refused}
+use Rattle.call_contract.proofs.OutcomeLaws.{faultless, outcome-done, outcome-refused}
 use Rattle.call_contract.proofs.contract.Statement.{statement}
 use Rattle.theory_contraction.specs.Contraction.{Lent, lent}
-use Rattle.call_sizes.specs.Refusal.{Refusal}
 use Rattle.call_contract.proofs.contract.Tie as tie
 
 -- what the call was lent
@@ -24,7 +22,8 @@ returns c =
 contracted-requires : tie.Need-contracted-requires
 contracted-requires c κs =
     let at-first-fault = c .before .before .before .before .before .before .before .before in
-    sym (ap (λ (f : Refusal). f .0) (at-first-fault .first-fault .ensures)) ∙ omega arith
+    let start = at-first-fault .before .before .before .before .before .before .before .before .before .before .before .before .before .before .before .before .before in
+    faultless (given start) (at-first-fault .first-fault .ensures) (omega arith)
 
 returns-2 : tie.Need-returns-2
 returns-2 c =
