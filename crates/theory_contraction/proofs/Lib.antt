@@ -1,2 +1,3 @@
 pub mod Acceptance
 pub mod Pieces
+pub mod EdgeNames

@@ -19,12 +19,12 @@ use Rattle.theory_graph.specs.Pieces.{numbered, pieces}
 use Rattle.theory_graph.specs.SmallGraph.{inOrder}
 
 -- ---- lists
-over-take : (xs table : List ℕ) (k : ℕ) → k ≡ length xs → take k (over xs table) ≡ xs
+pub over-take : (xs table : List ℕ) (k : ℕ) → k ≡ length xs → take k (over xs table) ≡ xs
 over-take xs table k e = ap (λ (n : ℕ). take n (over xs table)) e ∙ take-append-seam xs (drop (length xs) table)
 
-pairs-ends : (E : List Edge) → pairs (map (λ (e : Edge). e .0) E) (map (λ (e : Edge). e .1) E) ≡ E
+pub pairs-ends : {A B : Type 0} (E : List (A × B)) → pairs (map (λ (e : A × B). e .0) E) (map (λ (e : A × B). e .1) E) ≡ E
 pairs-ends [] = refl
-pairs-ends (e ∷ E) = ap (λ (l : List Edge). e ∷ l) (pairs-ends E)
+pairs-ends (e ∷ E) = ap (λ l. e ∷ l) (pairs-ends E)
 
 -- ---- an example: edges 0-2 and 1-3; the entries 3, 0, 1, 2 meet the two pieces in turn, and node 3's is the first
 two-pieces : Lent
@@ -43,7 +43,7 @@ module _ (l : Lent) where
   abbrev numbers : List ℕ
   numbers = pieces (edges l) (entries l)
 
-  done-edges : smallEdges (done l) ≡ result .edges
+  pub done-edges : smallEdges (done l) ≡ result .edges
   unfolding smallEdges done
   done-edges =
       let H = result .edges in
@@ -67,7 +67,7 @@ module _ (l : Lent) where
     unfolding done
     piece-at i j = over-front numbers (l .pieces) i (omega (arith, numbers-count))
 
-    map-at : (i : ℕ) → i < l .k → getD (done l .map) i 0 ≡ getD (result .map) i 0
+    pub map-at : (i : ℕ) → i < l .k → getD (done l .map) i 0 ≡ getD (result .map) i 0
     unfolding done
     map-at i j =
         over-front (result .map) (l .map) i
