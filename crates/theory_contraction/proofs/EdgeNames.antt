@@ -3,29 +3,38 @@
 -- Assumes nothing.
 use Prim.Native.Nat.{_*_, _<_, _≤_, ℕ}
 use mathlib.Core.Bool.{true}
-use mathlib.Core.List.{List, List·Memᴰ, [], append-nil, map}
+use mathlib.Core.List.{List, List·Memᴰ, [], _∷_, append-nil, map}
 use mathlib.Core.Path.{_∙_, _≡_, ap, ap₂, refl, subst, sym}
 use lib.Dec.{ltb}
-use lib.ListN.{getD, length, length-map, take}
+use lib.ListN.{getD, length, length-map, replicate, take}
 use native.Mathlib.Omega.{arith}
 use Rattle.theory_contraction.proofs.Acceptance.{Accepted, accepted-faultless, contraction-done, edges-below, entries-at, entries-below, entries-length, entries-table}
 use Rattle.theory_contraction.proofs.Acceptance.{named-plain, sound}
 use Rattle.theory_contraction.proofs.Pieces.{done-edges, map-at, over-take, pairs-ends}
-use Rattle.theory_contraction.specs.Contraction.{Lent, contraction, done, edges, entries, namedEdges}
+use Rattle.theory_contraction.specs.Contraction.{Lent, contraction, done, edges, entries, fault, faults, lent, namedEdges, required}
 use Rattle.theory_contraction.specs.EdgeNames.{NamesTell, classOf, smallNamed}
 use Rattle.theory_contraction.specs.Pieces.{smallEdges}
 use Rattle.theory_graph.proofs.EdgeCount.{small-edges-entries}
 use Rattle.theory_graph.proofs.SmallGraphDefinition.{definition-small}
 use Rattle.theory_graph.proofs.TableLaws.{over-length, over-past, table-getD, table-map}
-use Rattle.theory_graph.specs.Contraction.{Contracted, contract, number}
-use Rattle.theory_graph.specs.Graph.{Edge}
+use Rattle.theory_graph.specs.Contraction.{Contracted, contract, kept, keptClasses, linked, number, parts, third, without}
+use Rattle.theory_graph.specs.Graph.{Edge, answer, joined, removals, rep, twoEdge}
 use Rattle.theory_graph.specs.Lists.{pairs}
 use Rattle.theory_graph.specs.SmallGraph.{endsIn}
 use Rattle.theory_names.proofs.NamedContraction.{contract-is-named-small, contract-map, contract-plain}
 use Rattle.theory_names.proofs.NamedTransfer.{small-transfer}
 use Rattle.theory_names.proofs.Trails.{edge-trail}
 use Rattle.theory_names.specs.NamedSmallGraph.{IsNamedSmallGraph}
-use Rattle.theory_names.specs.Names.{Entry, Named, contractNamed, hangs, plain}
+use Rattle.theory_names.specs.Names.{Entry, Named, classNode, contractNamed, hangs, plain}
+
+-- ---- an example: edges 0-1, 1-2, 2-1 and 2-3 with the names 7, 2, 4 and 5; the loss of one edge between 1 and 2 parts nothing, so that 0 and 3 hang on 5
+spliced : Lent
+spliced =
+    lent 4 4 2 (0 ∷ 1 ∷ 2 ∷ 2 ∷ []) (1 ∷ 2 ∷ 1 ∷ 3 ∷ []) (7 ∷ 2 ∷ 4 ∷ 5 ∷ []) (0 ∷ 3 ∷ []) (replicate 2 9) (replicate 4 9) (replicate 4 9) (replicate 4 9) (replicate 2 9) (replicate (required 4 4) 7)
+
+example : contraction spliced .outNames ≡ 5 ∷ 9 ∷ 9 ∷ 9 ∷ []
+unfolding spliced contraction fault faults done edges namedEdges entries contractNamed classNode hangs answer contract keptClasses kept parts without linked third twoEdge removals joined rep
+example = refl
 
 -- ---- every accepted contraction
 module _ (l : Lent) (s : Accepted l) where
@@ -90,7 +99,7 @@ module _ (l : Lent) (s : Accepted l) where
     length-map named (λ (e : Entry). e .1),
     length-map named (λ (e : Entry). e .0),
     small-edges-entries (plain given) (entries l) (unnamed .nodes) (plain named) (classOf l) numberOf
-    (definition-small (plain given) (entries l) (unnamed .nodes) (plain named) (classOf l) numberOf (small .small)),
+        (definition-small (plain given) (entries l) (unnamed .nodes) (plain named) (classOf l) numberOf (small .small)),
     entries-length l s,
     s .long .out-names-length,
   )
