@@ -2,13 +2,13 @@
 -- filled from them are those of the outcome.
 -- Assumes nothing.
 use Prim.Native.Nat.{_*_, _+_, _<_, _≤_, zero, ℕ}
-use mathlib.Core.Bool.{true}
 use mathlib.Core.List.{List, List·Memᴰ, map}
 use mathlib.Core.Path.{_∙_, _≡_, ap, refl, subst, sym}
-use lib.Dec.{eqb, ltb}
+use lib.Dec.{eqb}
 use lib.ListN.{getD, length, length-replicate, replicate}
 use native.Mathlib.Omega.{arith}
-use Rattle.theory_contraction.proofs.Acceptance.{Accepted, edges-below, entries-at, entries-below, entries-length, entries-table, named-plain}
+use Rattle.theory_contraction.proofs.Acceptance.{Accepted, entries-at, entries-below, entries-length, entries-table, named-below, named-contract}
+use Rattle.theory_contraction.proofs.Acceptance.{named-contract-edges, named-plain}
 use Rattle.theory_graph.proofs.ActiveLists.{canonical-repeats, in-firsts}
 use Rattle.theory_graph.proofs.Pieces.{numbered-map}
 use Rattle.theory_graph.proofs.TableLaws.{over-equal, over-length, table-map}
@@ -25,9 +25,9 @@ use Rattle.theory_graph.specs.Contraction.{Contracted, contract}
 use Rattle.theory_graph.specs.Graph.{Edge, joined}
 use Rattle.theory_graph.specs.Lists.{firsts, over, table}
 use Rattle.theory_graph.specs.Pieces.{numbered, pieces}
-use Rattle.theory_graph.specs.SmallGraph.{Canonical, endsIn}
+use Rattle.theory_graph.specs.SmallGraph.{Canonical}
 use Rattle.theory_names.proofs.NamedCanonical.{named-contraction-one}
-use Rattle.theory_names.proofs.NamedContraction.{contract-plain, named-small-repeats}
+use Rattle.theory_names.proofs.NamedContraction.{named-small-repeats}
 use Rattle.theory_names.proofs.NamedCuts.{plain-in}
 use Rattle.theory_names.proofs.NamedSmallCuts.{named-small-sixteen}
 use Rattle.theory_names.specs.NamedSmallGraph.{IsNamedSmallGraph}
@@ -48,9 +48,6 @@ module _ (l : Lent) (s : Accepted l) where
     ends = s .ends;
     entries = s .entries;
   }
-
-  named-below : endsIn (λ v. ltb v (l .n)) (plain (namedEdges l)) ≡ true
-  named-below = ap (endsIn (λ v. ltb v (l .n))) (named-plain l s) ∙ edges-below l s
 
   module _ {d h e : ℕ} {w w₂ : List ℕ} (p : Prepared (l .n) (l .m) (l .k) (l .from) (l .to) (l .names) (l .active) (l .work) w d) (r : Reduced (l .n) (l .m) d w w₂ h e) where
     given-edges : edgesIn (l .n) (l .m) w ≡ namedEdges l
@@ -138,24 +135,21 @@ module _ (l : Lent) (s : Accepted l) where
     abbrev unnamed : Contracted
     unnamed = contract (l .n) (plain (namedEdges l)) (entries l)
 
-    unnamed-is : unnamed ≡ result
-    unnamed-is = ap (λ (E : List Edge). contract (l .n) E (entries l)) (named-plain l s)
-
     -- the definition's contraction is the only named small graph so numbered
     the-one : (h ≡ unnamed .nodes) × (map (r .σ) (entries l) ≡ unnamed .map) × (edgesOut e w₂ ≡ named)
-    the-one = named-contraction-one (l .n) (namedEdges l) (entries l) named-below (entries-below l s) h (edgesOut e w₂) (r .ρ) (r .σ) small canonical
+    the-one = named-contraction-one (l .n) (namedEdges l) (entries l) (named-below l s) (entries-below l s) h (edgesOut e w₂) (r .ρ) (r .σ) small canonical
 
     result-nodes : h ≡ result .nodes
-    result-nodes = the-one .0 ∙ ap (λ (c : Contracted). c .nodes) unnamed-is
+    result-nodes = the-one .0 ∙ ap (λ (c : Contracted). c .nodes) (named-contract l s)
 
     result-map : table (λ i. node MAPPED w₂ (getD (l .active) i 0)) 0 (l .k) ≡ result .map
     result-map =
         sym (table-map (node MAPPED w₂) (λ i. getD (l .active) i 0) 0 (l .k)) ∙ ap (map (node MAPPED w₂)) (sym (entries-table l s)) ∙ map-equal (node MAPPED w₂) (r .σ) (entries l) number-at
         ∙ the-one .1
-        ∙ ap (λ (c : Contracted). c .map) unnamed-is
+        ∙ ap (λ (c : Contracted). c .map) (named-contract l s)
 
     result-edges : plain (edgesOut e w₂) ≡ result .edges
-    result-edges = ap plain (the-one .2) ∙ contract-plain (l .n) (namedEdges l) (entries l) ∙ ap (λ (c : Contracted). c .edges) unnamed-is
+    result-edges = ap plain (the-one .2) ∙ named-contract-edges l s
 
     result-from : table (node LOWER w₂) 0 e ≡ map (λ (x : Edge). x .0) (result .edges)
     result-from = sym (table-map (λ (x : Edge). x .0) (λ j. (node LOWER w₂ j, node UPPER w₂ j)) 0 e) ∙ ap (map (λ (x : Edge). x .0)) (sym plain-out ∙ result-edges)

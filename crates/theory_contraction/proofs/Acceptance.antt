@@ -17,9 +17,12 @@ use Rattle.theory_contraction.specs.Contraction.{shortTables, tableLengt
 use Rattle.theory_graph.proofs.Booleans.{contradict, onBool, or-neither}
 use Rattle.theory_graph.proofs.Lists.{table-in, table-length, table-mem}
 use Rattle.theory_graph.proofs.TableLaws.{pairs-first, pairs-table, take-table}
+use Rattle.theory_graph.specs.Contraction.{Contracted, contract}
+use Rattle.theory_graph.specs.Graph.{Edge}
 use Rattle.theory_graph.specs.Lists.{table}
 use Rattle.theory_graph.specs.SmallGraph.{endsIn}
-use Rattle.theory_names.specs.Names.{plain}
+use Rattle.theory_names.proofs.NamedContraction.{contract-plain}
+use Rattle.theory_names.specs.Names.{contractNamed, plain}
 
 -- ---- the rows of the call
 -- what the sizes' check leaves
@@ -134,6 +137,16 @@ module _ (l : Lent) (s : Accepted l) where
   named-plain = pairs-first (edges l) (take (l .m) (l .names))
       (ap length (pairs-table (l .m) (l .from) (l .to) (s .long .from-length) (s .long .to-length)) ∙ table-length (λ e. (getD (l .from) e 0, getD (l .to) e 0)) 0 (l .m)
       ∙ sym (length-take-le (l .m) (l .names) (s .long .names-length)))
+
+  pub named-below : endsIn (λ v. ltb v (l .n)) (plain (namedEdges l)) ≡ true
+  named-below = ap (endsIn (λ v. ltb v (l .n))) named-plain ∙ edges-below
+
+  -- so that their contraction, without the names, is that of the edges
+  pub named-contract : contract (l .n) (plain (namedEdges l)) (entries l) ≡ contract (l .n) (edges l) (entries l)
+  named-contract = ap (λ (E : List Edge). contract (l .n) E (entries l)) named-plain
+
+  pub named-contract-edges : plain (contractNamed (l .n) (namedEdges l) (entries l)) ≡ contract (l .n) (edges l) (entries l) .edges
+  named-contract-edges = contract-plain (l .n) (namedEdges l) (entries l) ∙ ap (λ (c : Contracted). c .edges) named-contract
 
   pub entries-table : entries l ≡ table (λ i. getD (l .active) i 0) 0 (l .k)
   unfolding entries

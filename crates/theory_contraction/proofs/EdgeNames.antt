@@ -1,27 +1,24 @@
 -- Document 02, No. 5, of every accepted contraction: each edge of the small graph has the smallest name along the route that it stands for, and two entries
 -- hang on the same name in the graph given and, by the map, in the small one.
 -- Assumes nothing.
-use Prim.Native.Nat.{_*_, _<_, _≤_, ℕ}
+use Prim.Native.Nat.{_<_, _≤_, ℕ}
 use mathlib.Core.Bool.{true}
 use mathlib.Core.List.{List, List·Memᴰ, [], _∷_, append-nil, map}
 use mathlib.Core.Path.{_∙_, _≡_, ap, ap₂, refl, subst, sym}
-use lib.Dec.{ltb}
 use lib.ListN.{getD, length, length-map, replicate, take}
 use native.Mathlib.Omega.{arith}
-use Rattle.theory_contraction.proofs.Acceptance.{Accepted, accepted-faultless, contraction-done, edges-below, entries-at, entries-below, entries-length, entries-table}
-use Rattle.theory_contraction.proofs.Acceptance.{named-plain, sound}
+use Rattle.theory_contraction.proofs.Acceptance.{Accepted, accepted-faultless, contraction-done, entries-at, entries-below, entries-length, entries-table}
+use Rattle.theory_contraction.proofs.Acceptance.{named-below, named-contract, named-contract-edges, sound}
 use Rattle.theory_contraction.proofs.Pieces.{done-edges, map-at, over-take, pairs-ends}
 use Rattle.theory_contraction.specs.Contraction.{Lent, contraction, done, edges, entries, fault, faults, lent, namedEdges, required}
 use Rattle.theory_contraction.specs.EdgeNames.{NamesTell, classOf, smallNamed}
-use Rattle.theory_contraction.specs.Pieces.{smallEdges}
 use Rattle.theory_graph.proofs.EdgeCount.{small-edges-entries}
 use Rattle.theory_graph.proofs.SmallGraphDefinition.{definition-small}
 use Rattle.theory_graph.proofs.TableLaws.{over-length, over-past, table-getD, table-map}
 use Rattle.theory_graph.specs.Contraction.{Contracted, contract, kept, keptClasses, linked, number, parts, third, without}
-use Rattle.theory_graph.specs.Graph.{Edge, answer, joined, removals, rep, twoEdge}
+use Rattle.theory_graph.specs.Graph.{answer, joined, removals, rep, twoEdge}
 use Rattle.theory_graph.specs.Lists.{pairs}
-use Rattle.theory_graph.specs.SmallGraph.{endsIn}
-use Rattle.theory_names.proofs.NamedContraction.{contract-is-named-small, contract-map, contract-plain}
+use Rattle.theory_names.proofs.NamedContraction.{contract-is-named-small, contract-map}
 use Rattle.theory_names.proofs.NamedTransfer.{small-transfer}
 use Rattle.theory_names.proofs.Trails.{edge-trail}
 use Rattle.theory_names.specs.NamedSmallGraph.{IsNamedSmallGraph}
@@ -52,21 +49,15 @@ module _ (l : Lent) (s : Accepted l) where
   numberOf = number (l .n) (plain given) (entries l)
 
   small : IsNamedSmallGraph given (entries l) (unnamed .nodes) named (classOf l) numberOf
-  small = contract-is-named-small (l .n) given (entries l) (ap (endsIn (λ v. ltb v (l .n))) (named-plain l s) ∙ edges-below l s) (entries-below l s)
-
-  unnamed-is : unnamed ≡ contract (l .n) (edges l) (entries l)
-  unnamed-is = ap (λ (E : List Edge). contract (l .n) E (entries l)) (named-plain l s)
+  small = contract-is-named-small (l .n) given (entries l) (named-below l s) (entries-below l s)
 
   -- ---- the tables hold the contraction with names
-  plain-named : plain named ≡ contract (l .n) (edges l) (entries l) .edges
-  plain-named = contract-plain (l .n) given (entries l) ∙ ap (λ (c : Contracted). c .edges) unnamed-is
-
   abbrev names : List ℕ
   names = map (λ (e : Entry). e .1) named
 
   names-count : length names ≡ done l .edges
   unfolding done
-  names-count = length-map named (λ (e : Entry). e .1) ∙ sym (length-map named (λ (e : Entry). e .0)) ∙ ap length plain-named
+  names-count = length-map named (λ (e : Entry). e .1) ∙ sym (length-map named (λ (e : Entry). e .0)) ∙ ap length (named-contract-edges l s)
 
   names-taken : take (done l .edges) (done l .outNames) ≡ names
   unfolding done
@@ -74,13 +65,13 @@ module _ (l : Lent) (s : Accepted l) where
 
   done-named : smallNamed (done l) ≡ named
   unfolding smallNamed
-  done-named = ap₂ pairs (done-edges l ∙ sym plain-named) names-taken ∙ pairs-ends named
+  done-named = ap₂ pairs (done-edges l ∙ sym (named-contract-edges l s)) names-taken ∙ pairs-ends named
 
   -- ---- what the map gives an entry is the number of its class
   number-at : (i : ℕ) → i < l .k → getD (done l .map) i 0 ≡ numberOf (getD (l .active) i 0)
   number-at i j =
       map-at l s i j
-      ∙ ap (λ (c : Contracted). getD (c .map) i 0) (sym unnamed-is)
+      ∙ ap (λ (c : Contracted). getD (c .map) i 0) (sym (named-contract l s))
       ∙ ap (λ (xs : List ℕ). getD xs i 0)
       (contract-map (l .n) given (entries l) ∙ ap (map numberOf) (entries-table l s) ∙ table-map numberOf (λ i. getD (l .active) i 0) 0 (l .k))
       ∙ table-getD (λ i. numberOf (getD (l .active) i 0)) (l .k) i j
@@ -117,7 +108,7 @@ module _ (l : Lent) (s : Accepted l) where
 
   done-names-tell : NamesTell l (done l)
   done-names-tell = record {
-    edges = ap plain done-named ∙ plain-named ∙ sym (done-edges l);
+    edges = ap plain done-named ∙ named-contract-edges l s ∙ sym (done-edges l);
     parts = λ e m. small .name (e .0 .0) (e .0 .1) (e .1) (in-named e m);
     along = λ e m T t. edge-trail given (entries l) (unnamed .nodes) named (classOf l) numberOf small (e .0 .0) (e .0 .1) (e .1) (in-named e m) T t;
     same = λ i j li lj. rw (number-at i li, number-at j lj, done-named)
