@@ -66,18 +66,18 @@ contract-told : (l : contraction.Lent) → contraction.contraction l .accepted �
 unfolding contraction.contraction contraction.done contraction.refused
 contract-told l = onBool (eqb (contraction.fault l .0) 0) (λ h. rw (contraction.contraction, h) refl) (λ h. rw (contraction.contraction, h) (sym h))
 
-module _ (l : contraction.Lent) (map outFrom outTo pieces work : List ℕ) {r : ContractReply}
-    (e : contracting.outcome r map outFrom outTo pieces work ≡ contraction.contraction l) where
+module _ (l : contraction.Lent) (map outFrom outTo outNames pieces work : List ℕ) {r : ContractReply}
+    (e : contracting.outcome r map outFrom outTo outNames pieces work ≡ contraction.contraction l) where
   pub contract-done : {nodes edges : ℕ} → r ≡ contracts.Done nodes edges →
-      contractedOf record { code = 0; place = 0; nodes = nodes; edges = edges } map outFrom outTo pieces work ≡ contraction.contraction l
-  contract-done g = ap (λ (r : ContractReply). contracting.outcome r map outFrom outTo pieces work) (sym g) ∙ e
+      contractedOf record { code = 0; place = 0; nodes = nodes; edges = edges } map outFrom outTo outNames pieces work ≡ contraction.contraction l
+  contract-done g = ap (λ (r : ContractReply). contracting.outcome r map outFrom outTo outNames pieces work) (sym g) ∙ e
 
   pub contract-refused : {c i : ℕ} → r ≡ contracts.Refused c i →
-      contractedOf record { code = c; place = i; nodes = 0; edges = 0 } map outFrom outTo pieces work ≡ contraction.contraction l
+      contractedOf record { code = c; place = i; nodes = 0; edges = 0 } map outFrom outTo outNames pieces work ≡ contraction.contraction l
   contract-refused {c} {i} g =
-      let says : contracting.outcome (contracts.Refused c i) map outFrom outTo pieces work ≡ contraction.contraction l =
-      ap (λ (r : ContractReply). contracting.outcome r map outFrom outTo pieces work) (sym g) ∙ e in
-      ap (λ (b : Bool). record { accepted = b; code = c; place = i; nodes = 0; edges = 0; map = map; outFrom = outFrom; outTo = outTo; pieces = pieces; work = work })
+      let says : contracting.outcome (contracts.Refused c i) map outFrom outTo outNames pieces work ≡ contraction.contraction l =
+      ap (λ (r : ContractReply). contracting.outcome r map outFrom outTo outNames pieces work) (sym g) ∙ e in
+      ap (λ (b : Bool). record { accepted = b; code = c; place = i; nodes = 0; edges = 0; map = map; outFrom = outFrom; outTo = outTo; outNames = outNames; pieces = pieces; work = work })
       (refusal-code (λ (o : contraction.Outcome). o .accepted) (λ (o : contraction.Outcome). o .code) says (contract-told l)) ∙ says
 
 -- ---- the replay
@@ -86,17 +86,17 @@ replay-told : (l : timeline.Lent) (p : ℕ) → timeline.replay l p .accepted �
 unfolding timeline.replay timeline.done timeline.refused
 replay-told l p = onBool (eqb (timeline.fault l p .0) 0) (λ h. rw (timeline.replay, h) refl) (λ h. rw (timeline.replay, h) (sym h))
 
-module _ (l : timeline.Lent) (p : ℕ) (answers work : List ℕ) {r : ReplayReply} (e : replaying.outcome r answers work ≡ timeline.replay l p) where
+module _ (l : timeline.Lent) (p : ℕ) (answers names work : List ℕ) {r : ReplayReply} (e : replaying.outcome r answers names work ≡ timeline.replay l p) where
   pub replay-done : {s : Totals} → r ≡ replays.Done s →
-      replayedOf record { code = 0; place = 0; queries = s .queries; «open» = s .«open»; kept = s .kept } answers work ≡ timeline.replay l p
-  replay-done g = ap (λ (r : ReplayReply). replaying.outcome r answers work) (sym g) ∙ e
+      replayedOf record { code = 0; place = 0; queries = s .queries; «open» = s .«open»; kept = s .kept } answers names work ≡ timeline.replay l p
+  replay-done g = ap (λ (r : ReplayReply). replaying.outcome r answers names work) (sym g) ∙ e
 
   pub replay-refused : {c i : ℕ} → r ≡ replays.Refused c i →
-      replayedOf record { code = c; place = i; queries = 0; «open» = 0; kept = 0 } answers work ≡ timeline.replay l p
+      replayedOf record { code = c; place = i; queries = 0; «open» = 0; kept = 0 } answers names work ≡ timeline.replay l p
   replay-refused {c} {i} g =
-      let says : replaying.outcome (replays.Refused c i) answers work ≡ timeline.replay l p =
-      ap (λ (r : ReplayReply). replaying.outcome r answers work) (sym g) ∙ e in
-      ap (λ (b : Bool). record { accepted = b; code = c; place = i; queries = 0; opened = 0; kept = 0; answers = answers; work = work })
+      let says : replaying.outcome (replays.Refused c i) answers names work ≡ timeline.replay l p =
+      ap (λ (r : ReplayReply). replaying.outcome r answers names work) (sym g) ∙ e in
+      ap (λ (b : Bool). record { accepted = b; code = c; place = i; queries = 0; opened = 0; kept = 0; answers = answers; names = names; work = work })
       (refusal-code (λ (o : timeline.Outcome). o .accepted) (λ (o : timeline.Outcome). o .code) says (replay-told l p)) ∙ says
 
 -- ---- the reader's part is as many bytes from the table's start as it is long

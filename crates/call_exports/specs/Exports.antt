@@ -24,8 +24,8 @@ abbrev pub checkNumberOf : LumCheckNumberReply → CheckNumberOutcome
 checkNumberOf r = record { accepted = eqb (r .code) 0; code = r .code; place = r .place; number = r .number }
 
 -- with the tables that may be written as they are afterwards
-abbrev pub contractedOf : LumContractReply → List ℕ → List ℕ → List ℕ → List ℕ → List ℕ → contraction.Outcome
-contractedOf r map outFrom outTo pieces work =
+abbrev pub contractedOf : LumContractReply → List ℕ → List ℕ → List ℕ → List ℕ → List ℕ → List ℕ → contraction.Outcome
+contractedOf r map outFrom outTo outNames pieces work =
     record {
       accepted = eqb (r .code) 0;
       code = r .code;
@@ -35,12 +35,13 @@ contractedOf r map outFrom outTo pieces work =
       map = map;
       outFrom = outFrom;
       outTo = outTo;
+      outNames = outNames;
       pieces = pieces;
       work = work;
     }
 
-abbrev pub replayedOf : LumReplayReply → List ℕ → List ℕ → timeline.Outcome
-replayedOf r answers work =
+abbrev pub replayedOf : LumReplayReply → List ℕ → List ℕ → List ℕ → timeline.Outcome
+replayedOf r answers names work =
     record {
       accepted = eqb (r .code) 0;
       code = r .code;
@@ -49,31 +50,33 @@ replayedOf r answers work =
       opened = r .«open»;
       kept = r .kept;
       answers = answers;
+      names = names;
       work = work;
     }
 
 -- ---- what a struct lends
 abbrev pub contractLent : LumContractLent → contraction.Lent
 contractLent l =
-    contraction.lent (l .n) (l .m) (l .k) (now (l .from)) (now (l .to)) (now (l .active))
-    (now (l .map)) (now (l .«out_from»)) (now (l .«out_to»)) (now (l .pieces)) (now (l .work))
+    contraction.lent (l .n) (l .m) (l .k) (now (l .from)) (now (l .to)) (now (l .names)) (now (l .active))
+    (now (l .map)) (now (l .«out_from»)) (now (l .«out_to»)) (now (l .«out_names»)) (now (l .pieces)) (now (l .work))
 
 abbrev pub replayLent : LumReplayLent → timeline.Lent
-replayLent l = replaying.lent (l .n) (l .m) (l .t) (now (l .a)) (now (l .b)) (now (l .start)) (now (l .x)) (now (l .y)) (now (l .answers)) (now (l .work))
+replayLent l =
+    replaying.lent (l .n) (l .m) (l .t) (now (l .a)) (now (l .b)) (now (l .start)) (now (l .x)) (now (l .y)) (now (l .answers)) (now (l .names)) (now (l .work))
 
 -- ---- the fields of a struct after the call, in their order, of which those count that may be written
 abbrev Table : Type 0
 Table = RefT (List ℕ)
 
 abbrev pub ContractFields : Type 0
-ContractFields = ℕ × (ℕ × (ℕ × (Table × (Table × (Table × (Table × (Table × (Table × (Table × (Table × Unit {0}))))))))))
+ContractFields = ℕ × (ℕ × (ℕ × (Table × (Table × (Table × (Table × (Table × (Table × (Table × (Table × (Table × (Table × Unit {0}))))))))))))
 
 abbrev pub contractLeft : LumContractReply → ContractFields → contraction.Outcome
-contractLeft r (n, (m, (k, (from, (to, (active, (map, (outFrom, (outTo, (pieces, (work, end))))))))))) =
-    contractedOf r (now map) (now outFrom) (now outTo) (now pieces) (now work)
+contractLeft r (n, (m, (k, (from, (to, (names, (active, (map, (outFrom, (outTo, (outNames, (pieces, (work, end))))))))))))) =
+    contractedOf r (now map) (now outFrom) (now outTo) (now outNames) (now pieces) (now work)
 
 abbrev pub ReplayFields : Type 0
-ReplayFields = ℕ × (ℕ × (ℕ × (ℕ × (Table × (Table × (Table × (Table × (Table × (Table × (Table × Unit {0}))))))))))
+ReplayFields = ℕ × (ℕ × (ℕ × (ℕ × (Table × (Table × (Table × (Table × (Table × (Table × (Table × (Table × Unit {0})))))))))))
 
 abbrev pub replayLeft : LumReplayReply → ReplayFields → timeline.Outcome
-replayLeft r (n, (m, (t, (p, (a, (b, (start, (x, (y, (answers, (work, end))))))))))) = replayedOf r (now answers) (now work)
+replayLeft r (n, (m, (t, (p, (a, (b, (start, (x, (y, (answers, (names, (work, end)))))))))))) = replayedOf r (now answers) (now names) (now work)

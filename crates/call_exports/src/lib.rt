@@ -25,10 +25,12 @@ pub struct LumContractLent<'a> {
     pub k: usize,
     pub from: &'a [u16],
     pub to: &'a [u16],
+    pub names: &'a [u16],
     pub active: &'a [u16],
     pub map: &'a mut [u16],
     pub out_from: &'a mut [u16],
     pub out_to: &'a mut [u16],
+    pub out_names: &'a mut [u16],
     pub pieces: &'a mut [u16],
     pub work: &'a mut [u32],
 }
@@ -46,6 +48,7 @@ pub struct LumReplayLent<'a> {
     pub x: &'a [u16],
     pub y: &'a [u16],
     pub answers: &'a mut [u8],
+    pub names: &'a mut [u16],
     pub work: &'a mut [u32],
 }
 
@@ -90,7 +93,7 @@ pub struct LumReplayReply {
 pub extern "C" fn lum_version() -> u32
     ensures { λ r. ⌜ r ≡ version ⌝ }
 {
-    6
+    7
 }
 
 // The sizes' check.
@@ -164,16 +167,18 @@ fn contract_tables<'a>(
     k: usize,
     from: &'a [u16],
     to: &'a [u16],
+    names: &'a [u16],
     active: &'a [u16],
     map: &'a mut [u16],
     out_from: &'a mut [u16],
     out_to: &'a mut [u16],
+    out_names: &'a mut [u16],
     pieces: &'a mut [u16],
     work: &'a mut [u32],
 ) -> LumContractReply
-    ensures { λ r. ⌜ contractedOf r (now (map .exit)) (now («out_from» .exit)) (now («out_to» .exit)) (now (pieces .exit)) (now (work .exit))
-        ≡ contraction (contracting.lent n m k (now (from .entry)) (now (to .entry)) (now (active .entry))
-        (now (map .entry)) (now («out_from» .entry)) (now («out_to» .entry)) (now (pieces .entry)) (now (work .entry))) ⌝ }
+    ensures { λ r. ⌜ contractedOf r (now (map .exit)) (now («out_from» .exit)) (now («out_to» .exit)) (now («out_names» .exit)) (now (pieces .exit)) (now (work .exit))
+        ≡ contraction (contracting.lent n m k (now (from .entry)) (now (to .entry)) (now (names .entry)) (now (active .entry))
+        (now (map .entry)) (now («out_from» .entry)) (now («out_to» .entry)) (now («out_names» .entry)) (now (pieces .entry)) (now (work .entry))) ⌝ }
 {
     let reply = call_contract::contract(
         n,
@@ -181,10 +186,12 @@ fn contract_tables<'a>(
         k,
         from,
         to,
+        names,
         active,
         map,
         out_from,
         out_to,
+        out_names,
         pieces,
         work,
     );
@@ -219,10 +226,12 @@ pub extern "C" fn lum_contract<'a>(lent: LumContractLent<'a>) -> LumContractRepl
         lent.k,
         lent.from,
         lent.to,
+        lent.names,
         lent.active,
         lent.map,
         lent.out_from,
         lent.out_to,
+        lent.out_names,
         lent.pieces,
         lent.work,
     )
@@ -240,13 +249,14 @@ fn replay_tables<'a>(
     x: &'a [u16],
     y: &'a [u16],
     answers: &'a mut [u8],
+    names: &'a mut [u16],
     work: &'a mut [u32],
 ) -> LumReplayReply
-    ensures { λ r. ⌜ replayedOf r (now (answers .exit)) (now (work .exit))
+    ensures { λ r. ⌜ replayedOf r (now (answers .exit)) (now (names .exit)) (now (work .exit))
         ≡ replay (replaying.lent n m t (now (a .entry)) (now (b .entry)) (now (start .entry)) (now (x .entry)) (now (y .entry))
-        (now (answers .entry)) (now (work .entry))) p ⌝ }
+        (now (answers .entry)) (now (names .entry)) (now (work .entry))) p ⌝ }
 {
-    let reply = call_replay::replay(n, m, t, p, a, b, start, x, y, answers, work);
+    let reply = call_replay::replay(n, m, t, p, a, b, start, x, y, answers, names, work);
     match reply {
         ReplayReply::Done(s) => {
             return LumReplayReply {
@@ -285,6 +295,7 @@ pub extern "C" fn lum_replay<'a>(lent: LumReplayLent<'a>) -> LumReplayReply
         lent.x,
         lent.y,
         lent.answers,
+        lent.names,
         lent.work,
     )
 }
