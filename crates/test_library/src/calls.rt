@@ -5,19 +5,24 @@ use crate::lists::List;
 use crate::random;
 ghost use Prim.Native.Nat.{_+_, _≤_};
 
-// A refusal's number and its place, both 0 where there is none; three numbers that are returned; how many entries of the tables are wrong, in three more. A
-// contraction returns two numbers, and how many entries of the pieces are wrong stands in the place of the third.
-pub type Reply = [usize; 8];
+// A refusal's number and its place, both 0 where there is none; three numbers that are returned, of which a contraction has two and a 0; how many entries of
+// the tables are wrong, in five more. A replay: of the answers, of the names and of the work table, and two zeros. A contraction: of the map, of the ends of
+// the edges out, of their names, of the pieces and of the work table.
+pub type Reply = [usize; 10];
 
-// The lengths of the tables that a call is lent. A replay: A, B, the starting table, X, Y, the answers and the work table; then a number without a meaning. A
-// contraction: the first and the second ends of the edges, the active entries, the map, the ends of the edges out, the pieces and the work table.
-pub type Lengths = [usize; 8];
+// The lengths of the tables that a call is lent, in the order in which it takes them. A replay: A, B, the starting table, X, Y, the answers, the names and the
+// work table; then two numbers without a meaning. A contraction: the first and the second ends of the edges, their names, the active entries, the map, the
+// first and the second ends of the edges out, their names, the pieces and the work table.
+pub type Lengths = [usize; 10];
 
 // The answers that a replay is lent, and some behind them.
 pub type Bytes = [u8; 4104];
 
+// The names that a replay is lent, and some behind them.
+pub type Names = [u16; 4104];
+
 // Tables are longer than they have to be.
-pub const LONGER: usize = 9;
+pub const LONGER: usize = 11;
 
 // Internal: the length of a table that is lent: the least; one less where it is the table that is short; three more where all are longer.
 pub fn length(least: usize, table: usize, short: usize) -> usize
@@ -32,15 +37,16 @@ pub fn length(least: usize, table: usize, short: usize) -> usize
 // Internal: how many numbers of two replies differ.
 pub fn differ(r: Reply, want: Reply) -> usize {
     let mut count: usize = 0;
-    for i in 0..8 {
+    for i in 0..10 {
         count = counts::counted(count, r[i] != want[i]);
     }
     count
 }
 
-// Internal: the number by which a call is refused, or 99 where it is refused and changed an entry. The third number of a refused replay is 0.
+// Internal: the number by which a call is refused, or 99 where it is refused and changed an entry.
 pub fn code(r: Reply) -> usize {
-    let changed = counts::plus(counts::plus(r[4], r[5]), counts::plus(r[6], r[7]));
+    let first = counts::plus(counts::plus(r[5], r[6]), r[7]);
+    let changed = counts::plus(first, counts::plus(r[8], r[9]));
     if (r[0] > 0) & (changed > 0) {
         return 99;
     }
@@ -73,20 +79,6 @@ pub fn bytes_wrong(t: &[u8], want: &List, table: usize, count: usize, all: usize
     wrong
 }
 
-// Internal: how many faults the comparison of 4096 bytes notices of so many, each put into the wanted bytes alone.
-pub fn noticed(t: &Bytes, want: &mut List, s: usize, planted: usize) -> usize {
-    let mut count: usize = 0;
-    for j in 0..planted {
-        let i = random::at(s, 7, j, 4096);
-        let v = lists::at(want, lists::A, i);
-        lists::set(want, lists::A, i, counts::plus(v, 1));
-        let wrong = bytes_wrong(t, want, lists::A, 4096, 4096);
-        count = counts::counted(count, wrong > 0);
-        lists::set(want, lists::A, i, v);
-    }
-    count
-}
-
 // Internal: the same as bytes_wrong of entries.
 pub fn entries_wrong(t: &[u16], want: &List, table: usize, count: usize, all: usize) -> usize {
     let n = counts::least(all, t.len());
@@ -95,6 +87,34 @@ pub fn entries_wrong(t: &[u16], want: &List, table: usize, count: usize, all: us
         wrong = counts::counted(wrong, counts::entry(t[i]) != wanted(want, table, count, i));
     }
     wrong
+}
+
+// How many of the first 4096 answers and of the first 4096 names are wrong.
+fn all_wrong(t: &Bytes, names: &Names, want: &List) -> usize {
+    let a = bytes_wrong(t, want, lists::A, 4096, 4096);
+    counts::plus(a, entries_wrong(names, want, lists::NAMES, 4096, 4096))
+}
+
+// The table of the wanted result that fault j is put into: the answers and the names in turn.
+fn spoilt(j: usize) -> usize {
+    if j % 2 == 0 {
+        return lists::A;
+    }
+    lists::NAMES
+}
+
+// Internal: how many faults the comparison of 4096 answers and names notices of so many, each put into the wanted ones alone.
+pub fn noticed(t: &Bytes, names: &Names, want: &mut List, s: usize, planted: usize) -> usize {
+    let mut count: usize = 0;
+    for j in 0..planted {
+        let table = spoilt(j);
+        let i = random::at(s, 7, j, 4096);
+        let v = lists::at(want, table, i);
+        lists::set(want, table, i, counts::plus(v, 1));
+        count = counts::counted(count, all_wrong(t, names, want) > 0);
+        lists::set(want, table, i, v);
+    }
+    count
 }
 
 // The word that is wanted at i, of which the first count are to be 0.

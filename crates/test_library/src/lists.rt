@@ -1,7 +1,7 @@
 // A network with its events, or with its active entries: five tables of 8192 entries, then four sizes. A has the segments' first ends, B their second ends,
-// X and Y the events, START what is open at the start. The sizes stand under the names N, M, T and the share at A, B, X and Y. Of a contraction X has the
-// active entries and K, and Y and START nothing. Of its result A and B have the edges, X the map, Y the pieces, and Y's size how many nodes have no active
-// one.
+// X and Y the events, START what is open at the start. The sizes stand under the names N, M, T and the share at A, B, X and Y. Of a replay's result A has the
+// answers and NAMES the names. Of a contraction X has the active entries and K, NAMES the names of the edges, and Y nothing. Of its result A and B have the
+// edges, NAMES their names, X the map and Y the pieces; Y's size is how many nodes have no active one, and X's how many edges stand for two or more.
 use crate::counts;
 ghost use Prim.Native.Nat.{_≤_};
 ghost use lib.ListN.{length};
@@ -17,6 +17,9 @@ pub const X: usize = 2;
 pub const Y: usize = 3;
 
 pub const START: usize = 4;
+
+// The same table, where there is no start.
+pub const NAMES: usize = 4;
 
 // Internal: entry i of a table.
 pub fn at(l: &List, table: usize, i: usize) -> usize {

@@ -3,21 +3,21 @@ use crate::counts;
 use crate::lists;
 use crate::lists::List;
 
-pub type Text = [u8; 32768];
+pub type Text = [u8; 65536];
 
 // Internal: byte i.
 pub fn at(text: &Text, i: usize) -> usize {
-    counts::byte(text[i % 32768])
+    counts::byte(text[i % 65536])
 }
 
 // Internal: the first place of this byte from start on, or the end of the text.
 pub fn find(text: &Text, start: usize, byte: usize) -> usize {
-    for i in start..32768 {
+    for i in start..65536 {
         if at(text, i) == byte {
             return i;
         }
     }
-    32768
+    65536
 }
 
 // The value of a digit in base 16.
@@ -41,10 +41,10 @@ fn number(text: &Text, start: usize, j: usize) -> usize {
     pair(text, i) % 256 * 256 + pair(text, counts::plus(i, 2)) % 256
 }
 
-// Internal: the eight numbers from this one on.
-pub fn row(text: &Text, start: usize, from: usize) -> [usize; 8] {
-    let mut r = [0usize; 8];
-    for i in 0..8 {
+// Internal: the ten numbers from this one on.
+pub fn row(text: &Text, start: usize, from: usize) -> [usize; 10] {
+    let mut r = [0usize; 10];
+    for i in 0..10 {
         r[i] = number(text, start, counts::plus(from, i));
     }
     r

@@ -1,4 +1,4 @@
-// Random graphs of at most 12 nodes, 16 edges and 9 active entries, of several kinds; and graphs with a fault.
+// Random graphs of at most 12 nodes, 16 edges and 9 active entries, of several kinds, with names on their edges; and graphs with a fault.
 use crate::networks;
 use test_library::calls;
 use test_library::counts;
@@ -32,11 +32,29 @@ fn entry(kind: usize, s: usize, n: usize, i: usize) -> usize {
     }
 }
 
-// Makes the edges and the active entries of a graph with these sizes.
+// The name of edge i: in turn one of few, so that several edges have the same, any number, or one of the largest, 65535 among them.
+fn name(s: usize, i: usize) -> usize {
+    let low = random::at(s, 25, i, 256) % 256;
+    match s / 8 % 3 {
+        0 => low % 4,
+        1 => random::at(s, 26, i, 256) % 256 * 256 + low,
+        _ => 65532 + low % 4,
+    }
+}
+
+fn make_names(l: &mut List, s: usize) {
+    let m = lists::size(l, lists::B);
+    for i in 0..m {
+        lists::set(l, lists::NAMES, i, name(s, i));
+    }
+}
+
+// Makes the edges, their names and the active entries of a graph with these sizes.
 fn fill(l: &mut List, kind: usize, s: usize) {
     let n = lists::size(l, lists::A);
     let k = lists::size(l, lists::X);
     networks::make(l, kind, s, n, 0);
+    make_names(l, s);
     for i in 0..k {
         lists::set(l, lists::X, i, entry(kind, s, n, i));
     }
@@ -68,13 +86,13 @@ pub fn make(l: &mut List, s: usize) {
 // Internal: which table of the random graph s is one entry short: of some of those with a fault one, else all are longer.
 pub fn short(s: usize) -> usize {
     if (s % 9 == 8) & (random::at(s, 20, 0, 4) == 0) {
-        return 1 + random::at(s, 21, 0, 8) % 8;
+        return 1 + random::at(s, 21, 0, 10) % 10;
     }
     calls::LONGER
 }
 
-// Internal: the path of n nodes with m edges and k active entries: each node in turn is active.
+// Internal: the path of n nodes with m edges and k active entries: each node in turn is active. Names are any numbers.
 pub fn path(l: &mut List, n: usize, m: usize, k: usize) {
     lists::set_sizes(l, n, m, k, 0);
-    fill(l, networks::PATH, 0);
+    fill(l, networks::PATH, 8);
 }

@@ -222,7 +222,7 @@ pub fn small(l: &mut List, s: usize) {
 // Internal: which table of the small list s is one entry short: of some of the lists with a fault one, else all are longer.
 pub fn short(s: usize) -> usize {
     if (s % 3 == 2) & (random::at(s, 20, 0, 8) == 0) {
-        return 1 + random::at(s, 21, 0, 7) % 7;
+        return 1 + random::at(s, 21, 0, 8) % 8;
     }
     calls::LONGER
 }

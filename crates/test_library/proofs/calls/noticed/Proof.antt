@@ -4,10 +4,10 @@ use Rattle.test_library.proofs.calls.noticed.Statement.{statement}
 use Rattle.test_library.proofs.calls.noticed.Tie as tie
 
 abbrev Inv-loop : tie.InvT-loop
-Inv-loop t want₀ s planted count₀ j₀ want count j = j ≤ planted
+Inv-loop t names want₀ s planted count₀ j₀ want count j = j ≤ planted
 
 abbrev μ-loop : tie.MeasureT-loop
-μ-loop t want₀ s planted count₀ j₀ want count j = planted - j
+μ-loop t names want₀ s planted count₀ j₀ want count j = planted - j
 
 pub noticed-spec : {M : Type 1} → statement M
 noticed-spec =
@@ -16,6 +16,7 @@ noticed-spec =
     Inv-loop
     μ-loop
     (λ c. search needs)
+    (λ c κs. search needs)
     (λ c κs. search needs)
     (λ c κs. search needs)
     (λ c κs. search needs)

@@ -7,7 +7,7 @@ abbrev Inv-loop : tie.InvT-loop
 Inv-loop text start byte i₀ i = start ≤ i
 
 abbrev μ-loop : tie.MeasureT-loop
-μ-loop text start byte i₀ i = 32768 - i
+μ-loop text start byte i₀ i = 65536 - i
 
 pub find-spec : {M : Type 1} → statement M
 find-spec =

@@ -4,10 +4,10 @@ use Rattle.test_library.proofs.text.row.Statement.{statement}
 use Rattle.test_library.proofs.text.row.Tie as tie
 
 abbrev Inv-loop : tie.InvT-loop
-Inv-loop text start from r₀ i₀ r i = i ≤ 8
+Inv-loop text start from r₀ i₀ r i = i ≤ 10
 
 abbrev μ-loop : tie.MeasureT-loop
-μ-loop text start from r₀ i₀ r i = 8 - i
+μ-loop text start from r₀ i₀ r i = 10 - i
 
 pub row-spec : {M : Type 1} → statement M
 row-spec =

@@ -1,27 +1,26 @@
 use Prim.Native.Nat.{_≤_, _-_}
 use borrow.Author.Needs.{needs}
-use Rattle.test_slow_contraction.proofs.graphs.classes.Statement.{statement}
-use Rattle.test_slow_contraction.proofs.graphs.classes.Tie as tie
+use Rattle.test_slow_graphs.proofs.graphs.bad_edge.Statement.{statement}
+use Rattle.test_slow_graphs.proofs.graphs.bad_edge.Tie as tie
 
 abbrev Inv-loop : tie.InvT-loop
-Inv-loop c₀ p₀ l «open» m e₀ c p e = e ≤ m
+Inv-loop l n m e₀ e = e ≤ m
 
 abbrev μ-loop : tie.MeasureT-loop
-μ-loop c₀ p₀ l «open» m e₀ c p e = m - e
+μ-loop l n m e₀ e = m - e
 
-pub classes-spec : {M : Type 1} → statement M
-classes-spec =
+pub bad-edge-spec : {M : Type 1} → statement M
+bad-edge-spec =
     tie.close
     (tie.spec
     Inv-loop
     μ-loop
     (λ c κs. search needs)
     (λ c κs. search needs)
-    (λ c κs. search needs)
-    (λ c κs. search needs)
     (λ c. search needs)
     (λ c κs. search needs)
     (λ c κs. search needs)
+    (λ c. search needs)
     (λ c. search needs)
     (λ c. search needs)
     (λ c. search needs)

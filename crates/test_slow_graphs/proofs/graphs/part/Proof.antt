@@ -1,7 +1,7 @@
 use Prim.Native.Nat.{_≤_, _-_}
 use borrow.Author.Needs.{needs}
-use Rattle.test_slow_contraction.proofs.graphs.part.Statement.{statement}
-use Rattle.test_slow_contraction.proofs.graphs.part.Tie as tie
+use Rattle.test_slow_graphs.proofs.graphs.part.Statement.{statement}
+use Rattle.test_slow_graphs.proofs.graphs.part.Tie as tie
 
 abbrev Inv-loop : tie.InvT-loop
 Inv-loop c₀ p n i₀ c i = i ≤ n

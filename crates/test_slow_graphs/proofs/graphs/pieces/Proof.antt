@@ -1,27 +1,26 @@
 use Prim.Native.Nat.{_≤_, _-_}
 use borrow.Author.Needs.{needs}
-use Rattle.test_slow_contraction.proofs.graphs.answer.Statement.{statement}
-use Rattle.test_slow_contraction.proofs.graphs.answer.Tie as tie
+use Rattle.test_slow_graphs.proofs.graphs.pieces.Statement.{statement}
+use Rattle.test_slow_graphs.proofs.graphs.pieces.Tie as tie
 
 abbrev Inv-loop : tie.InvT-loop
-Inv-loop l «open» u v m e₀ e = e ≤ m
+Inv-loop p₀ l «open» removed t z m e₀ p e = e ≤ m
 
 abbrev μ-loop : tie.MeasureT-loop
-μ-loop l «open» u v m e₀ e = m - e
+μ-loop p₀ l «open» removed t z m e₀ p e = m - e
 
-pub answer-spec : {M : Type 1} → statement M
-answer-spec =
+pub pieces-spec : {M : Type 1} → statement M
+pieces-spec =
     tie.close
     (tie.spec
     Inv-loop
     μ-loop
     (λ c κs. search needs)
-    (λ c κs. search needs)
-    (λ c. search needs)
     (λ c. search needs)
     (λ c κs. search needs)
     (λ c κs. search needs)
-    (λ c. search needs)
+    (λ c κs. search needs)
+    (λ c κs. search needs)
     (λ c. search needs)
     (λ c. search needs)
     (λ c. search needs)

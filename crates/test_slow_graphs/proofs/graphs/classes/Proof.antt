@@ -1,26 +1,27 @@
 use Prim.Native.Nat.{_≤_, _-_}
 use borrow.Author.Needs.{needs}
-use Rattle.test_slow_contraction.proofs.contraction.bad_edge.Statement.{statement}
-use Rattle.test_slow_contraction.proofs.contraction.bad_edge.Tie as tie
+use Rattle.test_slow_graphs.proofs.graphs.classes.Statement.{statement}
+use Rattle.test_slow_graphs.proofs.graphs.classes.Tie as tie
 
 abbrev Inv-loop : tie.InvT-loop
-Inv-loop l n m e₀ e = e ≤ m
+Inv-loop c₀ p₀ l «open» m e₀ c p e = e ≤ m
 
 abbrev μ-loop : tie.MeasureT-loop
-μ-loop l n m e₀ e = m - e
+μ-loop c₀ p₀ l «open» m e₀ c p e = m - e
 
-pub bad-edge-spec : {M : Type 1} → statement M
-bad-edge-spec =
+pub classes-spec : {M : Type 1} → statement M
+classes-spec =
     tie.close
     (tie.spec
     Inv-loop
     μ-loop
     (λ c κs. search needs)
     (λ c κs. search needs)
-    (λ c. search needs)
     (λ c κs. search needs)
     (λ c κs. search needs)
     (λ c. search needs)
+    (λ c κs. search needs)
+    (λ c κs. search needs)
     (λ c. search needs)
     (λ c. search needs)
     (λ c. search needs)

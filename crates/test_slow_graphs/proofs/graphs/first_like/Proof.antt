@@ -1,7 +1,7 @@
 use Prim.Native.Nat.{_≤_, _-_}
 use borrow.Author.Needs.{needs}
-use Rattle.test_slow_contraction.proofs.graphs.first_like.Statement.{statement}
-use Rattle.test_slow_contraction.proofs.graphs.first_like.Tie as tie
+use Rattle.test_slow_graphs.proofs.graphs.first_like.Statement.{statement}
+use Rattle.test_slow_graphs.proofs.graphs.first_like.Tie as tie
 
 abbrev Inv-loop : tie.InvT-loop
 Inv-loop c p v w₀ w = w ≤ v

@@ -1,25 +1,27 @@
 use Prim.Native.Nat.{_≤_, _-_}
 use borrow.Author.Needs.{needs}
-use Rattle.test_slow_contraction.proofs.graphs.mark_held.Statement.{statement}
-use Rattle.test_slow_contraction.proofs.graphs.mark_held.Tie as tie
+use Rattle.test_slow_graphs.proofs.graphs.answer.Statement.{statement}
+use Rattle.test_slow_graphs.proofs.graphs.answer.Tie as tie
 
 abbrev Inv-loop : tie.InvT-loop
-Inv-loop held₀ l c active n v₀ held v = v ≤ n
+Inv-loop l «open» u v m e₀ e = e ≤ m
 
 abbrev μ-loop : tie.MeasureT-loop
-μ-loop held₀ l c active n v₀ held v = n - v
+μ-loop l «open» u v m e₀ e = m - e
 
-pub mark-held-spec : {M : Type 1} → statement M
-mark-held-spec =
+pub answer-spec : {M : Type 1} → statement M
+answer-spec =
     tie.close
     (tie.spec
     Inv-loop
     μ-loop
     (λ c κs. search needs)
+    (λ c κs. search needs)
+    (λ c. search needs)
     (λ c. search needs)
     (λ c κs. search needs)
     (λ c κs. search needs)
-    (λ c κs. search needs)
+    (λ c. search needs)
     (λ c. search needs)
     (λ c. search needs)
     (λ c. search needs)

@@ -1,21 +1,20 @@
 use Prim.Native.Nat.{_≤_, _-_}
 use borrow.Author.Needs.{needs}
-use Rattle.test_slow_contraction.proofs.graphs.pieces.Statement.{statement}
-use Rattle.test_slow_contraction.proofs.graphs.pieces.Tie as tie
+use Rattle.test_slow_graphs.proofs.graphs.mark_parts.Statement.{statement}
+use Rattle.test_slow_graphs.proofs.graphs.mark_parts.Tie as tie
 
 abbrev Inv-loop : tie.InvT-loop
-Inv-loop p₀ l «open» removed t z m e₀ p e = e ≤ m
+Inv-loop met₀ n p q active z v₀ met v = v ≤ n
 
 abbrev μ-loop : tie.MeasureT-loop
-μ-loop p₀ l «open» removed t z m e₀ p e = m - e
+μ-loop met₀ n p q active z v₀ met v = n - v
 
-pub pieces-spec : {M : Type 1} → statement M
-pieces-spec =
+pub mark-parts-spec : {M : Type 1} → statement M
+mark-parts-spec =
     tie.close
     (tie.spec
     Inv-loop
     μ-loop
-    (λ c κs. search needs)
     (λ c. search needs)
     (λ c κs. search needs)
     (λ c κs. search needs)

@@ -1,7 +1,7 @@
 use Prim.Native.Nat.{_≤_, _-_}
 use borrow.Author.Needs.{needs}
-use Rattle.test_slow_contraction.proofs.graphs.count_kept.Statement.{statement}
-use Rattle.test_slow_contraction.proofs.graphs.count_kept.Tie as tie
+use Rattle.test_slow_graphs.proofs.graphs.count_kept.Statement.{statement}
+use Rattle.test_slow_graphs.proofs.graphs.count_kept.Tie as tie
 
 abbrev Inv-loop : tie.InvT-loop
 Inv-loop l «open» c p active held n count₀ z₀ count z = z ≤ n

@@ -1,23 +1,22 @@
 use Prim.Native.Nat.{_≤_, _-_}
 use borrow.Author.Needs.{needs}
-use Rattle.test_slow_contraction.proofs.graphs.top.Statement.{statement}
-use Rattle.test_slow_contraction.proofs.graphs.top.Tie as tie
+use Rattle.test_slow_graphs.proofs.graphs.sum.Statement.{statement}
+use Rattle.test_slow_graphs.proofs.graphs.sum.Tie as tie
 
 abbrev Inv-loop : tie.InvT-loop
-Inv-loop p v r₀ counter₀ r counter = counter ≤ 512
+Inv-loop t n r₀ i₀ r i = i ≤ n
 
 abbrev μ-loop : tie.MeasureT-loop
-μ-loop p v r₀ counter₀ r counter = 512 - counter
+μ-loop t n r₀ i₀ r i = n - i
 
-pub top-spec : {M : Type 1} → statement M
-top-spec =
+pub sum-spec : {M : Type 1} → statement M
+sum-spec =
     tie.close
     (tie.spec
     Inv-loop
     μ-loop
     (λ c. search needs)
     (λ c κs. search needs)
-    (λ c. search needs)
     (λ c κs. search needs)
     (λ c. search needs)
     (λ c. search needs)
