@@ -1,6 +1,6 @@
-// The slow contraction: links by taking away the nodes of each third kept class, and pieces by comparing each active entry with those before it. The result is
-// a list too: the edges in A and B, the map in X, the pieces in Y; Y's size is how many nodes have no active one.
-use crate::graphs;
+// The slow contraction: links by taking away the nodes of each third kept class, names by removing the edges in turn, and pieces by comparing each active entry
+// with those before it. The result is a list too: the edges in A and B, their names in NAMES, the map in X, the pieces in Y; Y's size is how many nodes have no
+// active one, and X's how many edges stand for two or more.
 use test_library::calls::Lengths;
 use test_library::calls::Reply;
 use test_library::counts;
@@ -9,19 +9,8 @@ use test_library::lists::List;
 use test_library::tables;
 use test_library::tables::Marks;
 use test_library::tables::Table;
+use test_slow_graphs::graphs;
 ghost use Prim.Native.Nat.{_≤_};
-
-// Internal: the first edge with an end that is no node, or m.
-pub fn bad_edge(l: &List) -> usize {
-    let n = lists::size(l, lists::A);
-    let m = lists::size(l, lists::B);
-    for e in 0..m {
-        if (lists::at(l, lists::A, e) >= n) | (lists::at(l, lists::B, e) >= n) {
-            return e;
-        }
-    }
-    m
-}
 
 // The first active entry that is no node, or k.
 fn bad_entry(l: &List) -> usize {
@@ -114,13 +103,47 @@ fn is_link(l: &List, of: &Table, first: &Table, c: &Table, count: usize, i: usiz
     false
 }
 
+// The smallest name of an edge whose loss parts u and v, which are joined; 65535 where there is none.
+fn name(l: &List, u: usize, v: usize) -> usize {
+    let m = lists::size(l, lists::B);
+    let open = [true; 8192];
+    let mut least: usize = 65535;
+    for e in 0..m {
+        if graphs::is_parting(l, &open, e, u, v) {
+            least = counts::least(least, lists::at(l, lists::NAMES, e));
+        }
+    }
+    least
+}
+
+// How many edges part u and v, which are joined.
+fn parting(l: &List, u: usize, v: usize) -> usize {
+    let m = lists::size(l, lists::B);
+    let open = [true; 8192];
+    let mut count: usize = 0;
+    for e in 0..m {
+        count = counts::counted(count, graphs::is_parting(l, &open, e, u, v));
+    }
+    count
+}
+
+// Writes the edge number i, between the classes x and y, with its name; and counts it where it stands for two edges or more.
+fn write_edge(r: &mut List, l: &List, first: &Table, x: usize, y: usize, i: usize) {
+    let u = tables::get(first, x);
+    let v = tables::get(first, y);
+    lists::set(r, lists::A, i, x);
+    lists::set(r, lists::B, i, y);
+    lists::set(r, lists::NAMES, i, name(l, u, v));
+    let long = counts::counted(lists::size(r, lists::X), parting(l, u, v) > 1);
+    lists::set_size(r, lists::X, long);
+}
+
 // Writes the edges, each pair of numbers in ascending order, and answers how many there are. There are at most 32 nodes.
 fn links(r: &mut List, l: &List, of: &Table, first: &Table, c: &Table, count: usize) -> usize {
     let mut edges: usize = 0;
     for i in 0..1024 {
         if is_link(l, of, first, c, count, i) {
-            lists::set(r, lists::A, edges, i / 32);
-            lists::set(r, lists::B, edges, i % 32);
+            write_edge(r, l, first, i / 32, i % 32, edges);
             edges = counts::plus(edges, 1);
         }
     }
@@ -189,7 +212,7 @@ fn small(r: &mut List, l: &List) -> Reply {
     graphs::all_pieces(&mut q, l, &open);
     write_pieces(r, l, &q);
     lists::set_size(r, lists::Y, counts::minus(nodes, some));
-    [0, 0, nodes, edges, 0, 0, 0, 0]
+    [0, 0, nodes, edges, 0, 0, 0, 0, 0, 0]
 }
 
 // Internal: the least length of the work table. The sizes go round past their limits, so that it is bounded.
@@ -204,9 +227,10 @@ fn is_short(l: &List, lengths: Lengths) -> bool {
     let m = lists::size(l, lists::B);
     let k = lists::size(l, lists::X);
     let ends = counts::plus(k, k);
-    let graph = (lengths[0] < m) | (lengths[1] < m) | (lengths[2] < k);
-    let result = (lengths[3] < k) | (lengths[4] < ends) | (lengths[5] < ends) | (lengths[6] < k);
-    graph | result | (lengths[7] < required(lists::size(l, lists::A), m))
+    let graph = (lengths[0] < m) | (lengths[1] < m) | (lengths[2] < m) | (lengths[3] < k);
+    let edges = (lengths[5] < ends) | (lengths[6] < ends) | (lengths[7] < ends);
+    let result = (lengths[4] < k) | edges | (lengths[8] < k);
+    graph | result | (lengths[9] < required(lists::size(l, lists::A), m))
 }
 
 // The number by which the sizes or a length are refused, or 0.
@@ -222,12 +246,12 @@ fn frame_fault(l: &List, lengths: Lengths) -> usize {
 }
 
 fn refused(code: usize, place: usize) -> Reply {
-    [code, place, 0, 0, 0, 0, 0, 0]
+    [code, place, 0, 0, 0, 0, 0, 0, 0, 0]
 }
 
 // The reply where sizes and lengths are allowed.
 fn graph_reply(r: &mut List, l: &List) -> Reply {
-    let e = bad_edge(l);
+    let e = graphs::bad_edge(l);
     if e < lists::size(l, lists::B) {
         return refused(4, e);
     }

@@ -6,6 +6,18 @@ use test_library::tables;
 use test_library::tables::Marks;
 use test_library::tables::Table;
 
+// Internal: the first edge with an end that is no node, or m.
+pub fn bad_edge(l: &List) -> usize {
+    let n = lists::size(l, lists::A);
+    let m = lists::size(l, lists::B);
+    for e in 0..m {
+        if (lists::at(l, lists::A, e) >= n) | (lists::at(l, lists::B, e) >= n) {
+            return e;
+        }
+    }
+    m
+}
+
 // The node at the top of the tree of v.
 fn top(p: &Table, v: usize) -> usize {
     let mut r = v;
@@ -19,8 +31,8 @@ fn top(p: &Table, v: usize) -> usize {
     r
 }
 
-// Whether u and v are in one piece.
-pub(crate) fn together(p: &Table, u: usize, v: usize) -> bool {
+// Internal: whether u and v are in one piece.
+pub fn together(p: &Table, u: usize, v: usize) -> bool {
     top(p, u) == top(p, v)
 }
 
@@ -46,8 +58,8 @@ fn is_left(l: &List, open: &Marks, removed: usize, t: &Table, z: usize, e: usize
     (e != removed) & (u != z) & (v != z)
 }
 
-// The pieces of what is left, where each node was alone before.
-pub(crate) fn pieces(p: &mut Table, l: &List, open: &Marks, removed: usize, t: &Table, z: usize) {
+// Internal: the pieces of what is left, where each node was alone before.
+pub fn pieces(p: &mut Table, l: &List, open: &Marks, removed: usize, t: &Table, z: usize) {
     let m = lists::size(l, lists::B);
     for e in 0..m {
         if is_left(l, open, removed, t, z, e) {
@@ -62,8 +74,8 @@ fn pieces_without(p: &mut Table, l: &List, open: &Marks, removed: usize) {
     pieces(p, l, open, removed, &all, 1);
 }
 
-// The pieces when no edge is removed.
-pub(crate) fn all_pieces(p: &mut Table, l: &List, open: &Marks) {
+// Internal: the pieces when no edge is removed.
+pub fn all_pieces(p: &mut Table, l: &List, open: &Marks) {
     pieces_without(p, l, open, lists::size(l, lists::B));
 }
 
@@ -73,6 +85,14 @@ fn joined(l: &List, open: &Marks, removed: usize, u: usize, v: usize) -> bool {
     together(&p, u, v)
 }
 
+// Internal: whether edge e is there and its loss parts u and v, or leaves them apart.
+pub fn is_parting(l: &List, open: &Marks, e: usize, u: usize, v: usize) -> bool {
+    if !tables::marked(open, e) {
+        return false;
+    }
+    !joined(l, open, e, u, v)
+}
+
 // Internal: the answer to a query of u and v.
 pub fn answer(l: &List, open: &Marks, u: usize, v: usize) -> usize {
     let m = lists::size(l, lists::B);
@@ -80,10 +100,8 @@ pub fn answer(l: &List, open: &Marks, u: usize, v: usize) -> usize {
         return 0;
     }
     for e in 0..m {
-        if tables::marked(open, e) {
-            if !joined(l, open, e, u, v) {
-                return 1;
-            }
+        if is_parting(l, open, e, u, v) {
+            return 1;
         }
     }
     2
@@ -133,9 +151,9 @@ fn part_along(c: &mut Table, p: &mut Table, l: &List, open: &Marks, e: usize) {
     }
 }
 
-// The classes: for each node the smallest that it is joined to, also after the removal of each single edge; and the pieces. All were one class before, and
+// Internal: the classes: for each node the smallest that it is joined to, also after the removal of each single edge; and the pieces. All were one class before, and
 // each alone in p.
-pub(crate) fn classes(c: &mut Table, p: &mut Table, l: &List, open: &Marks) {
+pub fn classes(c: &mut Table, p: &mut Table, l: &List, open: &Marks) {
     let m = lists::size(l, lists::B);
     let mut all = [0u32; 512];
     all_pieces(&mut all, l, open);
@@ -147,8 +165,8 @@ pub(crate) fn classes(c: &mut Table, p: &mut Table, l: &List, open: &Marks) {
     }
 }
 
-// Marks the classes with an active node.
-pub(crate) fn mark_held(held: &mut Table, l: &List, c: &Table, active: &Marks) {
+// Internal: marks the classes with an active node.
+pub fn mark_held(held: &mut Table, l: &List, c: &Table, active: &Marks) {
     let n = lists::size(l, lists::A);
     for v in 0..n {
         if tables::marked(active, v) {
@@ -184,8 +202,8 @@ fn parts(l: &List, open: &Marks, c: &Table, p: &Table, active: &Marks, z: usize)
     sum(&met, n)
 }
 
-// Whether z is the smallest node of a kept class.
-pub(crate) fn is_kept(
+// Internal: whether z is the smallest node of a kept class.
+pub fn is_kept(
     l: &List,
     open: &Marks,
     c: &Table,
