@@ -1,5 +1,5 @@
-// What is met among the random graphs, so that the report shows that the comparison has seen it. A result is a list: the pieces in Y, and how many nodes have
-// no active one in Y's size.
+// What is met among the random graphs, so that the report shows that the comparison has seen it. A result is a list: the names of the edges in NAMES, the pieces
+// in Y, how many nodes have no active one in Y's size, and how many edges stand for two or more in X's.
 use test_library::calls::Reply;
 use test_library::counts;
 use test_library::lists;
@@ -47,8 +47,9 @@ fn has_return(want: &List, k: usize) -> bool {
 }
 
 // The row of a graph that is accepted: one with a kept class without an active node; with two pieces or more; of them with entries that come back to a piece;
-// with an active entry twice; with an active node without an edge; without an active entry.
-fn accepted(l: &List, want: &List) -> [usize; 6] {
+// with an active entry twice; with an active node without an edge; without an active entry; the edges out, those that stand for two edges or more, and those
+// with the name 65535.
+fn accepted(l: &List, reply: Reply, want: &List) -> [usize; 9] {
     let k = lists::size(l, lists::X);
     [
         (lists::size(want, lists::Y) > 0) as usize,
@@ -57,15 +58,18 @@ fn accepted(l: &List, want: &List) -> [usize; 6] {
         has_repeated(l) as usize,
         has_single(l) as usize,
         (k == 0) as usize,
+        reply[3],
+        lists::size(want, lists::X),
+        lists::tally(want, lists::NAMES, reply[3], 65535),
     ]
 }
 
 // The row of a random graph with the slow contraction's reply and result: all; those on which the call disagrees; those that are accepted, of each kind; those
 // that are refused, by each number.
 pub(crate) fn row(l: &List, reply: Reply, want: &List, right: bool) -> [usize; 16] {
-    let mut kinds = [0usize; 6];
+    let mut kinds = [0usize; 9];
     if reply[0] == 0 {
-        kinds = accepted(l, want);
+        kinds = accepted(l, reply, want);
     }
     [
         1,
@@ -77,12 +81,12 @@ pub(crate) fn row(l: &List, reply: Reply, want: &List, right: bool) -> [usize; 1
         kinds[3],
         kinds[4],
         kinds[5],
+        kinds[6],
+        kinds[7],
+        kinds[8],
         (reply[0] == 2) as usize,
         (reply[0] == 4) as usize,
         (reply[0] == 8) as usize,
-        0,
-        0,
-        0,
         0,
     ]
 }

@@ -7,8 +7,8 @@ use test_library::lists;
 use test_library::lists::List;
 use test_random::graphs;
 
-// The path of these sizes, of which edge 0 begins at this end, and the first active entry is this one. The path itself is the result that is wanted, and all
-// entries are in piece 0.
+// The path of these sizes, of which edge 0 begins at this end, and the first active entry is this one. The path itself, with its names, is the result that is
+// wanted, and all entries are in piece 0.
 fn path(n: usize, m: usize, k: usize, short: usize, end: usize, entry: usize) -> Reply {
     let mut l = [65000u16; 40968];
     graphs::path(&mut l, n, m, k);
@@ -24,10 +24,10 @@ fn code(n: usize, m: usize, k: usize, short: usize, end: usize, entry: usize) ->
     test_library::calls::code(path(n, m, k, short, end, entry))
 }
 
-// How many of the eight tables are refused by 2 where they are one entry short.
+// How many of the ten tables are refused by 2 where they are one entry short.
 fn short_refused() -> usize {
     let mut count: usize = 0;
-    for i in 1..9 {
+    for i in 1..11 {
         count = counts::counted(count, code(3, 2, 2, i, 0, 0) == 2);
     }
     count
@@ -81,15 +81,15 @@ pub(crate) fn full() -> [usize; 16] {
         r[3],
         counts::minus(8192, r[5]),
         counts::minus(8190, r[6]),
-        counts::minus(8192, r[4]),
-        counts::minus(131584, r[7]),
+        counts::minus(4095, r[7]),
+        counts::minus(8192, r[8]),
+        counts::minus(131584, r[9]),
         q[0],
         q[2],
         q[3],
         counts::minus(8192, q[5]),
-        counts::minus(8192, q[4]),
-        0,
-        0,
+        q[7],
+        counts::minus(8192, q[8]),
         0,
         0,
     ]

@@ -22,7 +22,7 @@ fn add_random(t: &mut Table, s: usize) {
 }
 
 fn add_all_random(t: &mut Table) {
-    for s in 0..5600 {
+    for s in 0..40320 {
         add_random(t, s);
     }
 }
@@ -41,6 +41,9 @@ with entries that come back to a piece after another: #\n\
 with an active entry twice: #\n\
 with an active node without an edge: #\n\
 without an active entry: #\n\
+edges out: #\n\
+for two edges or more: #\n\
+with the name 65535: #\n\
 refused by 2: #\n\
 by 4: #\n\
 by 8: #\n\
@@ -55,7 +58,7 @@ fn report_limits() {
     print::report(
         b"\
 least lengths, reply: #\n\
-of 8 tables one entry short, refused by 2 with all entries kept: #\n\
+of 10 tables one entry short, refused by 2 with all entries kept: #\n\
 faults of size, length, edge and entry at once, reply: #\n\
 of length, edge and entry: #\n\
 of edge and entry: #\n\
@@ -79,12 +82,14 @@ nodes: #\n\
 edges: #\n\
 map entries right: #\n\
 ends of edges right: #\n\
+names right: #\n\
 pieces right: #\n\
 words 0: #\n\
 4096 nodes, no edge, 8192 entries, reply: #\n\
 nodes: #\n\
 edges: #\n\
 map entries right: #\n\
+names written: #\n\
 pieces right: #\n\
 ",
         &t,

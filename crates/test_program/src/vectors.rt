@@ -69,7 +69,7 @@ fn run(text: &Text, length: usize) -> [usize; 2] {
 
 // Reads the vectors and runs them.
 pub(crate) fn read() -> [usize; 2] {
-    let mut text = [0u8; 32768];
+    let mut text = [0u8; 65536];
     let length = io::read_full(STDIN_FILENO, &mut text);
     run(&text, length)
 }

@@ -28,8 +28,9 @@ pub(crate) fn run(
     let mut want = [0u16; 40968];
     let w = replay::reply(&mut want, l, lengths, places);
     let mut answers = [7u8; 4104];
-    let r = calls::run(l, lengths, &want, &mut answers, work);
-    let n = test_library::calls::noticed(&answers, &mut want, places, planted);
+    let mut names = [7u16; 4104];
+    let r = calls::run(l, lengths, &want, &mut answers, &mut names, work);
+    let n = test_library::calls::noticed(&answers, &names, &mut want, places, planted);
     let disagree = test_library::calls::differ(r, w) > 0;
     totals::add(t, l, w, disagree, &want, places, most, planted, n);
 }
@@ -62,11 +63,11 @@ fn report_lists(work: &mut Work) {
     let mut small = [0u32; 512];
     run_small(&mut small, work);
     totals::report(&small);
-    totals::report_less(&small);
+    totals::report_ones(&small);
     let mut large = [0u32; 512];
     run_large(&mut large, work);
     totals::report(&large);
-    totals::report_less(&large);
+    totals::report_ones(&large);
     let mut rings = [0u32; 512];
     run_rings(&mut rings, work);
     totals::report(&rings);

@@ -1,7 +1,8 @@
-// Calls of replay. A result is a list with the answers in A.
+// Calls of replay. A result is a list with the answers in A and the names in NAMES.
 use test_library::calls;
 use test_library::calls::Bytes;
 use test_library::calls::Lengths;
+use test_library::calls::Names;
 use test_library::calls::Reply;
 use test_library::counts;
 use test_library::lists;
@@ -16,12 +17,12 @@ pub type Work = [u32; 1247536];
 
 fn plain(r: ReplayReply) -> Reply {
     match r {
-        ReplayReply::Done(t) => [0, 0, t.queries, t.open, t.kept, 0, 0, 0],
-        ReplayReply::Refused(code, place) => [code, place, 0, 0, 0, 0, 0, 0],
+        ReplayReply::Done(t) => [0, 0, t.queries, t.open, t.kept, 0, 0, 0, 0, 0],
+        ReplayReply::Refused(code, place) => [code, place, 0, 0, 0, 0, 0, 0, 0, 0],
     }
 }
 
-// Internal: the least lengths of the tables, or one of them one entry short: 1 to 7, or all of them longer.
+// Internal: the least lengths of the tables, or one of them one entry short: 1 to 8, or all of them longer.
 pub fn lengths(l: &List, short: usize) -> Lengths {
     let m = lists::size(l, lists::B);
     let t = lists::size(l, lists::X);
@@ -33,7 +34,9 @@ pub fn lengths(l: &List, short: usize) -> Lengths {
         calls::length(t, 4, short),
         calls::length(t, 5, short),
         calls::length(t, 6, short),
-        calls::length(words, 7, short),
+        calls::length(t, 7, short),
+        calls::length(words, 8, short),
+        0,
         0,
     ]
 }
@@ -47,12 +50,15 @@ fn call(
     lengths: Lengths,
     s: &[u16],
     answers: &mut [u8],
+    names: &mut [u16],
     work: &mut [u32],
 ) -> ReplayReply
-    requires { ⌜ (40968 ≤ length (now s)) × (4104 ≤ length (now answers)) × (1247536 ≤ length (now work)) ⌝ }
+    requires { ⌜ (40968 ≤ length (now s)) × (4104 ≤ length (now answers)) × (4104 ≤ length (now names)) ⌝ }
+    requires { ⌜ 1247536 ≤ length (now work) ⌝ }
 {
     let bytes = counts::least(lengths[5], 4104);
-    let words = counts::least(lengths[6], 1247536);
+    let entries = counts::least(lengths[6], 4104);
+    let words = counts::least(lengths[7], 1247536);
     call_replay::replay(
         n,
         m,
@@ -64,6 +70,7 @@ fn call(
         lists::part(s, lists::X, lengths[3]),
         lists::part(s, lists::Y, lengths[4]),
         &mut answers[..bytes],
+        &mut names[..entries],
         &mut work[..words],
     )
 }
@@ -74,24 +81,29 @@ fn refill(work: &mut Work, count: usize) {
     }
 }
 
-// Internal: the call's reply, with how many answers and words are wrong, given the answers that are wanted.
-pub fn run(l: &List, lengths: Lengths, want: &List, answers: &mut Bytes, work: &mut Work) -> Reply {
+// Internal: the call's reply, with how many answers, names and words are wrong, given the answers and the names that are wanted.
+pub fn run(
+    l: &List,
+    lengths: Lengths,
+    want: &List,
+    answers: &mut Bytes,
+    names: &mut Names,
+    work: &mut Work,
+) -> Reply {
     let n = lists::size(l, lists::A);
     let m = lists::size(l, lists::B);
     let t = lists::size(l, lists::X);
     let words = replay::required(n, m, t);
     refill(work, words + 8);
     let p = lists::size(l, lists::Y);
-    let mut r = plain(call(n, m, t, p, lengths, l, answers, work));
-    let a = calls::bytes_wrong(
-        answers,
-        want,
-        lists::A,
-        calls::written(r, t),
-        counts::plus(t, 8),
-    );
+    let mut r = plain(call(n, m, t, p, lengths, l, answers, names, work));
+    let events = calls::written(r, t);
+    let all = counts::plus(t, 8);
+    let a = calls::bytes_wrong(answers, want, lists::A, events, all);
+    let b = calls::entries_wrong(names, want, lists::NAMES, events, all);
     let w = calls::words_wrong(work, calls::written(r, words), counts::plus(words, 8));
     r[5] = a;
+    r[6] = b;
     r[7] = w;
     r
 }

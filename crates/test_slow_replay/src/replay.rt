@@ -1,5 +1,5 @@
 // The slow replay. The edges of a network are marks: one segment is marked for each of its roads. Where places is not 0, the network is a ring of that many
-// places, and walking round tells the answers and the nodes; else the open roads are removed in turn. Answers stand in A of a list.
+// places, and walking round tells the answers and the nodes; else the open roads are removed in turn. Answers stand in A of a list, and names in NAMES.
 use crate::rings;
 use crate::roads;
 use test_library::calls::Lengths;
@@ -9,8 +9,7 @@ use test_library::lists;
 use test_library::lists::List;
 use test_library::tables;
 use test_library::tables::Marks;
-use test_slow_contraction::contraction;
-use test_slow_contraction::graphs;
+use test_slow_graphs::graphs;
 ghost use Prim.Native.Nat.{_<_, _≤_};
 
 // X of an event that closes a segment, and of one that opens it. All other numbers are below them.
@@ -132,12 +131,64 @@ fn answer(l: &List, open: &Marks, i: usize, places: usize) -> usize {
     graphs::answer(l, &edges, x, y)
 }
 
+// How many edges part u and v, which are joined.
+fn parting(l: &List, edges: &Marks, u: usize, v: usize) -> usize {
+    let m = lists::size(l, lists::B);
+    let mut count: usize = 0;
+    for e in 0..m {
+        count = counts::counted(count, graphs::is_parting(l, edges, e, u, v));
+    }
+    count
+}
+
+// How many open roads part the two junctions of event i, a query with the answer 1.
+pub(crate) fn parting_roads(l: &List, open: &Marks, i: usize) -> usize {
+    let mut edges = [false; 8192];
+    roads::mark(&mut edges, l, open);
+    parting(
+        l,
+        &edges,
+        lists::at(l, lists::X, i),
+        lists::at(l, lists::Y, i),
+    )
+}
+
+// The smallest name of a road whose loss parts u and v, which are joined; 65535 where there is none.
+fn least_parting(l: &List, edges: &Marks, u: usize, v: usize) -> usize {
+    let m = lists::size(l, lists::B);
+    let mut least: usize = 65535;
+    for e in 0..m {
+        if graphs::is_parting(l, edges, e, u, v) {
+            least = counts::least(least, roads::name(l, e));
+        }
+    }
+    least
+}
+
+// The name that event i with this answer gets, where these segments are open.
+fn name(l: &List, open: &Marks, i: usize, places: usize, answer: usize) -> usize {
+    let x = lists::at(l, lists::X, i);
+    let y = lists::at(l, lists::Y, i);
+    if answer != 1 {
+        return 65535;
+    }
+    let mut edges = [false; 8192];
+    mark_roads(&mut edges, l, open, places);
+    if places > 0 {
+        return rings::name(&edges, places, x, y);
+    }
+    least_parting(l, &edges, x, y)
+}
+
+// Writes the answers and the names.
 fn answers(r: &mut List, l: &List, places: usize) {
     let t = lists::size(l, lists::X);
     let mut open = [false; 8192];
     mark_start(&mut open, l);
     for i in 0..t {
-        lists::set(r, lists::A, i, answer(l, &open, i, places));
+        let a = answer(l, &open, i, places);
+        lists::set(r, lists::A, i, a);
+        lists::set(r, lists::NAMES, i, name(l, &open, i, places, a));
         change(&mut open, l, i);
     }
 }
@@ -202,7 +253,7 @@ fn kept(l: &List, start: usize, n: usize, places: usize) -> usize
     own
 }
 
-// The answers and the numbers of a list without a fault, with the segments that are open at the end.
+// The answers, the names and the numbers of a list without a fault, with the segments that are open at the end.
 fn accepted(r: &mut List, l: &List, open: &Marks, places: usize) -> Reply {
     let t = lists::size(l, lists::X);
     answers(r, l, places);
@@ -211,7 +262,7 @@ fn accepted(r: &mut List, l: &List, open: &Marks, places: usize) -> Reply {
     if t > 0 {
         sum = kept(l, 0, t % 65536, places);
     }
-    [0, 0, queries, tables::ones(open), sum, 0, 0, 0]
+    [0, 0, queries, tables::ones(open), sum, 0, 0, 0, 0, 0]
 }
 
 // Internal: the least length of the work table. The sizes go round past their limits, so that it is bounded.
@@ -226,8 +277,8 @@ fn is_short(l: &List, lengths: Lengths) -> bool {
     let m = lists::size(l, lists::B);
     let t = lists::size(l, lists::X);
     let network = (lengths[0] < m) | (lengths[1] < m) | (lengths[2] < m);
-    let events = (lengths[3] < t) | (lengths[4] < t) | (lengths[5] < t);
-    network | events | (lengths[6] < required(lists::size(l, lists::A), m, t))
+    let events = (lengths[3] < t) | (lengths[4] < t) | (lengths[5] < t) | (lengths[6] < t);
+    network | events | (lengths[7] < required(lists::size(l, lists::A), m, t))
 }
 
 // The number by which the sizes, a length or the share are refused, or 0.
@@ -258,13 +309,13 @@ fn bad_start(l: &List) -> usize {
 }
 
 fn refused(code: usize, place: usize) -> Reply {
-    [code, place, 0, 0, 0, 0, 0, 0]
+    [code, place, 0, 0, 0, 0, 0, 0, 0, 0]
 }
 
 // The reply where sizes, lengths and share are allowed.
 fn list_reply(r: &mut List, l: &List, places: usize) -> Reply {
     let m = lists::size(l, lists::B);
-    let e = contraction::bad_edge(l);
+    let e = graphs::bad_edge(l);
     if e < m {
         return refused(4, e);
     }
@@ -280,7 +331,7 @@ fn list_reply(r: &mut List, l: &List, places: usize) -> Reply {
     accepted(r, l, &open, places)
 }
 
-// Internal: the reply to a list whose tables have these lengths, with its answers; or its refusal.
+// Internal: the reply to a list whose tables have these lengths, with its answers and names; or its refusal.
 pub fn reply(r: &mut List, l: &List, lengths: Lengths, places: usize) -> Reply {
     let code = frame_fault(l, lengths);
     if code > 0 {

@@ -1,5 +1,5 @@
 // Rings of at least three places: the first junctions are the places, and segment e goes between place e and the next, counted round, in either order. So the
-// segments at one place are one road, for which the segment with the number of the place stands. An answer is told by walking both ways round. Where each place
+// segments at one place are one road, for which the segment with the number of the place stands. An answer is told by walking both ways round, and a name by walking the open way. Where each place
 // has an open road to the next, the ring is one class; else each place is a class, and these lie in rows, so that none without an active junction is kept.
 use test_library::counts;
 use test_library::random;
@@ -56,6 +56,28 @@ pub(crate) fn answer(edges: &Marks, places: usize, u: usize, v: usize) -> usize 
     }
     let on = counts::counted(0, is_way(edges, places, u, v));
     counts::counted(on, is_way(edges, places, v, u))
+}
+
+// The smallest place on the way from u on to v that has a road to the next.
+fn smallest(places: usize, u: usize, v: usize) -> usize {
+    let mut k = u;
+    let mut least: usize = 65535;
+    for _ in 0..4096usize {
+        if k == v {
+            return least;
+        }
+        least = counts::least(least, k);
+        k = next(places, k);
+    }
+    least
+}
+
+// The smallest name of a road between u and v, where just one way round is open: the loss of each road on it parts the two. A road's name is its place.
+pub(crate) fn name(edges: &Marks, places: usize, u: usize, v: usize) -> usize {
+    if is_way(edges, places, u, v) {
+        return smallest(places, u, v);
+    }
+    smallest(places, v, u)
 }
 
 // How many junctions are one class: all places, where each has an open road to the next; else none.

@@ -44,6 +44,16 @@ pub(crate) fn mark(edges: &mut Marks, l: &List, open: &Marks) {
     }
 }
 
+// The name of the road of segment e: its smallest segment, open or not.
+pub(crate) fn name(l: &List, e: usize) -> usize {
+    for f in 0..e {
+        if is_one(l, e, f) {
+            return f;
+        }
+    }
+    e
+}
+
 // Takes the road of segment e away.
 pub(crate) fn remove(edges: &mut Marks, l: &List, e: usize) {
     let m = lists::size(l, lists::B);

@@ -10,7 +10,7 @@ use test_library::print;
 use test_library::tables;
 use test_library::tables::Marks;
 use test_library::tables::Table;
-use test_slow_contraction::graphs;
+use test_slow_graphs::graphs;
 
 // Adds to the count at this line.
 fn raise(t: &mut Table, line: usize, more: usize) {
@@ -33,42 +33,39 @@ fn changes_beside(l: &List, x: usize) -> bool {
     false
 }
 
-// Whether event i has the answer 1, and would have 2 if each segment were a road.
-fn is_less(l: &List, open: &Marks, want: &List, i: usize) -> bool {
-    if lists::at(want, lists::A, i) != 1 {
-        return false;
-    }
-    graphs::answer(
-        l,
-        open,
-        lists::at(l, lists::X, i),
-        lists::at(l, lists::Y, i),
-    )
-        == 2
+// Counts event i, which has the answer 1, from 26 on: where its answer would be 2 if each segment were a road; where its name is that of a closed segment; and
+// where the loss of more than one road parts its junctions.
+fn add_one(t: &mut Table, l: &List, open: &Marks, want: &List, i: usize) {
+    let x = lists::at(l, lists::X, i);
+    let y = lists::at(l, lists::Y, i);
+    let closed = !tables::marked(open, lists::at(want, lists::NAMES, i));
+    raise(t, 26, (graphs::answer(l, open, x, y) == 2) as usize);
+    raise(t, 27, closed as usize);
+    raise(t, 28, (replay::parting_roads(l, open, i) > 1) as usize);
 }
 
-// How many events are so.
-fn less(l: &List, want: &List) -> usize {
-    let t = lists::size(l, lists::X);
+// Counts the events with the answer 1.
+fn add_ones(t: &mut Table, l: &List, want: &List) {
+    let n = lists::size(l, lists::X);
     let mut open = [false; 8192];
     replay::mark_start(&mut open, l);
-    let mut found: usize = 0;
-    for i in 0..t {
-        found = counts::counted(found, is_less(l, &open, want, i));
+    for i in 0..n {
+        if lists::at(want, lists::A, i) == 1 {
+            add_one(t, l, &open, want, i);
+        }
         replay::change(&mut open, l, i);
     }
-    found
 }
 
 // Counts an accepted list by its roads, from 22 on: lists with a road of two or more segments, with one that is drawn in both orders, in which a segment opens
-// while another one of its road is open, and in which one closes so; and, but for rings, the answers that are 1 and would be 2 if each segment were a road.
+// while another one of its road is open, and in which one closes so; and, but for rings, the answers 1.
 fn add_roads(t: &mut Table, l: &List, want: &List, places: usize) {
     raise(t, 22, roads::any_copy(l, false) as usize);
     raise(t, 23, roads::any_copy(l, true) as usize);
     raise(t, 24, changes_beside(l, replay::OPENS) as usize);
     raise(t, 25, changes_beside(l, replay::CLOSES) as usize);
     if places == 0 {
-        raise(t, 26, less(l, want));
+        add_ones(t, l, want);
     }
 }
 
@@ -127,7 +124,7 @@ with no segment open at the start: #\n\
 with all: #\n\
 with some: #\n\
 disagreements: #\n\
-answers changed on purpose: #\n\
+answers and names changed on purpose: #\n\
 noticed: #\n\
 answers 0: #\n\
 answers 1: #\n\
@@ -152,13 +149,17 @@ in which a segment closes while another one of its road is open: #\n\
     );
 }
 
-// Internal: prints how many answers are 1 that would be 2 if each segment were a road. On rings they are not counted.
-pub fn report_less(t: &Table) {
+// Internal: prints the counts of answers 1. On rings they are not counted.
+pub fn report_ones(t: &Table) {
     let mut r = [0u32; 512];
     tables::put(&mut r, 0, tables::get(t, 26));
+    tables::put(&mut r, 1, tables::get(t, 27));
+    tables::put(&mut r, 2, tables::get(t, 28));
     print::report(
         b"\
 answers 1 that would be 2 if each segment were a road: #\n\
+with the name of a closed segment: #\n\
+with more than one road whose loss parts the two: #\n\
 ",
         &r,
     );

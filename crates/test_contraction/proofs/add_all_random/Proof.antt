@@ -4,10 +4,10 @@ use Rattle.test_contraction.proofs.add_all_random.Statement.{statement}
 use Rattle.test_contraction.proofs.add_all_random.Tie as tie
 
 abbrev Inv-loop : tie.InvT-loop
-Inv-loop t₀ s₀ t s = s ≤ 5600
+Inv-loop t₀ s₀ t s = s ≤ 40320
 
 abbrev μ-loop : tie.MeasureT-loop
-μ-loop t₀ s₀ t s = 5600 - s
+μ-loop t₀ s₀ t s = 40320 - s
 
 pub add-all-random-spec : {M : Type 1} → statement M
 add-all-random-spec =

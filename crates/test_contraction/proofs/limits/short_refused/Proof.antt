@@ -4,10 +4,10 @@ use Rattle.test_contraction.proofs.limits.short_refused.Statement.{stat
 use Rattle.test_contraction.proofs.limits.short_refused.Tie as tie
 
 abbrev Inv-loop : tie.InvT-loop
-Inv-loop count₀ i₀ count i = i ≤ 9
+Inv-loop count₀ i₀ count i = i ≤ 11
 
 abbrev μ-loop : tie.MeasureT-loop
-μ-loop count₀ i₀ count i = 9 - i
+μ-loop count₀ i₀ count i = 11 - i
 
 pub short-refused-spec : {M : Type 1} → statement M
 short-refused-spec =

@@ -4,10 +4,10 @@ use Rattle.test_replay_calls.proofs.limits.short_refused.Statement.{sta
 use Rattle.test_replay_calls.proofs.limits.short_refused.Tie as tie
 
 abbrev Inv-loop : tie.InvT-loop
-Inv-loop work₀ count₀ i₀ work count i = i ≤ 8
+Inv-loop work₀ count₀ i₀ work count i = i ≤ 9
 
 abbrev μ-loop : tie.MeasureT-loop
-μ-loop work₀ count₀ i₀ work count i = 8 - i
+μ-loop work₀ count₀ i₀ work count i = 9 - i
 
 pub short-refused-spec : {M : Type 1} → statement M
 short-refused-spec =

@@ -1,0 +1,24 @@
+use Prim.Native.Nat.{_≤_, _-_}
+use borrow.Author.Needs.{needs}
+use Rattle.test_slow_replay.proofs.roads.name.Statement.{statement}
+use Rattle.test_slow_replay.proofs.roads.name.Tie as tie
+
+abbrev Inv-loop : tie.InvT-loop
+Inv-loop l e f₀ f = f ≤ e
+
+abbrev μ-loop : tie.MeasureT-loop
+μ-loop l e f₀ f = e - f
+
+pub name-spec : {M : Type 1} → statement M
+name-spec =
+    tie.close
+    (tie.spec
+    Inv-loop
+    μ-loop
+    (λ c. search needs)
+    (λ c κs. search needs)
+    (λ c. search needs)
+    (λ c. search needs)
+    (λ c. search needs)
+    (λ c. search needs)
+    (λ c. search needs))

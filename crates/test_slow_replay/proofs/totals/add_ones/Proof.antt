@@ -1,0 +1,27 @@
+use Prim.Native.Nat.{_≤_, _-_}
+use borrow.Author.Needs.{needs}
+use Rattle.test_slow_replay.proofs.totals.add_ones.Statement.{statement}
+use Rattle.test_slow_replay.proofs.totals.add_ones.Tie as tie
+
+abbrev Inv-loop : tie.InvT-loop
+Inv-loop t₀ l want n open₀ i₀ t «open» i = i ≤ n
+
+abbrev μ-loop : tie.MeasureT-loop
+μ-loop t₀ l want n open₀ i₀ t «open» i = n - i
+
+pub add-ones-spec : {M : Type 1} → statement M
+add-ones-spec =
+    tie.close
+    (tie.spec
+    Inv-loop
+    μ-loop
+    (λ c κs. search needs)
+    (λ c κs. search needs)
+    (λ c. search needs)
+    (λ c κs. search needs)
+    (λ c κs. search needs)
+    (λ c κs. search needs)
+    (λ c. search needs)
+    (λ c. search needs)
+    (λ c. search needs)
+    (λ c. search needs))
