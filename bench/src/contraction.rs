@@ -1,6 +1,6 @@
 //! The contraction as a call, in plain Rust: checks, loading, the reply's tables, and the words cleared.
 
-use crate::core::{self, Node, LARGE_END, MARK, ROOT, SMALL_END};
+use crate::core::{self, Node, LARGE_END, MARK, NAMED, ROOT, SMALL_END};
 use crate::{Refusal, MOST_ENTRIES, MOST_JUNCTIONS, MOST_SEGMENTS};
 
 pub fn required(n: usize, m: usize) -> usize {
@@ -26,10 +26,12 @@ pub fn contract(
     k: usize,
     from: &[u16],
     to: &[u16],
+    names: &[u16],
     active: &[u16],
     map: &mut [u16],
     out_from: &mut [u16],
     out_to: &mut [u16],
+    out_names: &mut [u16],
     pieces: &mut [u16],
     work: &mut [u32],
 ) -> Result<(usize, usize), Refusal> {
@@ -38,10 +40,12 @@ pub fn contract(
     }
     let short = from.len() < m
         || to.len() < m
+        || names.len() < m
         || active.len() < k
         || map.len() < k
         || out_from.len() < 2 * k
         || out_to.len() < 2 * k
+        || out_names.len() < 2 * k
         || pieces.len() < k
         || work.len() < required(n, m);
     if short {
@@ -61,17 +65,19 @@ pub fn contract(
     let different = active
         .iter()
         .fold(0, |d, &v| core::enter(nodes, d, v as usize));
-    for ((edge, &u), &v) in halves.as_chunks_mut::<2>().0.iter_mut().zip(from).zip(to) {
-        edge[0][0] = u as u32;
-        edge[1][0] = v as u32;
+    let ends = from.iter().zip(to).zip(names);
+    for (edge, ((&u, &v), &name)) in halves.as_chunks_mut::<2>().0.iter_mut().zip(ends) {
+        core::put_edge(edge, u as u32, v as u32, name as u32);
     }
     let (count, edges) = core::reduce::<true>(nodes, halves, different);
     for (entry, &v) in map.iter_mut().zip(active) {
         *entry = nodes[v as usize][MARK] as u16;
     }
-    for ((node, u), v) in nodes[..edges].iter().zip(out_from).zip(out_to) {
+    let out = out_from.iter_mut().zip(out_to).zip(out_names);
+    for (node, ((u, v), name)) in nodes[..edges].iter().zip(out) {
         *u = node[SMALL_END] as u16;
         *v = node[LARGE_END] as u16;
+        *name = node[NAMED] as u16;
     }
     fill_pieces(nodes, active, pieces);
     work[..required(n, m)].fill(0);

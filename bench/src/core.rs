@@ -1,9 +1,9 @@
 //! The contraction on words, in plain Rust: the passes and the layout of the crates `core_*`.
-//! A node has 16 words, a half-edge two; the half-edges stand behind the nodes.
+//! A node has 16 words, a half-edge three; the half-edges stand behind the nodes.
 
 pub type Node = [u32; 16];
-/// The far end, and 1 + the next half-edge at the same node.
-pub type Half = [u32; 2];
+/// The far end, 1 + the next half-edge at the same node, and in the first half-edge of an edge its name.
+pub type Half = [u32; 3];
 
 // Fields of a node. Several are used again once their first use is over.
 /// 1 + the place among the active nodes (in); the number of the class (out). For the pieces 1 + the number of a tree, at its root.
@@ -25,10 +25,16 @@ const BRANCHES: usize = 8;
 const ABOVE: usize = 9;
 /// 1 + the number of a class.
 const NUMBER: usize = 10;
+/// At i: the name of the edge from the class i to the nearest kept class above.
+const UPWARD: usize = 11;
 /// The root of the tree, where it is asked for.
 pub const ROOT: usize = 12;
 /// 1 + the edge to the parent, 0 at a root.
 const TREE_EDGE: usize = 13;
+/// At a top that is no root: the smallest name between its class and the nearest kept class above.
+const LEAST: usize = 14;
+/// At i: the name of the i-th edge (out).
+pub const NAMED: usize = 15;
 /// At i: the ends of the i-th edge (out).
 pub const SMALL_END: usize = PLACE;
 pub const LARGE_END: usize = PARENT;
@@ -39,7 +45,7 @@ const NEXT_CHILD: usize = BRANCHES;
 /// The words as nodes and half-edges.
 pub fn split(work: &mut [u32], n: usize, m: usize) -> (&mut [Node], &mut [Half]) {
     let (nodes, rest) = work.split_at_mut(16 * n);
-    (nodes.as_chunks_mut().0, rest[..4 * m].as_chunks_mut().0)
+    (nodes.as_chunks_mut().0, rest[..6 * m].as_chunks_mut().0)
 }
 
 pub fn clear_marks(nodes: &mut [Node]) {
@@ -56,6 +62,13 @@ pub fn enter(nodes: &mut [Node], k: usize, v: usize) -> usize {
     nodes[k][ACTIVE] = v as u32;
     nodes[v][MARK] = k as u32 + 1;
     k + 1
+}
+
+/// Puts an edge's ends and its name into its two half-edges.
+pub fn put_edge(edge: &mut [Half; 2], u: u32, v: u32, name: u32) {
+    edge[0][0] = u;
+    edge[0][2] = name;
+    edge[1][0] = v;
 }
 
 fn link_edges(nodes: &mut [Node], halves: &mut [Half]) {
@@ -102,7 +115,7 @@ fn spanning_forest<const ROOTS: bool>(nodes: &mut [Node], halves: &[Half], k: us
             done += 1;
             let mut h = nodes[v][HEAD] as usize;
             while h != 0 {
-                let [w, next] = halves[h - 1];
+                let [w, next, _] = halves[h - 1];
                 if nodes[w as usize][PLACE] == 0 {
                     let tree_edge = (h - 1) / 2 + 1;
                     append::<ROOTS>(nodes, &mut seen, w as usize, v, tree_edge, root);
@@ -202,25 +215,36 @@ fn number_others(nodes: &mut [Node], mut count: usize) -> usize {
     count
 }
 
-fn nearest_kept(nodes: &mut [Node], seen: usize) {
+/// The nearest kept class above each kept class, and the smallest name on the way to it.
+fn nearest_kept(nodes: &mut [Node], halves: &[Half], seen: usize) {
     for i in 0..seen {
         let v = nodes[i][ORDER] as usize;
         let node = nodes[v];
         if node[TOP] as usize != v {
             continue;
         }
-        let above = if node[TREE_EDGE] == 0 {
-            0
+        let (above, least) = if node[TREE_EDGE] == 0 {
+            (0, 0)
         } else {
-            let top = nodes[node[PARENT] as usize][TOP] as usize;
-            nodes[top][NEAREST]
+            let top = &nodes[nodes[node[PARENT] as usize][TOP] as usize];
+            let name = halves[2 * (node[TREE_EDGE] as usize - 1)][2];
+            // A class that is not kept hands on what lies between it and the nearest one above. A root that is not kept has no such class, and
+            // what it hands on is not read.
+            let least = if top[NUMBER] == 0 {
+                name.min(top[LEAST])
+            } else {
+                name
+            };
+            (top[NEAREST], least)
         };
+        nodes[v][LEAST] = least;
         let number = node[NUMBER];
         if number == 0 {
             nodes[v][NEAREST] = above;
         } else {
             nodes[v][NEAREST] = number;
             nodes[number as usize - 1][ABOVE] = above;
+            nodes[number as usize - 1][UPWARD] = least;
         }
     }
 }
@@ -238,9 +262,12 @@ fn list_edges(nodes: &mut [Node], count: usize) -> usize {
         }
     }
     let mut edges = 0;
-    let mut write = |nodes: &mut [Node], s: usize, t: usize| {
-        nodes[edges][SMALL_END] = s as u32;
-        nodes[edges][LARGE_END] = t as u32 - 1;
+    let mut write = |nodes: &mut [Node], s: usize, t: usize, below: usize| {
+        let name = nodes[below][UPWARD];
+        let edge = &mut nodes[edges];
+        edge[SMALL_END] = s as u32;
+        edge[LARGE_END] = t as u32 - 1;
+        edge[NAMED] = name;
         edges += 1;
     };
     for s in 0..count {
@@ -249,14 +276,14 @@ fn list_edges(nodes: &mut [Node], count: usize) -> usize {
         let mut child = nodes[s][CHILDREN] as usize;
         while child != 0 {
             if pending != 0 && pending < child {
-                write(nodes, s, pending);
+                write(nodes, s, pending, s);
                 pending = 0;
             }
-            write(nodes, s, child);
+            write(nodes, s, child, child - 1);
             child = nodes[child - 1][NEXT_CHILD] as usize;
         }
         if pending != 0 {
-            write(nodes, s, pending);
+            write(nodes, s, pending, s);
         }
     }
     edges
@@ -281,7 +308,7 @@ pub fn reduce<const ROOTS: bool>(
     let actives = number_actives(nodes, k);
     count_branches(nodes, seen);
     let count = number_others(nodes, actives);
-    nearest_kept(nodes, seen);
+    nearest_kept(nodes, halves, seen);
     let edges = list_edges(nodes, count);
     for i in 0..k {
         let v = nodes[i][ACTIVE] as usize;

@@ -23,6 +23,7 @@ pub struct Graph {
     pub n: usize,
     pub from: Vec<u16>,
     pub to: Vec<u16>,
+    pub names: Vec<u16>,
     pub active: Vec<u16>,
 }
 
@@ -46,11 +47,14 @@ pub fn graph(shape: Shape, n: usize, random: &mut Random) -> Graph {
         from.push(u as u16);
         to.push(w as u16);
     }
+    // All different, in no order.
+    let names = (0..2 * n).map(|e| (e * 40503 % 65536) as u16).collect();
     let active = (0..n / 4).map(|_| random.below(n) as u16).collect();
     Graph {
         n,
         from,
         to,
+        names,
         active,
     }
 }

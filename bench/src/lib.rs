@@ -32,6 +32,9 @@ pub const MOST_ENTRIES: usize = 8192;
 pub const OPENS: u16 = 65535;
 pub const CLOSES: u16 = 65534;
 
+/// The name of an event that has no answer 1.
+pub const NO_NAME: u16 = 65535;
+
 /// The segments whose entry in a starting table is 1.
 pub fn open_at_start(start: &[u16]) -> impl Iterator<Item = u16> + '_ {
     (0..).zip(start).filter(|(_, &e)| e == 1).map(|(s, _)| s)

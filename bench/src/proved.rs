@@ -24,6 +24,7 @@ pub fn replay(
     x: &[u16],
     y: &[u16],
     answers: &mut [u8],
+    names: &mut [u16],
     work: &mut [u32],
 ) -> Result<Totals, Refusal> {
     let lent = ReplayTables {
@@ -37,6 +38,7 @@ pub fn replay(
         x,
         y,
         answers,
+        names,
         work,
     };
     let r = tables::replay(lent).map_err(refusal)?;
@@ -54,10 +56,12 @@ pub fn contract(
     k: usize,
     from: &[u16],
     to: &[u16],
+    names: &[u16],
     active: &[u16],
     map: &mut [u16],
     out_from: &mut [u16],
     out_to: &mut [u16],
+    out_names: &mut [u16],
     pieces: &mut [u16],
     work: &mut [u32],
 ) -> Result<(usize, usize), Refusal> {
@@ -67,10 +71,12 @@ pub fn contract(
         k,
         from,
         to,
+        names,
         active,
         map,
         out_from,
         out_to,
+        out_names,
         pieces,
         work,
     };

@@ -1,8 +1,10 @@
 //! The replay in plain Rust: the same checks, roads, areas, load, windows and step as the crates `replay_*` and `call_replay`.
 
-use crate::core::{self, Half, Node, LARGE_END, MARK, SMALL_END};
+use crate::core::{self, put_edge, Half, Node, LARGE_END, MARK, NAMED, SMALL_END};
 use crate::roads;
-use crate::{open_at_start, Refusal, CLOSES, MOST_EVENTS, MOST_JUNCTIONS, MOST_SEGMENTS, OPENS};
+use crate::{
+    open_at_start, Refusal, CLOSES, MOST_EVENTS, MOST_JUNCTIONS, MOST_SEGMENTS, NO_NAME, OPENS,
+};
 
 #[derive(Clone, Copy, PartialEq, Eq, Debug)]
 pub struct Totals {
@@ -113,17 +115,17 @@ struct Roads<'a> {
     latest: &'a mut [u32],
 }
 
-/// The roads as they are at the start, in 3m + 2n words.
+/// The roads as they are at the start: the numbers of open segments in m words, the rest in 2m + 2n words of the scratch.
 fn make_roads<'a>(
     n: usize,
     a: &[u16],
     b: &[u16],
     start: &[u16],
-    words: &'a mut [u32],
+    open: &'a mut [u32],
+    scratch: &'a mut [u32],
 ) -> Roads<'a> {
     let m = a.len();
-    let (names, rest) = words.split_at_mut(m);
-    let (open, rest) = rest.split_at_mut(m);
+    let (names, rest) = scratch.split_at_mut(m);
     let (latest, rest) = rest.split_at_mut(m);
     roads::name(n, a, b, names, rest);
     open.fill(0);
@@ -173,8 +175,8 @@ fn make_events(a: &[u16], b: &[u16], x: &[u16], y: &[u16], roads: &mut Roads, ab
     }
 }
 
-/// A window's events, and the size of its small graph. The area of a window of n events is 13 n words at the front of its work slice:
-/// places (2 n), event words (3 n), and the smaller and the larger ends of the edges (4 n each).
+/// A window's events, and the size of its small graph. The area of a window of n events is 17 n words at the front of its work slice:
+/// places (2 n), event words (3 n), the smaller and the larger ends of the edges, and their names (4 n each).
 #[derive(Clone, Copy)]
 struct Window {
     at: usize,
@@ -195,24 +197,21 @@ fn write_area(nodes: &[Node], edges: usize, places: &[Places], events: &[Event],
     let c = events.len();
     let (new_places, rest) = part.split_at_mut(2 * c);
     let (new_events, ends) = rest.split_at_mut(3 * c);
-    let (small, large) = ends.split_at_mut(4 * c);
+    let (small, rest) = ends.split_at_mut(4 * c);
+    let (large, names) = rest.split_at_mut(4 * c);
     for (new, &v) in new_places.iter_mut().zip(places.as_flattened()) {
         *new = nodes[v as usize][MARK];
     }
     new_events.copy_from_slice(events.as_flattened());
-    for ((node, u), v) in nodes[..edges].iter().zip(small).zip(large) {
+    let out = small.iter_mut().zip(large).zip(names);
+    for (node, ((u, v), name)) in nodes[..edges].iter().zip(out) {
         *u = node[SMALL_END];
         *v = node[LARGE_END];
+        *name = node[NAMED];
     }
 }
 
-/// Puts an edge's ends into its two half-edges.
-fn put_edge(edge: &mut [Half; 2], u: u32, v: u32) {
-    edge[0][0] = u;
-    edge[1][0] = v;
-}
-
-/// Loads one edge for each road that is open at the start and that no event names; how many they are. `open` has the numbers at the end,
+/// Loads one edge for each road that is open at the start and that no event names, with its name; how many they are. `open` has the numbers at the end,
 /// which are those at the start for a road that no event names; the others are cleared.
 fn load_roads(
     a: &[u16],
@@ -226,16 +225,17 @@ fn load_roads(
     }
     let pairs = halves.as_chunks_mut::<2>().0;
     let mut m = 0;
-    for ((&u, &v), &open) in a.iter().zip(b).zip(&*open) {
+    for (name, ((&u, &v), &open)) in a.iter().zip(b).zip(&*open).enumerate() {
         if open != 0 {
-            put_edge(&mut pairs[m], u as u32, v as u32);
+            put_edge(&mut pairs[m], u as u32, v as u32, name as u32);
             m += 1;
         }
     }
     m
 }
 
-/// The whole list's area, behind the window above it, whose nodes are all n junctions. The roads stand behind the contraction's words.
+/// The whole list's area, behind the window above it, whose nodes are all n junctions. Of the roads the contraction needs the numbers of open
+/// segments alone, and its words stand where the rest of them was.
 fn top(
     n: usize,
     a: &[u16],
@@ -247,14 +247,14 @@ fn top(
 ) -> Window {
     let t = x.len();
     let (above, rest) = work.split_at_mut(5 * t);
-    let (whole, rest) = rest.split_at_mut(13 * t);
-    let (scratch, rest) = rest.split_at_mut(16 * n + 4 * a.len());
-    let mut roads = make_roads(n, a, b, start, rest);
+    let (whole, rest) = rest.split_at_mut(17 * t);
+    let (open, scratch) = rest.split_at_mut(a.len());
+    let mut roads = make_roads(n, a, b, start, open, scratch);
     make_events(a, b, x, y, &mut roads, above);
     let (places, events) = events_of(above, t);
     let (nodes, halves) = core::split(scratch, n, a.len());
     let k = enter_all(nodes, places);
-    let m = load_roads(a, b, events, roads.open, halves);
+    let m = load_roads(a, b, events, open, halves);
     let (count, edges) = core::reduce::<false>(nodes, &mut halves[..2 * m], k);
     write_area(nodes, edges, places, events, whole);
     Window {
@@ -268,10 +268,11 @@ fn top(
 /// The area of the part of c events from lo on, out of the window's, which is at the front of work; it is written behind that.
 fn step(w: Window, lo: usize, c: usize, work: &mut [u32]) -> Window {
     let n = w.events;
-    let (area, rest) = work.split_at_mut(13 * n);
-    let (part, scratch) = rest.split_at_mut(13 * c);
+    let (area, rest) = work.split_at_mut(17 * n);
+    let (part, scratch) = rest.split_at_mut(17 * c);
     let (places, events) = events_of(area, n);
-    let (small, large) = area[5 * n..].split_at(4 * n);
+    let (small, rest) = area[5 * n..].split_at(4 * n);
+    let (large, names) = rest.split_at(4 * n);
     let (first, behind) = (lo - w.at, lo - w.at + c);
     let here = &places[first..behind];
 
@@ -280,22 +281,23 @@ fn step(w: Window, lo: usize, c: usize, work: &mut [u32]) -> Window {
     let (nodes, halves) = core::split(scratch, w.nodes, w.edges + n - c);
     let k = enter_all(nodes, here);
     let pairs = halves.as_chunks_mut::<2>().0;
-    for ((edge, &u), &v) in pairs.iter_mut().zip(&small[..w.edges]).zip(large) {
-        put_edge(edge, u, v);
+    let given = small[..w.edges].iter().zip(large).zip(names);
+    for (edge, ((&u, &v), &name)) in pairs.iter_mut().zip(given) {
+        put_edge(edge, u, v, name);
     }
     let mut m = w.edges;
-    let mut add = |ends: &Places| {
-        put_edge(&mut pairs[m], ends[0], ends[1]);
+    let mut add = |event: &Event, ends: &Places| {
+        put_edge(&mut pairs[m], ends[0], ends[1], road(event) as u32);
         m += 1;
     };
     for (event, ends) in events[..first].iter().zip(places) {
         if event[0] != 0 && event[1] as usize >= lo + c && is_open_after(event) {
-            add(ends);
+            add(event, ends);
         }
     }
     for (event, ends) in events[behind..].iter().zip(&places[behind..]) {
         if event[0] != 0 && event[2] as usize <= w.at && is_open_before(event) {
-            add(ends);
+            add(event, ends);
         }
     }
 
@@ -309,24 +311,24 @@ fn step(w: Window, lo: usize, c: usize, work: &mut [u32]) -> Window {
     }
 }
 
-/// Answers a window's events; the nodes of its small graph and of those of the windows inside it.
-fn window(w: Window, p: usize, answers: &mut [u8], work: &mut [u32]) -> usize {
+/// Answers a window's events, and names the roads that answers 1 hang on; the nodes of its small graph and of those of the windows inside it.
+fn window(w: Window, p: usize, answers: &mut [u8], names: &mut [u16], work: &mut [u32]) -> usize {
     let n = w.events;
     if n == 1 {
         let tag = work[2];
-        answers[w.at] = match w {
-            _ if tag != 0 => 3,
-            Window { nodes: 1, .. } => 2,
-            Window { edges: 0, .. } => 0,
-            _ => 1,
+        (answers[w.at], names[w.at]) = match w {
+            _ if tag != 0 => (3, NO_NAME),
+            Window { nodes: 1, .. } => (2, NO_NAME),
+            Window { edges: 0, .. } => (0, NO_NAME),
+            _ => (1, work[13] as u16),
         };
         return w.nodes;
     }
     let c = (n * p / 16).max(1);
     let part = step(w, w.at, c, work);
-    let first = window(part, p, answers, &mut work[13 * n..]);
+    let first = window(part, p, answers, names, &mut work[17 * n..]);
     let part = step(w, w.at + c, n - c, work);
-    let second = window(part, p, answers, &mut work[13 * n..]);
+    let second = window(part, p, answers, names, &mut work[17 * n..]);
     w.nodes + first + second
 }
 
@@ -342,6 +344,7 @@ pub fn replay(
     x: &[u16],
     y: &[u16],
     answers: &mut [u8],
+    names: &mut [u16],
     work: &mut [u32],
 ) -> Result<Totals, Refusal> {
     if n > MOST_JUNCTIONS || m > MOST_SEGMENTS || t > MOST_EVENTS {
@@ -353,6 +356,7 @@ pub fn replay(
         || x.len() < t
         || y.len() < t
         || answers.len() < t
+        || names.len() < t
         || work.len() < required(n, m, t);
     if short {
         return Err(Refusal::new(2, 0));
@@ -375,7 +379,7 @@ pub fn replay(
     let mut kept = 0;
     if t > 0 {
         let whole = top(n, a, b, start, x, y, work);
-        kept = window(whole, p, answers, &mut work[5 * t..]);
+        kept = window(whole, p, answers, names, &mut work[5 * t..]);
     }
     let queries = x.iter().filter(|&&v| !names_segment(v)).count();
     work.fill(0);

@@ -37,60 +37,35 @@ pub fn name(n: usize, a: &[u16], b: &[u16], names: &mut [u32], work: &mut [u32])
     }
 }
 
-/// A road that a segment has opened: its ends as one number, a segment of it, and how many are open.
-#[derive(Clone, Copy)]
-struct Entry {
-    ends: u32,
-    segment: u16,
-    open: u16,
-}
-
-/// No junction has such a number.
-const EMPTY: Entry = Entry {
-    ends: u32::MAX,
-    segment: 0,
-    open: 0,
-};
-
-/// The roads that have been open, by a hash of their ends, for the searches: these need no names, and pay only for what opens.
+/// How many segments of each road are open, by the names of the roads, for the searches.
 #[derive(Default)]
 pub struct Roads {
-    table: Vec<Entry>,
+    names: Vec<u32>,
+    open: Vec<u16>,
+    work: Vec<u32>,
 }
 
 impl Roads {
-    /// All m segments of a network are closed.
-    pub fn reset(&mut self, m: usize) {
-        self.table.clear();
-        self.table.resize((2 * m).next_power_of_two(), EMPTY);
+    /// All segments of a network of n junctions are closed.
+    pub fn reset(&mut self, n: usize, a: &[u16], b: &[u16]) {
+        self.names.resize(a.len(), 0);
+        self.work.resize(2 * n, 0);
+        name(n, a, b, &mut self.names, &mut self.work);
+        self.open.clear();
+        self.open.resize(a.len(), 0);
     }
 
-    /// The road between two junctions, or the empty place for it. At least half of the places are empty.
-    fn find(&mut self, u: u16, v: u16) -> &mut Entry {
-        let ends = (u.min(v) as u32) << 16 | u.max(v) as u32;
-        let last = self.table.len() - 1;
-        let mut place = (ends.wrapping_mul(0x9e37_79b1) >> 16) as usize & last;
-        while self.table[place].ends != ends && self.table[place].ends != EMPTY.ends {
-            place = (place + 1) & last;
-        }
-        self.table[place].ends = ends;
-        &mut self.table[place]
+    /// Segment s opens. The name of its road, where that opens with it.
+    pub fn open(&mut self, s: usize) -> Option<usize> {
+        let road = self.names[s] as usize;
+        self.open[road] += 1;
+        (self.open[road] == 1).then_some(road)
     }
 
-    /// Segment s opens between u and v. Where its road opens with it, the segment that stands for the road.
-    pub fn open(&mut self, s: u16, u: u16, v: u16) -> Option<u16> {
-        let road = self.find(u, v);
-        if road.open == 0 {
-            road.segment = s;
-        }
-        road.open += 1;
-        (road.open == 1).then_some(s)
-    }
-
-    /// A segment closes between u and v. Where its road closes with it, the segment that stood for the road.
-    pub fn close(&mut self, u: u16, v: u16) -> Option<u16> {
-        let road = self.find(u, v);
-        road.open -= 1;
-        (road.open == 0).then_some(road.segment)
+    /// Segment s closes. The name of its road, where that closes with it.
+    pub fn close(&mut self, s: usize) -> Option<usize> {
+        let road = self.names[s] as usize;
+        self.open[road] -= 1;
+        (self.open[road] == 0).then_some(road)
     }
 }

@@ -1,8 +1,9 @@
 //! Searches that answer each query by itself, in time that is linear in what they search.
-//! Both take lists that are valid, and check nothing. They search roads, so that a second open segment of a road costs nothing.
+//! Both take lists that are valid, and check nothing. They search roads, by their names, so that a second open segment of a road costs nothing.
+//! The roads that an answer 1 hangs on are the bridges on the way in the search's tree.
 
 use crate::roads::Roads;
-use crate::{open_at_start, CLOSES, OPENS};
+use crate::{open_at_start, CLOSES, NO_NAME, OPENS};
 
 const NONE: u32 = u32::MAX;
 
@@ -23,8 +24,9 @@ pub struct Whole {
     piece: Vec<u32>,
     class: Vec<u32>,
     cursor: Vec<u32>,
-    /// The road by which a junction was found.
+    /// The road by which a junction was found, and the junction from which it was.
     by: Vec<u32>,
+    from: Vec<u32>,
     path: Vec<u32>,
     waiting: Vec<u32>,
 }
@@ -35,17 +37,17 @@ impl Whole {
     }
 
     /// Segment s opens.
-    fn open(&mut self, s: usize, a: &[u16], b: &[u16]) {
-        if let Some(road) = self.roads.open(s as u16, a[s], b[s]) {
-            self.place[road as usize] = self.open.len() as u32;
+    fn open(&mut self, s: usize) {
+        if let Some(road) = self.roads.open(s) {
+            self.place[road] = self.open.len() as u32;
             self.open.push(road as u32);
         }
     }
 
     /// Segment s closes.
-    fn close(&mut self, s: usize, a: &[u16], b: &[u16]) {
-        if let Some(road) = self.roads.close(a[s], b[s]) {
-            let at = self.place[road as usize] as usize;
+    fn close(&mut self, s: usize) {
+        if let Some(road) = self.roads.close(s) {
+            let at = self.place[road] as usize;
             self.open.swap_remove(at);
             if let Some(&moved) = self.open.get(at) {
                 self.place[moved as usize] = at as u32;
@@ -82,6 +84,7 @@ impl Whole {
         self.piece.resize(n, 0);
         self.class.resize(n, 0);
         self.by.resize(n, 0);
+        self.from.resize(n, 0);
         self.cursor.clear();
         self.cursor.extend_from_slice(&self.first[..n]);
         let mut time = 0;
@@ -111,6 +114,7 @@ impl Whole {
                         self.found[w] = time;
                         self.low[w] = time;
                         self.by[w] = s;
+                        self.from[w] = v as u32;
                         self.piece[w] = root as u32;
                         self.path.push(w as u32);
                         self.waiting.push(w as u32);
@@ -137,6 +141,32 @@ impl Whole {
         }
     }
 
+    /// The smallest bridge on the way between two junctions of one piece in the tree of the search. The one that was found later goes up until
+    /// they meet.
+    fn least_bridge(&self, mut u: usize, mut v: usize) -> u32 {
+        let mut least = NONE;
+        while u != v {
+            if self.found[u] < self.found[v] {
+                (u, v) = (v, u);
+            }
+            if self.low[u] == self.found[u] {
+                least = least.min(self.by[u]);
+            }
+            u = self.from[u] as usize;
+        }
+        least
+    }
+
+    fn answer(&self, u: usize, v: usize) -> (u8, u16) {
+        if self.class[u] == self.class[v] {
+            (2, NO_NAME)
+        } else if self.piece[u] == self.piece[v] {
+            (1, self.least_bridge(u, v) as u16)
+        } else {
+            (0, NO_NAME)
+        }
+    }
+
     #[allow(clippy::too_many_arguments)]
     pub fn replay(
         &mut self,
@@ -147,35 +177,30 @@ impl Whole {
         x: &[u16],
         y: &[u16],
         answers: &mut [u8],
+        names: &mut [u16],
     ) {
-        self.roads.reset(a.len());
+        self.roads.reset(n, a, b);
         self.open.clear();
         self.place.clear();
         self.place.resize(a.len(), 0);
         for s in open_at_start(start) {
-            self.open(s as usize, a, b);
+            self.open(s as usize);
         }
-        for ((&x, &y), answer) in x.iter().zip(y).zip(answers) {
-            *answer = match x {
+        let replies = answers.iter_mut().zip(names);
+        for ((&x, &y), (answer, name)) in x.iter().zip(y).zip(replies) {
+            (*answer, *name) = match x {
                 OPENS => {
-                    self.open(y as usize, a, b);
-                    3
+                    self.open(y as usize);
+                    (3, NO_NAME)
                 }
                 CLOSES => {
-                    self.close(y as usize, a, b);
-                    3
+                    self.close(y as usize);
+                    (3, NO_NAME)
                 }
                 _ => {
                     self.build(n, a, b);
                     self.search(n);
-                    let (u, v) = (x as usize, y as usize);
-                    if self.class[u] == self.class[v] {
-                        2
-                    } else if self.piece[u] == self.piece[v] {
-                        1
-                    } else {
-                        0
-                    }
+                    self.answer(x as usize, y as usize)
                 }
             };
         }
@@ -206,7 +231,7 @@ struct Step {
 }
 
 /// One depth-first search per query over the piece of the query's first junction, on adjacency lists that are kept up to date.
-/// It stops as soon as the answer is settled.
+/// It stops as soon as the answer and the name are settled: when it leaves the way between the two for the last time.
 #[derive(Default)]
 pub struct Piece {
     roads: Roads,
@@ -256,8 +281,7 @@ impl Piece {
 
     /// Segment s opens.
     fn open(&mut self, s: usize, a: &[u16], b: &[u16]) {
-        if let Some(road) = self.roads.open(s as u16, a[s], b[s]) {
-            let r = road as usize;
+        if let Some(r) = self.roads.open(s) {
             self.link(a[r], 2 * r, b[r]);
             self.link(b[r], 2 * r + 1, a[r]);
         }
@@ -265,8 +289,7 @@ impl Piece {
 
     /// Segment s closes.
     fn close(&mut self, s: usize, a: &[u16], b: &[u16]) {
-        if let Some(road) = self.roads.close(a[s], b[s]) {
-            let r = road as usize;
+        if let Some(r) = self.roads.close(s) {
             self.unlink(a[r], 2 * r);
             self.unlink(b[r], 2 * r + 1);
         }
@@ -294,11 +317,12 @@ impl Piece {
         });
     }
 
-    fn answer(&mut self, from: u16, to: u16) -> u8 {
+    fn answer(&mut self, from: u16, to: u16) -> (u8, u16) {
         if from == to {
-            return 2;
+            return (2, NO_NAME);
         }
         let before = self.time;
+        let mut least = NONE;
         self.path.clear();
         self.find(from, NONE);
         // The first `way` junctions of the path lead to `to`, once it is found.
@@ -320,15 +344,19 @@ impl Piece {
                     top.low = top.low.min(found);
                 }
             }
-            let Step { found, low, .. } = *top;
+            let Step { by, found, low, .. } = *top;
             self.path.pop();
             let depth = self.path.len();
             if depth < way {
                 if low == found {
-                    return 1;
+                    least = least.min(by / 2);
                 }
                 if depth == 1 {
-                    return 2;
+                    return if least == NONE {
+                        (2, NO_NAME)
+                    } else {
+                        (1, least as u16)
+                    };
                 }
                 way = depth;
             }
@@ -336,7 +364,7 @@ impl Piece {
                 parent.low = parent.low.min(low);
             }
         }
-        0
+        (0, NO_NAME)
     }
 
     #[allow(clippy::too_many_arguments)]
@@ -349,21 +377,23 @@ impl Piece {
         x: &[u16],
         y: &[u16],
         answers: &mut [u8],
+        names: &mut [u16],
     ) {
-        self.roads.reset(a.len());
+        self.roads.reset(n, a, b);
         self.make_rows(n, a, b);
         for s in open_at_start(start) {
             self.open(s as usize, a, b);
         }
-        for ((&x, &y), answer) in x.iter().zip(y).zip(answers) {
-            *answer = match x {
+        let replies = answers.iter_mut().zip(names);
+        for ((&x, &y), (answer, name)) in x.iter().zip(y).zip(replies) {
+            (*answer, *name) = match x {
                 OPENS => {
                     self.open(y as usize, a, b);
-                    3
+                    (3, NO_NAME)
                 }
                 CLOSES => {
                     self.close(y as usize, a, b);
-                    3
+                    (3, NO_NAME)
                 }
                 _ => self.answer(x, y),
             };

@@ -77,6 +77,7 @@ type Replay = fn(
     &[u16],
     &[u16],
     &mut [u8],
+    &mut [u16],
     &mut [u32],
 ) -> Result<replay::Totals, bench::Refusal>;
 
@@ -85,6 +86,7 @@ fn call(
     l: &List,
     p: usize,
     answers: &mut [u8],
+    names: &mut [u16],
     work: &mut [u32],
 ) -> Result<replay::Totals, bench::Refusal> {
     f(
@@ -98,11 +100,12 @@ fn call(
         &l.x,
         &l.y,
         answers,
+        names,
         work,
     )
 }
 
-/// All four programs must give the same answers, and the two replays the same numbers.
+/// All four programs must give the same answers and names, and the two replays the same numbers.
 fn compare(
     l: &List,
     whole: &mut search::Whole,
@@ -110,13 +113,19 @@ fn compare(
     work: &mut [u32],
 ) -> Result<usize, String> {
     let t = l.events();
-    let mut found = vec![vec![9; t]; 4];
+    let (mut found, mut names) = (vec![vec![9; t]; 4], vec![vec![9; t]; 4]);
     let mut queries = 0;
-    whole.replay(l.n, &l.a, &l.b, &l.start, &l.x, &l.y, &mut found[2]);
-    piece.replay(l.n, &l.a, &l.b, &l.start, &l.x, &l.y, &mut found[3]);
+    let searched = (&mut found[2], &mut names[2]);
+    whole.replay(
+        l.n, &l.a, &l.b, &l.start, &l.x, &l.y, searched.0, searched.1,
+    );
+    let searched = (&mut found[3], &mut names[3]);
+    piece.replay(
+        l.n, &l.a, &l.b, &l.start, &l.x, &l.y, searched.0, searched.1,
+    );
     for p in SHARES {
-        let by_proved = call(proved::replay, l, p, &mut found[0], work);
-        let by_plain = call(replay::replay, l, p, &mut found[1], work);
+        let by_proved = call(proved::replay, l, p, &mut found[0], &mut names[0], work);
+        let by_plain = call(replay::replay, l, p, &mut found[1], &mut names[1], work);
         match by_proved {
             Ok(totals) => queries = totals.queries,
             Err(r) => return Err(format!("a list is refused: {} at {}", r.code, r.place)),
@@ -130,6 +139,12 @@ fn compare(
             return Err(format!(
                 "the answers to event {i} differ: {:?}",
                 [0, 1, 2, 3].map(|r| found[r][i])
+            ));
+        }
+        if let Some(i) = (0..t).find(|&i| names.iter().any(|f| f[i] != names[0][i])) {
+            return Err(format!(
+                "the names at event {i} differ: {:?}",
+                [0, 1, 2, 3].map(|r| names[r][i])
             ));
         }
     }
@@ -150,7 +165,7 @@ fn replay_row(kind: Kind, events: usize) -> Result<ReplayRow, String> {
         queries += compare(list, &mut whole, &mut piece, &mut work)?;
     }
 
-    let mut answers = vec![0; events];
+    let (mut answers, mut names) = (vec![0; events], vec![0; events]);
     let shares = SHARES.len();
     let mut times = measure(2 * shares + 2, LISTS, |rival, i| {
         let l = &lists[i];
@@ -160,13 +175,32 @@ fn replay_row(kind: Kind, events: usize) -> Result<ReplayRow, String> {
             } else {
                 replay::replay
             };
-            let _ = black_box(call(f, l, SHARES[rival / 2], &mut answers, &mut work));
+            let p = SHARES[rival / 2];
+            let _ = black_box(call(f, l, p, &mut answers, &mut names, &mut work));
         } else if rival == 2 * shares {
-            whole.replay(l.n, &l.a, &l.b, &l.start, &l.x, &l.y, &mut answers);
+            whole.replay(
+                l.n,
+                &l.a,
+                &l.b,
+                &l.start,
+                &l.x,
+                &l.y,
+                &mut answers,
+                &mut names,
+            );
         } else {
-            piece.replay(l.n, &l.a, &l.b, &l.start, &l.x, &l.y, &mut answers);
+            piece.replay(
+                l.n,
+                &l.a,
+                &l.b,
+                &l.start,
+                &l.x,
+                &l.y,
+                &mut answers,
+                &mut names,
+            );
         }
-        black_box(&mut answers);
+        black_box((&mut answers, &mut names));
     });
     let piece = times.pop().unwrap();
     let whole = times.pop().unwrap();
@@ -208,6 +242,7 @@ struct Tables {
     map: Vec<u16>,
     out_from: Vec<u16>,
     out_to: Vec<u16>,
+    out_names: Vec<u16>,
     pieces: Vec<u16>,
     work: Vec<u32>,
 }
@@ -219,6 +254,7 @@ impl Tables {
             map: vec![9; n / 4],
             out_from: vec![9; n / 2],
             out_to: vec![9; n / 2],
+            out_names: vec![9; n / 2],
             pieces: vec![9; n / 4],
             work: vec![9; contraction::required(n, 2 * n)],
         }
@@ -232,6 +268,8 @@ type Contract = fn(
     &[u16],
     &[u16],
     &[u16],
+    &[u16],
+    &mut [u16],
     &mut [u16],
     &mut [u16],
     &mut [u16],
@@ -251,10 +289,12 @@ fn contract(
         k,
         &g.from,
         &g.to,
+        &g.names,
         &g.active,
         &mut t.map,
         &mut t.out_from,
         &mut t.out_to,
+        &mut t.out_names,
         &mut t.pieces,
         &mut t.work,
     )

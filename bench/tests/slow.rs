@@ -1,7 +1,9 @@
 //! The plain Rust replay, contraction and check number, and the searches, against slow versions written from the definitions, and against vectors.
 
 use bench::random::Random;
-use bench::{check_number, contraction, lists, replay, roads, search, Refusal, CLOSES, OPENS};
+use bench::{
+    check_number, contraction, lists, replay, roads, search, Refusal, CLOSES, NO_NAME, OPENS,
+};
 use std::fmt::Debug;
 use std::str::FromStr;
 
@@ -55,12 +57,19 @@ fn answer(all: &[Vec<usize>], u: usize, v: usize) -> u8 {
 struct Small {
     nodes: usize,
     edges: Vec<(usize, usize)>,
+    names: Vec<u16>,
     map: Vec<usize>,
     pieces: Vec<usize>,
 }
 
+/// The smallest name of an edge, or of a road of a segment, whose loss parts u and v, which have the answer 1.
+fn least_name(all: &[Vec<usize>], names: &[u16], u: usize, v: usize) -> u16 {
+    let parting = all[1..].iter().zip(names).filter(|(p, _)| p[u] != p[v]);
+    *parting.map(|(_, name)| name).min().unwrap()
+}
+
 /// The contraction by its definition. A class is named by its smallest node.
-fn contract(n: usize, edges: &[(usize, usize)], active: &[usize]) -> Small {
+fn contract(n: usize, edges: &[(usize, usize)], names: &[u16], active: &[usize]) -> Small {
     let all = all_pieces(n, edges);
     let class: Vec<usize> = (0..n)
         .map(|v| (0..n).find(|&u| answer(&all, u, v) == 2).unwrap())
@@ -124,8 +133,10 @@ fn contract(n: usize, edges: &[(usize, usize)], active: &[usize]) -> Small {
         }
     }
     let piece = |v: usize| met.iter().position(|&p| p == all[0][v]);
+    let name = |&(i, j): &(usize, usize)| least_name(&all, names, order[i], order[j]);
     Small {
         nodes: order.len(),
+        names: joined.iter().map(name).collect(),
         edges: joined,
         map: active.iter().map(|&v| number(class[v]).unwrap()).collect(),
         pieces: active.iter().map(|&v| piece(v).unwrap()).collect(),
@@ -144,13 +155,18 @@ fn windows(at: usize, events: usize, p: usize, all: &mut Vec<(usize, usize)>) {
     }
 }
 
-/// The answers and the totals of a valid list, by their definitions.
-fn slow_replay(l: &lists::List, p: usize) -> (Vec<u8>, replay::Totals) {
+/// What a replay gives: the answers, the names and the totals.
+type Replayed = (Vec<u8>, Vec<u16>, replay::Totals);
+
+/// The answers, the names and the totals of a valid list, by their definitions.
+fn slow_replay(l: &lists::List, p: usize) -> Replayed {
     let t = l.events();
     let ends = |s: usize| (l.a[s] as usize, l.b[s] as usize);
     let mut open_before = Vec::new();
     let mut open: Vec<usize> = (0..l.m).filter(|&s| l.start[s] == 1).collect();
-    let mut answers = Vec::new();
+    // The name of a road is its smallest segment, open or not.
+    let road_name = |s: usize| (0..l.m).find(|&o| same_road(ends(s), ends(o))).unwrap() as u16;
+    let (mut answers, mut names) = (Vec::new(), Vec::new());
     for (&x, &y) in l.x.iter().zip(&l.y) {
         open_before.push(open.clone());
         let s = y as usize;
@@ -159,12 +175,19 @@ fn slow_replay(l: &lists::List, p: usize) -> (Vec<u8>, replay::Totals) {
             CLOSES => open.retain(|&o| o != s),
             _ => {}
         }
-        answers.push(if x >= CLOSES {
-            3
-        } else {
-            let segments: Vec<_> = open.iter().map(|&s| ends(s)).collect();
-            answer(&all_road_pieces(l.n, &segments), x as usize, s)
-        });
+        names.push(NO_NAME);
+        if x >= CLOSES {
+            answers.push(3);
+            continue;
+        }
+        let segments: Vec<_> = open.iter().map(|&s| ends(s)).collect();
+        let all = all_road_pieces(l.n, &segments);
+        let found = answer(&all, x as usize, s);
+        answers.push(found);
+        if found == 1 {
+            let of_segments: Vec<u16> = open.iter().map(|&s| road_name(s)).collect();
+            *names.last_mut().unwrap() = least_name(&all, &of_segments, x as usize, s);
+        }
     }
     let mut all = Vec::new();
     windows(0, t, p, &mut all);
@@ -193,11 +216,13 @@ fn slow_replay(l: &lists::List, p: usize) -> (Vec<u8>, replay::Totals) {
                 edges.push(ends(s));
             }
         }
-        kept += contract(l.n, &edges, &active).nodes;
+        let unnamed = vec![0; edges.len()];
+        kept += contract(l.n, &edges, &unnamed, &active).nodes;
     }
     let queries = l.x.iter().filter(|&&x| x < CLOSES).count();
     (
         answers,
+        names,
         replay::Totals {
             queries,
             open: open.len(),
@@ -213,26 +238,29 @@ struct Lent<'a> {
     k: usize,
     from: &'a [u16],
     to: &'a [u16],
+    names: &'a [u16],
     active: &'a [u16],
-    /// Of map, out_from, out_to, pieces and work.
-    lengths: [usize; 5],
+    /// Of map, out_from, out_to, out_names, pieces and work.
+    lengths: [usize; 6],
 }
 
 /// The small graph of the plain contraction. It leaves what it is not to change.
 fn plain_contract(l: &Lent) -> Result<Small, Refusal> {
-    let [mut map, mut out_from, mut out_to, mut pieces] =
-        [0, 1, 2, 3].map(|table| vec![7u16; l.lengths[table]]);
-    let mut work = vec![77; l.lengths[4]];
+    let [mut map, mut out_from, mut out_to, mut out_names, mut pieces] =
+        [0, 1, 2, 3, 4].map(|table| vec![7u16; l.lengths[table]]);
+    let mut work = vec![77; l.lengths[5]];
     let reply = contraction::contract(
         l.n,
         l.m,
         l.k,
         l.from,
         l.to,
+        l.names,
         l.active,
         &mut map,
         &mut out_from,
         &mut out_to,
+        &mut out_names,
         &mut pieces,
         &mut work,
     );
@@ -247,16 +275,18 @@ fn plain_contract(l: &Lent) -> Result<Small, Refusal> {
     };
     let (small_ends, large_ends) = (written(&out_from, edges), written(&out_to, edges));
     let (map, pieces) = (written(&map, entries), written(&pieces, entries));
+    let names = written(&out_names, edges);
     reply.map(|(nodes, _)| Small {
         nodes,
         edges: small_ends.into_iter().zip(large_ends).collect(),
+        names: names.into_iter().map(|name| name as u16).collect(),
         map,
         pieces,
     })
 }
 
 /// The same of a graph without a fault, with a little more than it needs.
-fn plain_small(n: usize, edges: &[(usize, usize)], active: &[usize]) -> Small {
+fn plain_small(n: usize, edges: &[(usize, usize)], names: &[u16], active: &[usize]) -> Small {
     let (m, k) = (edges.len(), active.len());
     let from: Vec<u16> = edges.iter().map(|e| e.0 as u16).collect();
     let to: Vec<u16> = edges.iter().map(|e| e.1 as u16).collect();
@@ -268,21 +298,22 @@ fn plain_small(n: usize, edges: &[(usize, usize)], active: &[usize]) -> Small {
         k,
         from: &from,
         to: &to,
+        names,
         active: &entries,
-        lengths: [k + 1, 2 * k + 1, 2 * k + 1, k + 1, words],
+        lengths: [k + 1, 2 * k + 1, 2 * k + 1, 2 * k + 1, k + 1, words],
     };
     plain_contract(&lent).unwrap()
 }
 
-/// The answers and the totals of the plain replay of the first t events, with the written tables of these lengths. It leaves what it is not to change.
+/// What the plain replay of the first t events gives, with answers, names and work of these lengths. It leaves what it is not to change.
 fn plain_replay(
     l: &lists::List,
     t: usize,
     p: usize,
-    answers: usize,
-    work: usize,
-) -> Result<(Vec<u8>, replay::Totals), Refusal> {
-    let (mut answers, mut work) = (vec![9; answers], vec![77; work]);
+    lengths: [usize; 3],
+) -> Result<Replayed, Refusal> {
+    let (mut answers, mut names) = (vec![9; lengths[0]], vec![9; lengths[1]]);
+    let mut work = vec![77; lengths[2]];
     let reply = replay::replay(
         l.n,
         l.m,
@@ -294,6 +325,7 @@ fn plain_replay(
         &l.x,
         &l.y,
         &mut answers,
+        &mut names,
         &mut work,
     );
     let (filled, cleared) = if reply.is_ok() {
@@ -303,14 +335,16 @@ fn plain_replay(
     };
     assert!(work[..cleared].iter().all(|&w| w == 0) && work[cleared..].iter().all(|&w| w == 77));
     assert!(answers[filled..].iter().all(|&a| a == 9));
+    assert!(names[filled..].iter().all(|&name| name == 9));
     answers.truncate(filled);
-    reply.map(|totals| (answers, totals))
+    names.truncate(filled);
+    reply.map(|totals| (answers, names, totals))
 }
 
 #[test]
 fn contractions() {
     let mut random = Random::new(1);
-    let mut most = 0;
+    let (mut most, mut largest) = (0, 0);
     for _ in 0..20_000 {
         let n = 1 + random.below(14);
         let m = random.below(2 * n + 1);
@@ -325,17 +359,25 @@ fn contractions() {
             edges.extend((0..m).map(|_| (random.below(n), random.below(n))));
         }
         let active: Vec<usize> = (0..k).map(|_| random.below(n)).collect();
-        let slow = contract(n, &edges, &active);
+        // Few names, so that several edges have the same, any, or the largest.
+        let (first, count) = [(0, 4), (0, 65536), (65532, 4)][random.below(3)];
+        let names: Vec<u16> = edges
+            .iter()
+            .map(|_| (first + random.below(count)) as u16)
+            .collect();
+        let slow = contract(n, &edges, &names, &active);
         most = most.max(slow.pieces.iter().copied().max().unwrap_or(0));
-        assert_eq!(plain_small(n, &edges, &active), slow);
+        largest += slow.names.iter().filter(|&&name| name == 65535).count();
+        assert_eq!(plain_small(n, &edges, &names, &active), slow);
     }
     assert!(most > 5, "{most} is the largest number of a piece");
+    assert!(largest > 1_000, "{largest} edges have the largest name");
 }
 
 #[test]
 fn replays() {
     let mut random = Random::new(2);
-    let mut shared = 0;
+    let (mut shared, mut named) = (0, 0);
     for round in 0..6_000 {
         let n = 1 + random.below(10);
         let m = 1 + random.below(14);
@@ -347,19 +389,25 @@ fn replays() {
         let open = random.below(3) * random.below(m + 1) / 2;
         let l = lists::random_list(n, m, doubles, open, t, run, &mut random);
         let p = 4 + round % 9;
-        let (answers, totals) = slow_replay(&l, p);
+        let slow = slow_replay(&l, p);
         shared += names_shared_road(&l) as usize;
         let need = replay::required(n, m, t);
-        let plain = plain_replay(&l, t, p, t + 2, need + 3);
-        assert_eq!(plain, Ok((answers.clone(), totals)));
-        let mut found = vec![9; t];
-        search::Whole::new().replay(n, &l.a, &l.b, &l.start, &l.x, &l.y, &mut found);
-        assert_eq!(found, answers);
+        let plain = plain_replay(&l, t, p, [t + 2, t + 1, need + 3]);
+        assert_eq!(plain.as_ref(), Ok(&slow));
+        let (answers, names, _) = slow;
+        named += names.iter().filter(|&&name| name != NO_NAME).count();
+        let (mut found, mut found_names) = (vec![9; t], vec![9; t]);
+        let tables = (&mut found[..], &mut found_names[..]);
+        search::Whole::new().replay(n, &l.a, &l.b, &l.start, &l.x, &l.y, tables.0, tables.1);
+        assert_eq!((&found, &found_names), (&answers, &names));
         found.fill(9);
-        search::Piece::new().replay(n, &l.a, &l.b, &l.start, &l.x, &l.y, &mut found);
-        assert_eq!(found, answers);
+        found_names.fill(9);
+        let tables = (&mut found[..], &mut found_names[..]);
+        search::Piece::new().replay(n, &l.a, &l.b, &l.start, &l.x, &l.y, tables.0, tables.1);
+        assert_eq!((&found, &found_names), (&answers, &names));
     }
     assert!(shared > 2_000, "{shared} lists name a road by two segments");
+    assert!(named > 5_000, "{named} answers 1 have a name");
 }
 
 /// Whether events name two segments of one road.
@@ -402,10 +450,13 @@ fn two_segments_are_one_road() {
             x: vec![OPENS, OPENS, 0, CLOSES, 0],
             y: vec![0, 1, 1, 0, 1],
         };
-        let (answers, totals) = plain_replay(&l, 5, 8, 5, replay::required(2, 2, 5)).unwrap();
-        assert_eq!(answers, [3, 3, 1, 3, 1]);
+        let plain = plain_replay(&l, 5, 8, [5, 5, replay::required(2, 2, 5)]).unwrap();
+        let (answers, names, totals) = &plain;
+        assert_eq!(answers, &[3, 3, 1, 3, 1]);
+        // The road has the name of its first segment while that is closed too.
+        assert_eq!(names, &[NO_NAME, NO_NAME, 0, NO_NAME, 0]);
         assert_eq!((totals.queries, totals.open), (2, 1));
-        assert_eq!(slow_replay(&l, 8), (answers, totals));
+        assert_eq!(slow_replay(&l, 8), plain);
     }
 }
 
@@ -437,7 +488,8 @@ fn contraction_vectors() {
         let row = |name: &str| vector.numbers::<usize>(name);
         let pairs =
             |a: &str, b: &str| -> Vec<(usize, usize)> { row(a).into_iter().zip(row(b)).collect() };
-        let small = plain_small(row("n")[0], &pairs("from", "to"), &row("active"));
+        let edges = pairs("from", "to");
+        let small = plain_small(row("n")[0], &edges, &vec![0; edges.len()], &row("active"));
         assert_eq!(small.nodes, row("nodes")[0]);
         assert_eq!(small.edges, pairs("out-from", "out-to"));
         assert_eq!(small.map, row("map"));
@@ -446,13 +498,13 @@ fn contraction_vectors() {
     assert_eq!(count, 60);
 }
 
-/// Contractions with pieces, with tables that are longer than they must be, and refused ones.
+/// Contractions with pieces and names, with tables that are longer than they must be, and refused ones.
 #[test]
-fn piece_vectors() {
+fn name_vectors() {
     let mut count = 0;
-    for vector in vectors(include_str!("vectors/pieces.txt")) {
+    for vector in vectors(include_str!("vectors/names.txt")) {
         let row = |name: &str| vector.numbers::<usize>(name);
-        let tables = ["from", "to", "active"].map(|name| vector.numbers::<u16>(name));
+        let tables = ["from", "to", "names", "active"].map(|name| vector.numbers::<u16>(name));
         let sizes = row("sizes");
         let small = plain_contract(&Lent {
             n: sizes[0],
@@ -460,7 +512,8 @@ fn piece_vectors() {
             k: sizes[2],
             from: &tables[0],
             to: &tables[1],
-            active: &tables[2],
+            names: &tables[2],
+            active: &tables[3],
             lengths: row("lengths").try_into().unwrap(),
         });
         let expected = match vector.row("refused") {
@@ -468,6 +521,7 @@ fn piece_vectors() {
             None => Ok(Small {
                 nodes: row("nodes")[0],
                 edges: row("out-from").into_iter().zip(row("out-to")).collect(),
+                names: vector.numbers("out-names"),
                 map: row("map"),
                 pieces: row("pieces"),
             }),
@@ -493,7 +547,7 @@ fn replay_vectors() {
             x: vector.numbers("x"),
             y: vector.numbers("y"),
         };
-        let reply = plain_replay(&l, sizes[2], sizes[3], lengths[0], lengths[1]);
+        let reply = plain_replay(&l, sizes[2], sizes[3], lengths.try_into().unwrap());
         let expected = match vector.row("refused") {
             Some(refused) => Err(Refusal::new(refused[0], refused[1])),
             None => {
@@ -503,13 +557,16 @@ fn replay_vectors() {
                     open: totals[1],
                     kept: totals[2],
                 };
-                Ok((vector.numbers("answers"), totals))
+                // The vectors of the program have no names.
+                let names = vector.row("names");
+                let names = names.unwrap_or_else(|| reply.as_ref().unwrap().1.clone());
+                Ok((vector.numbers("answers"), names, totals))
             }
         };
         assert_eq!(reply, expected);
         count += 1;
     }
-    assert_eq!(count, 107);
+    assert_eq!(count, 109);
 }
 
 #[test]

@@ -20,7 +20,7 @@ const MOST: usize = 4096;
 fn replay(share: usize) -> impl FnOnce() + Send {
     let list = list(Kind::Fleet, MOST_EVENTS, &mut Random::new(1));
     let (n, m, t) = (list.n, list.m, list.events());
-    let mut answers = vec![0; t];
+    let (mut answers, mut names) = (vec![0; t], vec![0; t]);
     let mut work = vec![0; tables::replay_work(n, m, t)];
     move || {
         let lent = ReplayTables {
@@ -34,6 +34,7 @@ fn replay(share: usize) -> impl FnOnce() + Send {
             x: &list.x,
             y: &list.y,
             answers: &mut answers,
+            names: &mut names,
             work: &mut work,
         };
         tables::replay(lent).expect("the list is in order");
@@ -45,7 +46,7 @@ fn contract() -> impl FnOnce() + Send {
     let g = graph(Shape::Random, n, &mut Random::new(1));
     let k = g.active.len();
     let (mut map, mut pieces) = (vec![0; k], vec![0; k]);
-    let (mut from, mut to) = (vec![0; 2 * k], vec![0; 2 * k]);
+    let [mut from, mut to, mut names] = [0; 3].map(|_| vec![0; 2 * k]);
     let mut work = vec![0; tables::contract_work(n, m)];
     move || {
         let lent = ContractTables {
@@ -54,10 +55,12 @@ fn contract() -> impl FnOnce() + Send {
             k,
             from: &g.from,
             to: &g.to,
+            names: &g.names,
             active: &g.active,
             map: &mut map,
             out_from: &mut from,
             out_to: &mut to,
+            out_names: &mut names,
             pieces: &mut pieces,
             work: &mut work,
         };

@@ -15,7 +15,7 @@ fn nanoseconds_a_node(graphs: &[Graph]) -> f64 {
     let n = graphs[0].n;
     let (m, k) = (2 * n, n / 4);
     let (mut map, mut pieces) = (vec![0; k], vec![0; k]);
-    let (mut from, mut to) = (vec![0; 2 * k], vec![0; 2 * k]);
+    let [mut from, mut to, mut names] = [0; 3].map(|_| vec![0; 2 * k]);
     let mut work = vec![0; contract_work(n, m)];
     let calls = (204_800 / n).div_ceil(graphs.len()) * graphs.len();
     let began = Instant::now();
@@ -26,10 +26,12 @@ fn nanoseconds_a_node(graphs: &[Graph]) -> f64 {
             k,
             from: &g.from,
             to: &g.to,
+            names: &g.names,
             active: &g.active,
             map: &mut map,
             out_from: &mut from,
             out_to: &mut to,
+            out_names: &mut names,
             pieces: &mut pieces,
             work: &mut work,
         })

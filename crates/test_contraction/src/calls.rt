@@ -55,9 +55,8 @@ fn call(
     pieces: &mut [u16],
     work: &mut [u32],
 ) -> ContractReply
-    requires { ⌜ (40968 ≤ length (now s)) × (16400 ≤ length (now map)) × (16400 ≤ length (now from)) ⌝ }
-    requires { ⌜ (16400 ≤ length (now to)) × (16400 ≤ length (now names)) × (16400 ≤ length (now pieces)) ⌝ }
-    requires { ⌜ 131616 ≤ length (now work) ⌝ }
+    requires { ⌜ (40968 ≤ length (now s)) × (16400 ≤ length (now map)) × (16400 ≤ length (now from)) × (16400 ≤ length (now to)) ⌝ }
+    requires { ⌜ (16400 ≤ length (now names)) × (16400 ≤ length (now pieces)) × (131616 ≤ length (now work)) ⌝ }
 {
     let a = counts::least(lengths[4], 16400);
     let b = counts::least(lengths[5], 16400);
