@@ -55,15 +55,14 @@ fn call(
     pieces: &mut [u16],
     work: &mut [u32],
 ) -> ContractReply
-    requires { ⌜ (40968 ≤ length (now s)) × (16400 ≤ length (now map)) × (16400 ≤ length (now from)) × (16400 ≤ length (now to)) ⌝ }
-    requires { ⌜ (16400 ≤ length (now names)) × (16400 ≤ length (now pieces)) × (131616 ≤ length (now work)) ⌝ }
+    requires { ⌜ 40968 ≤ length (now s) ⌝ }
 {
-    let a = counts::least(lengths[4], 16400);
-    let b = counts::least(lengths[5], 16400);
-    let c = counts::least(lengths[6], 16400);
-    let d = counts::least(lengths[7], 16400);
-    let e = counts::least(lengths[8], 16400);
-    let words = counts::least(lengths[9], 131616);
+    let a = counts::least(lengths[4], map.len());
+    let b = counts::least(lengths[5], from.len());
+    let c = counts::least(lengths[6], to.len());
+    let d = counts::least(lengths[7], names.len());
+    let e = counts::least(lengths[8], pieces.len());
+    let words = counts::least(lengths[9], work.len());
     call_contract::contract(
         n,
         m,

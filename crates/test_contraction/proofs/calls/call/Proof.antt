@@ -20,10 +20,17 @@ slice-aggregate-contract-4 c = sym (length-take-le _ _ (omega arith))
 slice-aggregate-contract-5 : tie.Need-slice-aggregate-contract-5
 slice-aggregate-contract-5 c = sym (length-take-le _ _ (omega arith))
 
+slice-aggregate-contract-6 : tie.Need-slice-aggregate-contract-6
+slice-aggregate-contract-6 c = sym (length-take-le _ _ (omega arith))
+
 pub call-spec : {M : Type 1} → statement M
 call-spec =
     tie.close
     (tie.spec
+    (λ c. search needs)
+    (λ c κs. search needs)
+    (λ c. search needs)
+    (λ c κs. search needs)
     (λ c. search needs)
     (λ c κs. search needs)
     (λ c. search needs)
@@ -50,7 +57,10 @@ call-spec =
     slice-aggregate-contract-4
     (λ c. search needs)
     slice-aggregate-contract-5
+    (λ c. search needs)
+    slice-aggregate-contract-6
     (λ c κs. search needs)
+    (λ c. search needs)
     (λ c. search needs)
     (λ c. search needs)
     (λ c. search needs)

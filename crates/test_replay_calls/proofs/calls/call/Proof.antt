@@ -11,6 +11,9 @@ slice-aggregate-replay c = sym (length-take-le _ _ (omega arith))
 slice-aggregate-replay-2 : tie.Need-slice-aggregate-replay-2
 slice-aggregate-replay-2 c = sym (length-take-le _ _ (omega arith))
 
+slice-aggregate-replay-3 : tie.Need-slice-aggregate-replay-3
+slice-aggregate-replay-3 c = sym (length-take-le _ _ (omega arith))
+
 pub call-spec : {M : Type 1} → statement M
 call-spec =
     tie.close
@@ -30,10 +33,15 @@ call-spec =
     (λ c. search needs)
     (λ c κs. search needs)
     (λ c. search needs)
+    (λ c κs. search needs)
+    (λ c. search needs)
     slice-aggregate-replay
     (λ c. search needs)
     slice-aggregate-replay-2
+    (λ c. search needs)
+    slice-aggregate-replay-3
     (λ c κs. search needs)
+    (λ c. search needs)
     (λ c. search needs)
     (λ c. search needs)
     (λ c. search needs))
