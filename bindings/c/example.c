@@ -21,6 +21,7 @@ int main(int argc, char **argv)
     const uint16_t x[EVENTS] = {LUM_OPENS, LUM_OPENS, 0, LUM_OPENS, 0};
     const uint16_t y[EVENTS] = {0, 1, 2, 2, 2};
     uint8_t answers[EVENTS] = {0};
+    uint16_t names[EVENTS] = {0};
     static uint32_t work[LUM_REPLAY_WORK(JUNCTIONS, SEGMENTS, EVENTS)];
     size_t share = argc > 1 ? strtoul(argv[1], NULL, 10) : 8;
 
@@ -47,6 +48,8 @@ int main(int argc, char **argv)
         .y_len = EVENTS,
         .answers = answers,
         .answers_len = EVENTS,
+        .names = names,
+        .names_len = EVENTS,
         .work = work,
         .work_len = sizeof work / sizeof work[0],
     };

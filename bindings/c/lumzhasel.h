@@ -9,9 +9,9 @@
  * VERSIONS. What a call is lent gains fields, and replies gain numbers, from one version
  * to the next; their names stay. Version 5 has the tables of version 4, but its answers
  * are about roads (lum_replay), where those before were about segments; version 6 has one
- * call more, lum_check_number. A program that was built with the header of one version and
- * linked with the archive of another would hand over its tables in the wrong places, and
- * nothing else would notice. So compare lum_version() with LUM_VERSION before the first
+ * call more, lum_check_number; version 7 has the tables of names of both calls. A program
+ * that was built with the header of one version and linked with the archive of another
+ * would hand over its tables in the wrong places, and nothing else would notice. So compare lum_version() with LUM_VERSION before the first
  * other call, and make none where they differ. lum_version takes nothing and returns one
  * number in every version. Set the fields of a struct by their names, all of them. A code
  * above those below is a refusal too, by a reason that a later version names.
@@ -67,7 +67,7 @@ extern "C" {
 #endif
 
 /* The version of the calls below. */
-#define LUM_VERSION 6u
+#define LUM_VERSION 7u
 
 /* The limits. */
 #define LUM_MOST_JUNCTIONS 4096u
@@ -90,6 +90,9 @@ extern "C" {
 /* The x of an event that opens or closes the segment in its y. */
 #define LUM_OPENS 65535u
 #define LUM_CLOSES 65534u
+
+/* The name at an event that is no query with answer 1. No road has it. */
+#define LUM_NO_NAME 65535u
 
 /* The least length of the replay's work table, for sizes within the limits. */
 #define LUM_REPLAY_WORK(n, m, t) \
@@ -128,6 +131,8 @@ struct lum_contract_lent {
     size_t from_len;
     const uint16_t *to;
     size_t to_len;
+    const uint16_t *names;
+    size_t names_len;
     const uint16_t *active;
     size_t active_len;
     uint16_t *map;
@@ -136,6 +141,8 @@ struct lum_contract_lent {
     size_t out_from_len;
     uint16_t *out_to;
     size_t out_to_len;
+    uint16_t *out_names;
+    size_t out_names_len;
     uint16_t *pieces;
     size_t pieces_len;
     uint32_t *work;
@@ -157,6 +164,8 @@ struct lum_replay_lent {
     size_t y_len;
     uint8_t *answers;
     size_t answers_len;
+    uint16_t *names;
+    size_t names_len;
     uint32_t *work;
     size_t work_len;
 };
@@ -194,23 +203,28 @@ size_t lum_answers(const uint8_t *table, size_t table_len, size_t t);
 struct lum_check_number_reply lum_check_number(const uint8_t *table, size_t table_len, size_t t);
 
 /*
- * Contracts the graph of n nodes and m edges, edge s between from[s] and to[s], to its
- * first k active entries. An edge may join a node to itself, parallel edges count each (they
- * stand for different roads), and active entries may repeat.
+ * Contracts the graph of n nodes and m edges, edge s between from[s] and to[s] and with the
+ * name names[s], to its first k active entries. An edge may join a node to itself, parallel
+ * edges count each (they stand for different roads), names are any numbers, and active
+ * entries may repeat.
  *
- *  table     least length       afterwards, where the call is accepted
- *  from, to  m                  (read)
- *  active    k                  (read)
- *  map       k                  map[i] is the new number of active[i], for i below k
- *  out_from  2k                 the first `edges` entries: the smaller end of each edge
- *  out_to    2k                 the first `edges` entries: the larger end of each edge
- *  pieces    k                  pieces[i] is the number of active[i]'s piece, for i below k
- *  work      16n + 8m + 512     0 over that length
+ *  table      least length       afterwards, where the call is accepted
+ *  from, to   m                  (read)
+ *  names      m                  (read)
+ *  active     k                  (read)
+ *  map        k                  map[i] is the new number of active[i], for i below k
+ *  out_from   2k                 the first `edges` entries: the smaller end of each edge
+ *  out_to     2k                 the first `edges` entries: the larger end of each edge
+ *  out_names  2k                 the first `edges` entries: the name of each edge
+ *  pieces     k                  pieces[i] is the number of active[i]'s piece, for i below k
+ *  work       16n + 8m + 512     0 over that length
  *
  * No other entry changes. The new nodes are numbered from 0: those that hold an active
  * node in order of first appearance in `active`, then the others by their smallest node.
  * Edges ascend by their first end, then by their second. Connected pieces are numbered
- * from 0 in order of first appearance in `active`. Refused by 1, 2, 4 and 8.
+ * from 0 in order of first appearance in `active`. The name of an edge is the smallest along
+ * the route that it stands for: of an edge given whose loss parts its two ends. Refused by 1,
+ * 2, 4 and 8.
  *
  * Two entries have different numbers in `pieces` exactly where their nodes are not joined,
  * answer 0, in the graph given and, by `map`, in the small one. So a caller draws unjoined
@@ -235,14 +249,19 @@ struct lum_contract_reply lum_contract(struct lum_contract_lent lent);
  *  a, b, start  m                           (read)
  *  x, y         t                           (read)
  *  answers      t                           the first t entries: the answer bytes
+ *  names        t                           the first t entries: the roads to watch
  *  work         256t + 32n + 8m + 2,048     0 over that length
  *
  * No other entry changes. The answer byte of a query is 2 where the junctions are joined
  * and stay joined whichever single open road is lost, 1 where they are joined and the loss
  * of some single road parts them, 0 where they are not joined; an event that opens or
  * closes has 3. So two open segments between the same junctions are no second way. `open`
- * counts segments, and 6 and 7 are about segments. The share changes `kept` and no answer.
- * Refused by 1 to 7 and 11.
+ * counts segments, and 6 and 7 are about segments. The share changes `kept`, no answer and
+ * no name.
+ *
+ * At a query with the answer 1, names[i] is the road to watch: the smallest name of an open
+ * road whose loss parts the two junctions; at every other event it is LUM_NO_NAME. A road's
+ * name is its smallest segment number, open or not. Refused by 1 to 7 and 11.
  */
 struct lum_replay_reply lum_replay(struct lum_replay_lent lent);
 

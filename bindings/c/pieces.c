@@ -14,6 +14,7 @@ enum { NODES = 7, EDGES = 6, ENTRIES = 6 };
 /* The even junctions: a triangle, and a road from it to 6. The odd ones: a road over 1, 3, 5. */
 static const uint16_t from[EDGES] = {0, 2, 4, 4, 1, 3};
 static const uint16_t to[EDGES] = {2, 4, 0, 6, 3, 5};
+static const uint16_t names[EDGES] = {0, 1, 2, 3, 4, 5};
 static const uint16_t active[ENTRIES] = {6, 1, 0, 5, 6, 1};
 static const uint16_t colours[ENTRIES] = {0, 1, 0, 1, 0, 1};
 
@@ -22,6 +23,7 @@ struct tables {
     uint16_t map[ENTRIES];
     uint16_t out_from[2 * ENTRIES];
     uint16_t out_to[2 * ENTRIES];
+    uint16_t out_names[2 * ENTRIES];
     uint16_t pieces[ENTRIES + 1];
     uint32_t work[LUM_CONTRACT_WORK(NODES, EDGES)];
 };
@@ -36,6 +38,8 @@ static struct lum_contract_reply contract(struct tables *t, size_t pieces_len)
         .from_len = EDGES,
         .to = to,
         .to_len = EDGES,
+        .names = names,
+        .names_len = EDGES,
         .active = active,
         .active_len = ENTRIES,
         .map = t->map,
@@ -44,6 +48,8 @@ static struct lum_contract_reply contract(struct tables *t, size_t pieces_len)
         .out_from_len = 2 * ENTRIES,
         .out_to = t->out_to,
         .out_to_len = 2 * ENTRIES,
+        .out_names = t->out_names,
+        .out_names_len = 2 * ENTRIES,
         .pieces = t->pieces,
         .pieces_len = pieces_len,
         .work = t->work,

@@ -48,6 +48,37 @@
 //! # Ok::<(), lumzhasel::Error>(())
 //! ```
 //!
+//! An answer 1 hangs on roads whose loss parts the two junctions. The replay names the smallest of them, so that
+//! planners know what to watch. A road's name is its smallest segment, open or not:
+//!
+//! ```
+//! # use lumzhasel::{List, Network};
+//! // Junctions 0 to 3 in a row. Segments 1 and 3 are one road, of which only the second is open.
+//! let network = Network::with_segments(4, [(2, 3), (0, 1), (1, 2), (1, 0)]).with_open([0, 2, 3]);
+//! let mut list = List::new();
+//! list.query(0, 3).query(2, 0).query(1, 1);
+//!
+//! let replayed = network.replay(&list)?;
+//! assert_eq!(replayed.names, [Some(0), Some(1), None]);
+//! let watched: Vec<(usize, usize)> = replayed.watched().collect();
+//! assert_eq!(watched, [(0, 0), (1, 1)]);
+//! # Ok::<(), lumzhasel::Error>(())
+//! ```
+//!
+//! The edges of a contraction carry names too: an edge of the small graph has the smallest along the route that it
+//! stands for. Segments have their numbers as names, or those that [`Network::contract_named`] is given:
+//!
+//! ```
+//! # use lumzhasel::Network;
+//! let row = Network::with_segments(4, [(2, 3), (0, 1), (1, 2)]);
+//!
+//! let small = row.contract(&[0, 2])?;
+//! assert_eq!((small.edges, small.names), (vec![(0, 1)], vec![1]));
+//! let small = row.contract_named(&[0, 2], &[30, 20, 10])?;
+//! assert_eq!(small.names, [10]);
+//! # Ok::<(), lumzhasel::Error>(())
+//! ```
+//!
 //! A contraction numbers the connected pieces that its active junctions lie in, so that unjoined areas can
 //! be drawn in different colours without a search:
 //!
@@ -118,7 +149,7 @@ pub const MOST_EVENTS: usize = 4096;
 pub const MOST_ENTRIES: usize = 8192;
 
 /// The version of the calls that this package was written for.
-pub const VERSION: u32 = 6;
+pub const VERSION: u32 = 7;
 
 /// The version of the calls in the archive.
 pub fn version() -> u32 {

@@ -1,5 +1,5 @@
 //! The exported calls of the archive, each lent a struct of numbers and tables, a table as a pointer and a length. All unsafe code
-//! stands here. These declarations are those of version 6, [`crate::VERSION`]: whoever changes one changes both.
+//! stands here. These declarations are those of version 7, [`crate::VERSION`]: whoever changes one changes both.
 #![allow(unsafe_code)]
 
 use crate::tables::{ContractTables, ReplayTables};
@@ -73,10 +73,12 @@ struct ContractLent {
     k: usize,
     from: Read<u16>,
     to: Read<u16>,
+    names: Read<u16>,
     active: Read<u16>,
     map: Written<u16>,
     out_from: Written<u16>,
     out_to: Written<u16>,
+    out_names: Written<u16>,
     pieces: Written<u16>,
     work: Written<u32>,
 }
@@ -93,6 +95,7 @@ struct ReplayLent {
     x: Read<u16>,
     y: Read<u16>,
     answers: Written<u8>,
+    names: Written<u16>,
     work: Written<u32>,
 }
 
@@ -138,10 +141,12 @@ pub(crate) fn contract(lent: ContractTables<'_>) -> ContractReply {
         k: lent.k,
         from: read(lent.from),
         to: read(lent.to),
+        names: read(lent.names),
         active: read(lent.active),
         map: written(lent.map),
         out_from: written(lent.out_from),
         out_to: written(lent.out_to),
+        out_names: written(lent.out_names),
         pieces: written(lent.pieces),
         work: written(lent.work),
     };
@@ -164,6 +169,7 @@ pub(crate) fn replay(lent: ReplayTables<'_>) -> ReplayReply {
         x: read(lent.x),
         y: read(lent.y),
         answers: written(lent.answers),
+        names: written(lent.names),
         work: written(lent.work),
     };
     // SAFETY: as in `contract`: pointers and lengths of whole slices, those that are written borrowed mutably.

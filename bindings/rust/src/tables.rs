@@ -5,9 +5,9 @@
 //! struct here has a field more, and a caller who lends none does not compile.
 //!
 //! ```
-//! use lumzhasel::tables::{answers, replay, replay_work, ReplayTables, OPENS};
+//! use lumzhasel::tables::{answers, replay, replay_work, ReplayTables, NO_NAME, OPENS};
 //!
-//! let mut table = [0; 5];
+//! let (mut table, mut names) = ([0; 5], [0; 5]);
 //! let mut work = vec![0; replay_work(3, 3, 5)];
 //! let totals = replay(ReplayTables {
 //!     n: 3,
@@ -20,10 +20,13 @@
 //!     x: &[OPENS, OPENS, 0, OPENS, 0],
 //!     y: &[0, 1, 2, 2, 2],
 //!     answers: &mut table,
+//!     names: &mut names,
 //!     work: &mut work,
 //! })?;
 //! assert_eq!((totals.queries, totals.open, totals.kept), (2, 3, 19));
 //! assert_eq!(answers(&table, 5)?, [3, 3, 1, 3, 2]);
+//! // Event 2 has the answer 1, and the road to watch is road 0.
+//! assert_eq!(names, [NO_NAME, NO_NAME, 0, NO_NAME, NO_NAME]);
 //! # Ok::<(), lumzhasel::Error>(())
 //! ```
 
@@ -44,6 +47,9 @@ pub const JOINED_ONCE: u8 = 1;
 pub const JOINED_TWICE: u8 = 2;
 /// The byte of an event that opens or closes.
 pub const NO_QUERY: u8 = 3;
+
+/// The name at an event that is no query with the answer 1. No road has this name.
+pub const NO_NAME: u16 = 65535;
 
 /// The least length of the work table of a replay of `t` events over `n` junctions and `m` segments.
 pub const fn replay_work(n: usize, m: usize, t: usize) -> usize {
@@ -122,6 +128,9 @@ pub struct ReplayTables<'a> {
     pub y: &'a [u16],
     /// At least t. An accepted replay fills the first t: [`NOT_JOINED`], [`JOINED_ONCE`], [`JOINED_TWICE`] or [`NO_QUERY`].
     pub answers: &'a mut [u8],
+    /// At least t. An accepted replay fills the first t: at a query with the answer [`JOINED_ONCE`] the smallest name of an
+    /// open road whose loss parts the two junctions, else [`NO_NAME`]. A road's name is its smallest segment, open or not.
+    pub names: &'a mut [u16],
     /// At least [`replay_work`]. An accepted replay leaves 0 over that length.
     pub work: &'a mut [u32],
 }
@@ -141,6 +150,8 @@ pub struct ContractTables<'a> {
     pub from: &'a [u16],
     /// The other end of each edge, at least m.
     pub to: &'a [u16],
+    /// The name of each edge, at least m: any numbers.
+    pub names: &'a [u16],
     /// The active nodes, at least k.
     pub active: &'a [u16],
     /// At least k. An accepted contraction fills the first k: the new number of each active entry.
@@ -149,6 +160,8 @@ pub struct ContractTables<'a> {
     pub out_from: &'a mut [u16],
     /// At least 2k. An accepted contraction writes the larger end of each edge.
     pub out_to: &'a mut [u16],
+    /// At least 2k. An accepted contraction writes the name of each edge: the smallest along the route that it stands for.
+    pub out_names: &'a mut [u16],
     /// At least k. An accepted contraction fills the first k: the number of each active entry's connected piece.
     pub pieces: &'a mut [u16],
     /// At least [`contract_work`]. An accepted contraction leaves 0 over that length.
@@ -227,7 +240,8 @@ pub fn check_number(table: &[u8], t: usize) -> Result<u32, Error> {
 
 /// Contracts a graph to its active entries. The new nodes are numbered from 0: those that hold an active node in
 /// order of first appearance in `active`, then the others by their smallest node. Connected pieces are numbered from
-/// 0 in order of first appearance in `active`. What is not said to be written does not change.
+/// 0 in order of first appearance in `active`. An edge has the smallest name of an edge given whose loss parts the nodes
+/// that its two ends stand for. What is not said to be written does not change.
 ///
 /// Two active entries have different numbers in `pieces` exactly where their nodes are not joined, in the graph given
 /// and, by `map`, in the small one. A caller who has added no edge since then reads [`NOT_JOINED`] there:
@@ -236,21 +250,25 @@ pub fn check_number(table: &[u8], t: usize) -> Result<u32, Error> {
 /// use lumzhasel::tables::{contract, contract_work, ContractTables};
 ///
 /// // Two edges that no other joins, and their ends by turns.
-/// let (mut map, mut pieces) = ([0; 4], [0; 4]);
+/// let (mut map, mut names, mut pieces) = ([0; 4], [0; 8], [0; 4]);
 /// contract(ContractTables {
 ///     n: 4,
 ///     m: 2,
 ///     k: 4,
 ///     from: &[0, 1],
 ///     to: &[2, 3],
+///     names: &[70, 30],
 ///     active: &[3, 0, 1, 2],
 ///     map: &mut map,
 ///     out_from: &mut [0; 8],
 ///     out_to: &mut [0; 8],
+///     out_names: &mut names,
 ///     pieces: &mut pieces,
 ///     work: &mut vec![0; contract_work(4, 2)],
 /// })?;
 /// assert_eq!((map, pieces), ([0, 1, 2, 3], [0, 1, 0, 1]));
+/// // The edges are 0-2, which was 1-3, and 1-3, which was 0-2.
+/// assert_eq!(names[..2], [30, 70]);
 /// # Ok::<(), lumzhasel::Error>(())
 /// ```
 ///
@@ -288,7 +306,7 @@ mod tests {
             let error = fits(archive).unwrap_err();
             assert_eq!(error, Error::Version { archive });
             assert_eq!(error.refusal(), None);
-            let words = format!("the archive has version {archive} of the calls, this package is for version 6");
+            let words = format!("the archive has version {archive} of the calls, this package is for version 7");
             assert_eq!(error.to_string(), words);
         }
     }

@@ -99,7 +99,7 @@ impl Network {
         let (a, b) = self.ends();
         let start: Vec<u16> = self.start.iter().map(|&open| open.into()).collect();
         let (x, y): (Vec<u16>, Vec<u16>) = list.events.iter().map(|e| e.entries()).unzip();
-        let mut answers = vec![0; t];
+        let (mut answers, mut names) = (vec![0; t], vec![0; t]);
         let totals = tables::replay(ReplayTables {
             n,
             m,
@@ -111,17 +111,20 @@ impl Network {
             x: &x,
             y: &y,
             answers: &mut answers,
+            names: &mut names,
             work: &mut vec![0; tables::replay_work(n, m, t)],
         })?;
         let answers = tables::answers(&answers, t)?.iter().map(|&b| Answer::from_byte(b));
+        let names = names.into_iter().map(|name| (name != tables::NO_NAME).then_some(name));
         Ok(Replayed {
             totals,
             answers: answers.collect(),
+            names: names.collect(),
         })
     }
 
     /// Contracts the graph of all segments, open or closed, to the active nodes, which may repeat. Each segment is an
-    /// edge of its own here, also where several have the same ends.
+    /// edge of its own here, also where several have the same ends, and has its number as its name.
     ///
     /// # Errors
     ///
@@ -130,27 +133,56 @@ impl Network {
     pub fn contract(&self, active: &[usize]) -> Result<SmallGraph, Error> {
         let (n, m, k) = (self.junctions, self.segments.len(), active.len());
         tables::check_sizes(n, m, 0, k)?;
+        // The sizes are within the limits, so that each number fits.
+        let names: Vec<u16> = (0..m).map(|s| s as u16).collect();
+        self.contract_named(active, &names)
+    }
+
+    /// The same, with these names of the segments: any numbers, and at least as many as there are segments. An edge of
+    /// the small graph has the smallest name along the route that it stands for.
+    ///
+    /// ```
+    /// # use lumzhasel::Network;
+    /// let path = Network::with_segments(4, [(0, 1), (1, 2), (2, 3)]);
+    /// let small = path.contract_named(&[0, 2, 3], &[500, 40, 3])?;
+    /// assert_eq!(small.edges, [(0, 1), (1, 2)]);
+    /// assert_eq!(small.names, [40, 3]);
+    /// # Ok::<(), lumzhasel::Error>(())
+    /// ```
+    ///
+    /// # Errors
+    ///
+    /// [`Reason::Sizes`](crate::Reason::Sizes), [`Reason::Short`](crate::Reason::Short) where there are fewer names than
+    /// segments, [`Reason::End`](crate::Reason::End) and [`Reason::Entry`](crate::Reason::Entry), in this order.
+    pub fn contract_named(&self, active: &[usize], names: &[u16]) -> Result<SmallGraph, Error> {
+        let (n, m, k) = (self.junctions, self.segments.len(), active.len());
+        // Before any table is made, which must have a length within reason.
+        tables::check_sizes(n, m, 0, k)?;
         let (from, to) = self.ends();
         let active: Vec<u16> = active.iter().map(|&v| entry(v)).collect();
         let (mut map, mut pieces) = (vec![0; k], vec![0; k]);
-        let (mut out_from, mut out_to) = (vec![0; 2 * k], vec![0; 2 * k]);
+        let [mut out_from, mut out_to, mut out_names] = [0; 3].map(|_| vec![0; 2 * k]);
         let small = tables::contract(ContractTables {
             n,
             m,
             k,
             from: &from,
             to: &to,
+            names,
             active: &active,
             map: &mut map,
             out_from: &mut out_from,
             out_to: &mut out_to,
+            out_names: &mut out_names,
             pieces: &mut pieces,
             work: &mut vec![0; tables::contract_work(n, m)],
         })?;
         let ends = out_from.iter().zip(&out_to).take(small.edges);
+        out_names.truncate(small.edges);
         Ok(SmallGraph {
             nodes: small.nodes,
             edges: ends.map(|(&u, &v)| (u.into(), v.into())).collect(),
+            names: out_names,
             map: map.into_iter().map(usize::from).collect(),
             pieces: pieces.into_iter().map(usize::from).collect(),
         })
@@ -323,6 +355,10 @@ pub struct Replayed {
     pub totals: Totals,
     /// For each event its answer; none where it opens or closes.
     pub answers: Vec<Option<Answer>>,
+    /// For each query with the answer [`JoinedOnce`](Answer::JoinedOnce) the road to watch: the smallest name of an open
+    /// road whose loss parts the two junctions; none at all other events. A road's name is its smallest segment, open or
+    /// not.
+    pub names: Vec<Option<u16>>,
 }
 
 impl Replayed {
@@ -330,6 +366,13 @@ impl Replayed {
     pub fn queries(&self) -> impl Iterator<Item = (usize, Answer)> + '_ {
         let each = self.answers.iter().enumerate();
         each.filter_map(|(i, answer)| answer.map(|a| (i, a)))
+    }
+
+    /// Each query with the answer [`JoinedOnce`](Answer::JoinedOnce), in order: its event, and the road to watch by the
+    /// number of its smallest segment.
+    pub fn watched(&self) -> impl Iterator<Item = (usize, usize)> + '_ {
+        let each = self.names.iter().enumerate();
+        each.filter_map(|(i, name)| name.map(|road| (i, road.into())))
     }
 
     /// The check number of the first `events` answers, by their bytes, to compare them by voice; see
@@ -358,6 +401,9 @@ pub struct SmallGraph {
     pub nodes: usize,
     /// The edges, each with its smaller end first, ascending.
     pub edges: Vec<(usize, usize)>,
+    /// The name of each edge: the smallest along the route that it stands for, that is, of an edge given whose loss parts
+    /// its two ends.
+    pub names: Vec<u16>,
     /// The node that each active entry stands at.
     pub map: Vec<usize>,
     /// The number of the connected piece that each active entry lies in.

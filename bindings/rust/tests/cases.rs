@@ -3,7 +3,7 @@
 mod common;
 
 use common::{graph, list, List};
-use lumzhasel::tables::{answers, check_sizes, CLOSES, OPENS};
+use lumzhasel::tables::{answers, check_sizes, CLOSES, NO_NAME, OPENS};
 use lumzhasel::{Error, Reason, Refusal};
 
 // The answer bytes of an accepted list with the share 8, and kept aside its numbers.
@@ -29,6 +29,7 @@ fn example(p: usize) -> List {
 fn the_example() {
     let got = example(8).compare();
     assert_eq!(got.answers, [3, 3, 1, 3, 2]);
+    assert_eq!(got.names, [NO_NAME, NO_NAME, 0, NO_NAME, NO_NAME]);
     assert_eq!(got.reply, Ok((2, 3, 19)));
     let other = example(12).compare();
     assert_eq!(other.answers, got.answers);
@@ -63,6 +64,8 @@ fn a_road_of_two_segments() {
     let events = [(0, 1), (CLOSES, 0), (0, 1), (CLOSES, 1), (0, 1), (OPENS, 0), (0, 1)];
     let got = list(2, 8, &segments, &events).with_start(&[1, 1]).compare();
     assert_eq!(got.answers, [1, 3, 1, 3, 0, 3, 1]);
+    // Its name is that of its first segment, closed or open.
+    assert_eq!(got.names, [0, NO_NAME, 0, NO_NAME, NO_NAME, NO_NAME, 0]);
     assert_eq!(got.reply.map(|r| (r.0, r.1)), Ok((4, 1)));
     // What opens twice and what closes twice is a segment.
     assert_eq!(
@@ -91,6 +94,39 @@ fn a_road_of_two_segments() {
 }
 
 #[test]
+fn the_road_that_an_answer_1_hangs_on() {
+    // A row of five junctions with a ring in its middle: the ring's roads part nothing.
+    let segments = [(3, 4), (1, 2), (2, 3), (3, 1), (0, 1), (1, 0)];
+    let events = [(0, 4), (1, 4), (0, 1), (1, 3), (CLOSES, 3), (1, 4), (2, 3), (CLOSES, 5), (0, 4)];
+    let got = list(5, 8, &segments, &events).with_start(&[1, 1, 1, 1, 0, 1]).compare();
+    assert_eq!(got.answers, [1, 1, 1, 2, 3, 1, 1, 3, 0]);
+    assert_eq!(got.names, [0, 0, 4, NO_NAME, NO_NAME, 0, 2, NO_NAME, NO_NAME]);
+    // A spliced edge takes the smallest name along it, and 65,535 is a name as any other.
+    for (names, want) in [([9, 7, 8], 7), ([65535, 65535, 65535], 65535), ([3, 65535, 3], 3)] {
+        let mut g = graph(4, &[(0, 1), (1, 2), (2, 3)], &[0, 3]);
+        g.names = names.to_vec();
+        g.out_names = vec![77; 5];
+        let got = g.compare();
+        assert_eq!((got.reply, got.out_names), (Ok((2, 1)), vec![want, 77, 77, 77, 77]));
+    }
+}
+
+#[test]
+fn short_tables_of_names() {
+    let mut l = example(8);
+    l.names.pop();
+    assert_eq!(refusal(&l), (2, 0));
+    let mut g = graph(3, &[(0, 1), (1, 2)], &[0, 2]);
+    g.names.pop();
+    assert_eq!(g.compare().reply, Err((2, 0)));
+    g.names.push(5);
+    g.out_names.pop();
+    assert_eq!(g.compare().reply, Err((2, 0)));
+    g.out_names.push(5);
+    assert_eq!(g.compare().out_names, [0, 0, 0, 5]);
+}
+
+#[test]
 fn a_segment_from_a_junction_to_itself() {
     assert_eq!(bytes(2, &[(0, 0)], &[(OPENS, 0), (0, 1)]), [3, 0]);
 }
@@ -99,7 +135,7 @@ fn a_segment_from_a_junction_to_itself() {
 fn a_path_is_contracted() {
     let got = graph(3, &[(0, 1), (1, 2)], &[0, 2]).compare();
     assert_eq!(got.reply, Ok((2, 1)));
-    assert_eq!((got.out_from[0], got.out_to[0]), (0, 1));
+    assert_eq!((got.out_from[0], got.out_to[0], got.out_names[0]), (0, 1, 0));
     assert_eq!(got.map, [0, 1]);
     assert_eq!(got.pieces, [0, 0]);
 }
@@ -110,6 +146,7 @@ fn a_star_is_contracted() {
     assert_eq!(got.reply, Ok((4, 3)));
     assert_eq!(got.out_from[..3], [0, 1, 2]);
     assert_eq!(got.out_to[..3], [3, 3, 3]);
+    assert_eq!(got.out_names[..3], [0, 1, 2]);
     assert_eq!(got.pieces, [0, 0, 0]);
 }
 

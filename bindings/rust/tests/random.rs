@@ -33,6 +33,7 @@ fn shares_change_kept_alone() {
             l.p = p;
             let other = l.call();
             assert_eq!(other.answers, first.answers);
+            assert_eq!(other.names, first.names);
             assert_eq!(other.work, first.work);
             assert_eq!(other.reply.map(|r| (r.0, r.1)), first.reply.map(|r| (r.0, r.1)));
         }
@@ -118,7 +119,7 @@ fn damage(l: &mut common::List, r: &mut Numbers) {
         _ => r.below(8) as u16,
     };
     let place = r.below(12);
-    match r.below(12) {
+    match r.below(13) {
         0 => l.p = r.below(16),
         1 => l.n = r.below(8),
         2 => l.m = r.below(8),
@@ -127,11 +128,12 @@ fn damage(l: &mut common::List, r: &mut Numbers) {
         5 => l.a.truncate(l.a.len().saturating_sub(1 + r.below(3))),
         6 => l.answers.truncate(l.answers.len().saturating_sub(1 + r.below(3))),
         7 => l.start.truncate(l.start.len().saturating_sub(1 + r.below(3))),
+        8 => l.names.truncate(l.names.len().saturating_sub(1 + r.below(3))),
         k => {
             let table = match k {
-                8 => &mut l.a,
-                9 => &mut l.start,
-                10 => &mut l.x,
+                9 => &mut l.a,
+                10 => &mut l.start,
+                11 => &mut l.x,
                 _ => &mut l.y,
             };
             if place < table.len() {
@@ -149,18 +151,20 @@ fn damaged_graphs() {
         let mut g = random_graph(&mut r, 6, 8, 8);
         g.fill_with_junk(&mut r);
         let place = r.below(8);
-        match r.below(9) {
+        match r.below(11) {
             0 => g.n = r.below(8),
             1 => g.m = r.below(10),
             2 => g.k = r.below(10),
             3 => g.m = 8190 + r.below(5),
             4 => g.work.truncate(16 * g.n + 8 * g.m + 511),
             5 => g.pieces.truncate(g.pieces.len().saturating_sub(1 + r.below(3))),
+            6 => g.names.truncate(g.names.len().saturating_sub(1 + r.below(3))),
+            7 => g.out_names.truncate(g.out_names.len().saturating_sub(1 + r.below(3))),
             k => {
                 let value = (g.n + r.below(2)) as u16;
                 let table = match k {
-                    6 => &mut g.from,
-                    7 => &mut g.to,
+                    8 => &mut g.from,
+                    9 => &mut g.to,
                     _ => &mut g.active,
                 };
                 if place < table.len() {
@@ -195,6 +199,7 @@ fn the_stack_that_is_named_is_enough() {
                 l.x.push(0);
                 l.y.push(0);
                 l.answers.push(0);
+                l.names.push(0);
                 l.work.extend([0; 256]);
             }
             l.p = p;

@@ -10,15 +10,17 @@ fn a_replay_with_one_table_short() {
         let mut r = Numbers::from(70_000 + seed);
         let mut l = random_list(&mut r, 6, 8, 12);
         l.answers = r.junk(l.answers.len()).iter().map(|v| *v as u8).collect();
+        l.names = r.junk(l.names.len());
         l.work = r.junk(l.work.len()).iter().map(|v| *v as u32).collect();
         assert!(l.compare().reply.is_ok());
-        let shorten: [fn(&mut List) -> bool; 7] = [
+        let shorten: [fn(&mut List) -> bool; 8] = [
             |l| l.a.pop().is_some(),
             |l| l.b.pop().is_some(),
             |l| l.start.pop().is_some(),
             |l| l.x.pop().is_some(),
             |l| l.y.pop().is_some(),
             |l| l.answers.pop().is_some(),
+            |l| l.names.pop().is_some(),
             |l| l.work.pop().is_some(),
         ];
         for pop in shorten {
@@ -26,7 +28,8 @@ fn a_replay_with_one_table_short() {
             if pop(&mut short) {
                 let got = short.compare();
                 assert_eq!(got.reply, Err((2, 0)));
-                assert_eq!((got.answers, got.work), (short.answers, short.work));
+                assert_eq!((got.answers, got.names), (short.answers, short.names));
+                assert_eq!(got.work, short.work);
             }
         }
     }
@@ -37,18 +40,26 @@ fn a_contraction_with_one_table_short() {
     for seed in 0..200 {
         let mut r = Numbers::from(80_000 + seed);
         let mut g = random_graph(&mut r, 6, 8, 6);
-        for table in [&mut g.map, &mut g.out_from, &mut g.out_to, &mut g.pieces] {
+        for table in [
+            &mut g.map,
+            &mut g.out_from,
+            &mut g.out_to,
+            &mut g.out_names,
+            &mut g.pieces,
+        ] {
             *table = r.junk(table.len());
         }
         g.work = r.junk(g.work.len()).iter().map(|v| *v as u32).collect();
         assert!(g.compare().reply.is_ok());
-        let shorten: [fn(&mut Graph) -> bool; 8] = [
+        let shorten: [fn(&mut Graph) -> bool; 10] = [
             |g| g.from.pop().is_some(),
             |g| g.to.pop().is_some(),
+            |g| g.names.pop().is_some(),
             |g| g.active.pop().is_some(),
             |g| g.map.pop().is_some(),
             |g| g.out_from.pop().is_some(),
             |g| g.out_to.pop().is_some(),
+            |g| g.out_names.pop().is_some(),
             |g| g.pieces.pop().is_some(),
             |g| g.work.pop().is_some(),
         ];
@@ -59,7 +70,7 @@ fn a_contraction_with_one_table_short() {
                 assert_eq!(got.reply, Err((2, 0)));
                 assert_eq!((got.map, got.work), (short.map, short.work));
                 assert_eq!((got.out_from, got.out_to), (short.out_from, short.out_to));
-                assert_eq!(got.pieces, short.pieces);
+                assert_eq!((got.out_names, got.pieces), (short.out_names, short.pieces));
             }
         }
     }
@@ -76,6 +87,8 @@ fn junk_changes_no_answer() {
         assert_eq!(got.reply, plain.reply);
         assert_eq!(got.answers[..clean.t], plain.answers[..]);
         assert_eq!(got.answers[clean.t..], filled.answers[clean.t..]);
+        assert_eq!(got.names[..clean.t], plain.names[..]);
+        assert_eq!(got.names[clean.t..], filled.names[clean.t..]);
         let required = clean.work.len();
         assert!(got.work[..required].iter().all(|w| *w == 0));
         assert_eq!(got.work[required..], filled.work[required..]);
@@ -100,6 +113,8 @@ fn junk_changes_no_contraction() {
         assert_eq!(got.out_from[edges..], filled.out_from[edges..]);
         assert_eq!(got.out_to[..edges], plain.out_to[..edges]);
         assert_eq!(got.out_to[edges..], filled.out_to[edges..]);
+        assert_eq!(got.out_names[..edges], plain.out_names[..edges]);
+        assert_eq!(got.out_names[edges..], filled.out_names[edges..]);
     }
 }
 
@@ -113,6 +128,7 @@ fn refusals_change_nothing() {
         let got = l.compare();
         assert_eq!(got.reply, Err((3, 0)));
         assert_eq!((got.answers, got.work), (l.answers.clone(), l.work.clone()));
+        assert_eq!(got.names, l.names);
         l.p = 8;
         if l.t > 0 {
             // The last event names nothing, so that all others are looked at first.
@@ -120,13 +136,14 @@ fn refusals_change_nothing() {
             let got = l.compare();
             assert_eq!(got.reply, Err((5, l.t - 1)));
             assert_eq!((got.answers, got.work), (l.answers.clone(), l.work.clone()));
+            assert_eq!(got.names, l.names);
         }
         if l.m > 0 {
             // Before every event, and after all other entries.
             l.start[l.m - 1] = 2 + r.below(65534) as u16;
             let got = l.compare();
             assert_eq!(got.reply, Err((11, l.m - 1)));
-            assert_eq!((got.answers, got.work), (l.answers, l.work));
+            assert_eq!((got.answers, got.names, got.work), (l.answers, l.names, l.work));
         }
         let mut g = random_graph(&mut r, 6, 8, 6);
         g.fill_with_junk(&mut r);
@@ -136,7 +153,7 @@ fn refusals_change_nothing() {
             assert_eq!(got.reply, Err((8, g.k - 1)));
             assert_eq!((got.map, got.work), (g.map, g.work));
             assert_eq!((got.out_from, got.out_to), (g.out_from, g.out_to));
-            assert_eq!(got.pieces, g.pieces);
+            assert_eq!((got.out_names, got.pieces), (g.out_names, g.pieces));
         }
     }
 }

@@ -3,7 +3,7 @@
 mod common;
 
 use common::{random_graph, random_list, refusal, Graph, List, Numbers};
-use lumzhasel::tables::{CLOSES, OPENS};
+use lumzhasel::tables::{CLOSES, NO_NAME, OPENS};
 use lumzhasel::{Answer, Error, Event, Network, Reason, Refusal};
 
 fn refused<T>(reason: Reason, place: usize) -> Result<T, Error> {
@@ -37,6 +37,11 @@ fn compare_list(l: &List) {
             assert_eq!(Ok((totals.queries, totals.open, totals.kept)), want.reply, "{l:?}");
             let bytes: Vec<u8> = replayed.answers.iter().map(|a| a.map_or(3, Answer::byte)).collect();
             assert_eq!(bytes, want.answers, "{l:?}");
+            let names: Vec<u16> = replayed.names.iter().map(|name| name.unwrap_or(NO_NAME)).collect();
+            assert_eq!(names, want.names, "{l:?}");
+            let watched: Vec<usize> = replayed.watched().map(|(i, _)| i).collect();
+            let once: Vec<usize> = (0..l.t).filter(|&i| want.answers[i] == 1).collect();
+            assert_eq!(watched, once);
             let queries: Vec<usize> = replayed.queries().map(|(i, _)| i).collect();
             let asked: Vec<usize> = (0..l.t).filter(|&i| want.answers[i] != 3).collect();
             assert_eq!(queries, asked);
@@ -46,7 +51,7 @@ fn compare_list(l: &List) {
 
 fn compare_graph(g: &Graph) {
     let active: Vec<usize> = g.active.iter().map(|&v| v.into()).collect();
-    let got = network(g.n, &g.from, &g.to).contract(&active);
+    let got = network(g.n, &g.from, &g.to).contract_named(&active, &g.names);
     let want = g.slow();
     match got {
         Err(e) => assert_eq!(Err(refusal(e)), want.reply, "{g:?}"),
@@ -61,6 +66,7 @@ fn compare_graph(g: &Graph) {
             for (i, &(u, v)) in small.edges.iter().enumerate() {
                 assert_eq!((u as u16, v as u16), (want.out_from[i], want.out_to[i]), "{g:?}");
             }
+            assert_eq!(small.names, want.out_names[..small.edges.len()], "{g:?}");
         }
     }
 }
@@ -79,6 +85,8 @@ fn the_example() {
         eight.answers,
         [None, None, Some(Answer::JoinedOnce), None, Some(Answer::JoinedTwice)]
     );
+    assert_eq!(eight.names, [None, None, Some(0), None, None]);
+    assert_eq!(Vec::from_iter(eight.watched()), [(2, 0)]);
     assert_eq!((eight.totals.queries, eight.totals.open, eight.totals.kept), (2, 3, 19));
     let twelve = network.replay(&list.clone().with_share(12)).unwrap();
     assert_eq!((twelve.answers, twelve.totals.kept), (eight.answers, 20));
@@ -120,7 +128,7 @@ fn a_segment_that_is_not_there() {
 fn an_empty_list() {
     let empty = Network::default().replay(&lumzhasel::List::default()).unwrap();
     assert_eq!((empty.totals.queries, empty.totals.open, empty.totals.kept), (0, 0, 0));
-    assert!(empty.answers.is_empty());
+    assert!(empty.answers.is_empty() && empty.names.is_empty());
 }
 
 #[test]
@@ -129,9 +137,22 @@ fn a_star_is_contracted() {
     let small = star.contract(&[0, 1, 2]).unwrap();
     assert_eq!((small.nodes, small.map), (4, vec![0, 1, 2]));
     assert_eq!(small.edges, [(0, 3), (1, 3), (2, 3)]);
+    assert_eq!(small.names, [0, 1, 2]);
     let small = star.contract(&[]).unwrap();
     assert_eq!((small.nodes, small.edges.len(), small.map.len()), (0, 0, 0));
     assert_eq!((small.pieces.len(), small.piece_count()), (0, 0));
+}
+
+#[test]
+fn names_of_a_contraction() {
+    let row = Network::with_segments(4, [(2, 3), (0, 1), (1, 2)]);
+    let own = row.contract(&[0, 3]).unwrap();
+    assert_eq!((own.edges.as_slice(), own.names.as_slice()), (&[(0, 1)][..], &[0][..]));
+    assert_eq!(row.contract_named(&[0, 3], &[0, 1, 2]), Ok(own));
+    // More names than segments are no fault, fewer are.
+    let given = row.contract_named(&[0, 2, 3], &[65535, 9, 7, 1]).unwrap();
+    assert_eq!((given.edges, given.names), (vec![(0, 1), (1, 2)], vec![7, 65535]));
+    assert_eq!(row.contract_named(&[0, 3], &[0, 1]), refused(Reason::Short, 0));
 }
 
 #[test]

@@ -2,7 +2,7 @@
 //! and calls held to the slow version in their reply and in every lent entry afterwards.
 #![allow(dead_code)]
 
-use lumzhasel::tables::{contract, replay, ContractTables, ReplayTables, CLOSES, OPENS};
+use lumzhasel::tables::{contract, replay, ContractTables, ReplayTables, CLOSES, NO_NAME, OPENS};
 use lumzhasel::Error;
 
 pub type Edge = (usize, usize);
@@ -69,16 +69,23 @@ impl Removals {
         }
         1
     }
+
+    /// The smallest of the names, one for each removal, whose removal parts u and v.
+    pub fn least_name(&self, names: &[u16], u: usize, v: usize) -> Option<u16> {
+        let parting = (0..self.without.len()).filter(|&e| self.without[e][u] != self.without[e][v]);
+        parting.map(|e| names[e]).min()
+    }
 }
 
-/// A contraction's result: the number of each active entry, and the edges.
+/// A contraction's result: the number of each active entry, and the edges with their names.
 pub struct Small {
     pub nodes: usize,
     pub map: Vec<usize>,
     pub edges: Vec<Edge>,
+    pub names: Vec<u16>,
 }
 
-pub fn slow_contract(n: usize, edges: &[Edge], active: &[usize]) -> Small {
+pub fn slow_contract(n: usize, edges: &[Edge], names: &[u16], active: &[usize]) -> Small {
     let removals = Removals::of(n, edges);
     // A class is named by its smallest node.
     let class: Vec<usize> = (0..n)
@@ -129,12 +136,14 @@ pub fn slow_contract(n: usize, edges: &[Edge], active: &[usize]) -> Small {
             }
         }
     }
+    let name = |&(i, j): &Edge| removals.least_name(names, order[i], order[j]).unwrap();
     Small {
         nodes: order.len(),
         map: active
             .iter()
             .map(|&v| order.iter().position(|&c| c == class[v]).unwrap())
             .collect(),
+        names: joined.iter().map(name).collect(),
         edges: joined,
     }
 }
@@ -174,6 +183,7 @@ pub struct List {
     pub x: Vec<u16>,
     pub y: Vec<u16>,
     pub answers: Vec<u8>,
+    pub names: Vec<u16>,
     pub work: Vec<u32>,
 }
 
@@ -182,6 +192,7 @@ pub struct List {
 pub struct Replayed {
     pub reply: Result<(usize, usize, usize), (usize, usize)>,
     pub answers: Vec<u8>,
+    pub names: Vec<u16>,
     pub work: Vec<u32>,
 }
 
@@ -224,7 +235,7 @@ impl List {
         }
         let short_network = [&self.a, &self.b, &self.start].iter().any(|table| table.len() < self.m);
         let short_list = self.x.len() < self.t || self.y.len() < self.t || self.answers.len() < self.t;
-        if short_network || short_list || self.work.len() < self.required() {
+        if short_network || short_list || self.names.len() < self.t || self.work.len() < self.required() {
             return Some((2, 0));
         }
         if self.p < 4 || self.p > 12 {
@@ -295,43 +306,57 @@ impl List {
                         roads.push(s);
                     }
                 }
-                slow_contract(self.n, &roads, &active).nodes
+                slow_contract(self.n, &roads, &vec![0; roads.len()], &active).nodes
             })
             .sum()
     }
 
-    pub fn slow(&self) -> Replayed {
-        let (mut answers, mut work) = (self.answers.clone(), self.work.clone());
-        if let Some(refusal) = self.fault() {
-            return Replayed {
-                reply: Err(refusal),
-                answers,
-                work,
-            };
+    /// The name of a road: its smallest segment, open or not.
+    fn road_name(&self, road: Edge) -> u16 {
+        let segments = self.segments(|_| true);
+        segments.iter().position(|&s| same_road(s, road)).unwrap() as u16
+    }
+
+    // The written tables as they are lent.
+    fn untouched(&self, reply: Result<(usize, usize, usize), (usize, usize)>) -> Replayed {
+        Replayed {
+            reply,
+            answers: self.answers.clone(),
+            names: self.names.clone(),
+            work: self.work.clone(),
         }
-        let mut queries = 0;
-        for (i, byte) in answers.iter_mut().enumerate().take(self.t) {
-            *byte = 3;
-            if self.x[i] != OPENS && self.x[i] != CLOSES {
-                let open = self.open_before(i);
-                let removals = Removals::of_roads(self.n, &self.segments(|s| open[s]));
-                *byte = removals.answer(self.x[i] as usize, self.y[i] as usize);
-                queries += 1;
-            }
+    }
+
+    pub fn slow(&self) -> Replayed {
+        if let Some(refusal) = self.fault() {
+            return self.untouched(Err(refusal));
         }
         let open = self.open_before(self.t).iter().filter(|o| **o).count();
-        work[..self.required()].fill(0);
-        Replayed {
-            reply: Ok((queries, open, self.kept())),
-            answers,
-            work,
+        let queries = self.x[..self.t].iter().filter(|&&x| x != OPENS && x != CLOSES).count();
+        let mut done = self.untouched(Ok((queries, open, self.kept())));
+        for i in 0..self.t {
+            done.answers[i] = 3;
+            done.names[i] = NO_NAME;
+            if self.x[i] != OPENS && self.x[i] != CLOSES {
+                let open = self.open_before(i);
+                let segments = self.segments(|s| open[s]);
+                let removals = Removals::of_roads(self.n, &segments);
+                let (u, v) = (self.x[i] as usize, self.y[i] as usize);
+                done.answers[i] = removals.answer(u, v);
+                if done.answers[i] == 1 {
+                    let names: Vec<u16> = segments.iter().map(|&s| self.road_name(s)).collect();
+                    done.names[i] = removals.least_name(&names, u, v).unwrap();
+                }
+            }
         }
+        done.work[..self.required()].fill(0);
+        done
     }
 
     /// The call's reply and tables.
     pub fn call(&self) -> Replayed {
         let lent = self.clone();
-        let (mut answers, mut work) = (self.answers.clone(), self.work.clone());
+        let mut done = self.untouched(Ok((0, 0, 0)));
         let r = replay(ReplayTables {
             n: lent.n,
             m: lent.m,
@@ -342,12 +367,13 @@ impl List {
             start: &lent.start,
             x: &lent.x,
             y: &lent.y,
-            answers: &mut answers,
-            work: &mut work,
+            answers: &mut done.answers,
+            names: &mut done.names,
+            work: &mut done.work,
         });
         assert_eq!(&lent, self, "a table that is only read was written");
-        let reply = r.map(|t| (t.queries, t.open, t.kept)).map_err(refusal);
-        Replayed { reply, answers, work }
+        done.reply = r.map(|t| (t.queries, t.open, t.kept)).map_err(refusal);
+        done
     }
 
     /// Calls the replay, holds it to the slow version, and hands its outcome back.
@@ -355,11 +381,13 @@ impl List {
         let (got, want) = (self.call(), self.slow());
         assert!(
             got == want,
-            "{self:?}\ngot {:?} {:?}\nwant {:?} {:?}",
+            "{self:?}\ngot {:?} {:?} {:?}\nwant {:?} {:?} {:?}",
             got.reply,
             got.answers,
+            got.names,
             want.reply,
-            want.answers
+            want.answers,
+            want.names
         );
         got
     }
@@ -373,10 +401,12 @@ pub struct Graph {
     pub k: usize,
     pub from: Vec<u16>,
     pub to: Vec<u16>,
+    pub names: Vec<u16>,
     pub active: Vec<u16>,
     pub map: Vec<u16>,
     pub out_from: Vec<u16>,
     pub out_to: Vec<u16>,
+    pub out_names: Vec<u16>,
     pub pieces: Vec<u16>,
     pub work: Vec<u32>,
 }
@@ -388,6 +418,7 @@ pub struct Contracted {
     pub map: Vec<u16>,
     pub out_from: Vec<u16>,
     pub out_to: Vec<u16>,
+    pub out_names: Vec<u16>,
     pub pieces: Vec<u16>,
     pub work: Vec<u32>,
 }
@@ -401,9 +432,11 @@ impl Graph {
         if self.n > 4096 || self.m > 8192 || self.k > 8192 {
             return Some((1, 0));
         }
-        let short_in = self.from.len() < self.m || self.to.len() < self.m || self.active.len() < self.k;
-        let short_out = self.map.len() < self.k || self.out_from.len() < 2 * self.k || self.out_to.len() < 2 * self.k;
-        if short_in || short_out || self.pieces.len() < self.k || self.work.len() < self.required() {
+        let short = |tables: &[&Vec<u16>], least: usize| tables.iter().any(|table| table.len() < least);
+        let short_edges = short(&[&self.from, &self.to, &self.names], self.m);
+        let short_out = short(&[&self.out_from, &self.out_to, &self.out_names], 2 * self.k);
+        let short_entries = short(&[&self.active, &self.map, &self.pieces], self.k);
+        if short_edges || short_out || short_entries || self.work.len() < self.required() {
             return Some((2, 0));
         }
         for e in 0..self.m {
@@ -433,6 +466,7 @@ impl Graph {
             map: self.map.clone(),
             out_from: self.out_from.clone(),
             out_to: self.out_to.clone(),
+            out_names: self.out_names.clone(),
             pieces: self.pieces.clone(),
             work: self.work.clone(),
         }
@@ -443,7 +477,7 @@ impl Graph {
             return self.untouched(Err(refusal));
         }
         let (edges, active) = (self.edges(), self.entries());
-        let small = slow_contract(self.n, &edges, &active);
+        let small = slow_contract(self.n, &edges, &self.names, &active);
         let mut done = self.untouched(Ok((small.nodes, small.edges.len())));
         for (i, v) in small.map.iter().enumerate() {
             done.map[i] = *v as u16;
@@ -451,6 +485,7 @@ impl Graph {
         for (i, (u, v)) in small.edges.iter().enumerate() {
             done.out_from[i] = *u as u16;
             done.out_to[i] = *v as u16;
+            done.out_names[i] = small.names[i];
         }
         for (i, piece) in slow_pieces(self.n, &edges, &active).iter().enumerate() {
             done.pieces[i] = *piece as u16;
@@ -469,10 +504,12 @@ impl Graph {
             k: lent.k,
             from: &lent.from,
             to: &lent.to,
+            names: &lent.names,
             active: &lent.active,
             map: &mut done.map,
             out_from: &mut done.out_from,
             out_to: &mut done.out_to,
+            out_names: &mut done.out_names,
             pieces: &mut done.pieces,
             work: &mut done.work,
         });
@@ -486,12 +523,14 @@ impl Graph {
         let (got, want) = (self.call(), self.slow());
         assert!(
             got == want,
-            "{self:?}\ngot {:?} {:?} {:?}\nwant {:?} {:?} {:?}",
+            "{self:?}\ngot {:?} {:?} {:?} {:?}\nwant {:?} {:?} {:?} {:?}",
             got.reply,
             got.map,
+            got.out_names,
             got.pieces,
             want.reply,
             want.map,
+            want.out_names,
             want.pieces
         );
         got
@@ -540,11 +579,12 @@ pub fn list(n: usize, p: usize, segments: &[(u16, u16)], events: &[(u16, u16)]) 
         x: events.iter().map(|e| e.0).collect(),
         y: events.iter().map(|e| e.1).collect(),
         answers: vec![0; t],
+        names: vec![0; t],
         work: vec![0; 256 * t + 32 * n + 8 * m + 2048],
     }
 }
 
-/// A graph with tables as long as they must be and zeros in those that are written.
+/// A graph with tables as long as they must be and zeros in those that are written. An edge has its number as its name.
 pub fn graph(n: usize, edges: &[(u16, u16)], active: &[u16]) -> Graph {
     let (m, k) = (edges.len(), active.len());
     Graph {
@@ -553,10 +593,12 @@ pub fn graph(n: usize, edges: &[(u16, u16)], active: &[u16]) -> Graph {
         k,
         from: edges.iter().map(|e| e.0).collect(),
         to: edges.iter().map(|e| e.1).collect(),
+        names: (0..m).map(|e| e as u16).collect(),
         active: active.to_vec(),
         map: vec![0; k],
         out_from: vec![0; 2 * k],
         out_to: vec![0; 2 * k],
+        out_names: vec![0; 2 * k],
         pieces: vec![0; k],
         work: vec![0; 16 * n + 8 * m + 512],
     }
@@ -593,14 +635,19 @@ pub fn random_list(r: &mut Numbers, junctions: usize, segments: usize, events: u
     list(n, 4 + r.below(9), &ends, &told).with_start(&start)
 }
 
-/// A graph without a fault, of at most these sizes.
+/// A graph without a fault, of at most these sizes. Its names are few, so that several edges have the same, or any, or the largest.
 pub fn random_graph(r: &mut Numbers, nodes: usize, edges: usize, entries: usize) -> Graph {
     let n = 1 + r.below(nodes);
     let m = r.below(edges + 1);
     let k = r.below(entries + 1);
     let ends: Vec<(u16, u16)> = (0..m).map(|_| (r.below(n) as u16, r.below(n) as u16)).collect();
     let active: Vec<u16> = (0..k).map(|_| r.below(n) as u16).collect();
-    graph(n, &ends, &active)
+    let (first, count) = [(0, 4), (0, 65536), (65532, 4)][r.below(3)];
+    let names = (0..m).map(|_| (first + r.below(count)) as u16).collect();
+    Graph {
+        names,
+        ..graph(n, &ends, &active)
+    }
 }
 
 impl List {
@@ -612,6 +659,8 @@ impl List {
         }
         let (t, w) = (self.answers.len() + r.below(4), self.work.len() + r.below(4));
         self.answers = r.junk(t).iter().map(|v| *v as u8).collect();
+        let t = self.names.len() + r.below(4);
+        self.names = r.junk(t);
         self.work = r.junk(w).iter().map(|v| 65537 * *v as u32).collect();
     }
 }
@@ -619,11 +668,17 @@ impl List {
 impl Graph {
     /// Lengthens each table by some junk, and fills the written ones with it.
     pub fn fill_with_junk(&mut self, r: &mut Numbers) {
-        for table in [&mut self.from, &mut self.to, &mut self.active] {
+        for table in [&mut self.from, &mut self.to, &mut self.names, &mut self.active] {
             let more = r.below(4);
             table.extend(r.junk(more));
         }
-        for table in [&mut self.map, &mut self.out_from, &mut self.out_to, &mut self.pieces] {
+        for table in [
+            &mut self.map,
+            &mut self.out_from,
+            &mut self.out_to,
+            &mut self.out_names,
+            &mut self.pieces,
+        ] {
             let long = table.len() + r.below(4);
             *table = r.junk(long);
         }
