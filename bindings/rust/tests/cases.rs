@@ -97,7 +97,17 @@ fn a_road_of_two_segments() {
 fn the_road_that_an_answer_1_hangs_on() {
     // A row of five junctions with a ring in its middle: the ring's roads part nothing.
     let segments = [(3, 4), (1, 2), (2, 3), (3, 1), (0, 1), (1, 0)];
-    let events = [(0, 4), (1, 4), (0, 1), (1, 3), (CLOSES, 3), (1, 4), (2, 3), (CLOSES, 5), (0, 4)];
+    let events = [
+        (0, 4),
+        (1, 4),
+        (0, 1),
+        (1, 3),
+        (CLOSES, 3),
+        (1, 4),
+        (2, 3),
+        (CLOSES, 5),
+        (0, 4),
+    ];
     let got = list(5, 8, &segments, &events).with_start(&[1, 1, 1, 1, 0, 1]).compare();
     assert_eq!(got.answers, [1, 1, 1, 2, 3, 1, 1, 3, 0]);
     assert_eq!(got.names, [0, 0, 4, NO_NAME, NO_NAME, 0, 2, NO_NAME, NO_NAME]);
