@@ -1,5 +1,5 @@
-// What is met among the random graphs, so that the report shows that the comparison has seen it. A result is a list: the names of the edges in NAMES, the pieces
-// in Y, how many nodes have no active one in Y's size, and how many edges stand for two or more in X's.
+// What is met among the random graphs, so that the report shows that the comparison has seen it. A result is a list: the names of the edges in NAMES, the
+// pieces in Y, how many nodes have no active one in Y's size, and how many edges stand for two or more in X's.
 use test_library::calls::Reply;
 use test_library::counts;
 use test_library::lists;

@@ -151,8 +151,8 @@ fn part_along(c: &mut Table, p: &mut Table, l: &List, open: &Marks, e: usize) {
     }
 }
 
-// Internal: the classes: for each node the smallest that it is joined to, also after the removal of each single edge; and the pieces. All were one class before, and
-// each alone in p.
+// Internal: the classes: for each node the smallest that it is joined to, also after the removal of each single edge; and the pieces. All were one class
+// before, and each alone in p.
 pub fn classes(c: &mut Table, p: &mut Table, l: &List, open: &Marks) {
     let m = lists::size(l, lists::B);
     let mut all = [0u32; 512];

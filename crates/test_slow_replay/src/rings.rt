@@ -1,6 +1,7 @@
 // Rings of at least three places: the first junctions are the places, and segment e goes between place e and the next, counted round, in either order. So the
-// segments at one place are one road, for which the segment with the number of the place stands. An answer is told by walking both ways round, and a name by walking the open way. Where each place
-// has an open road to the next, the ring is one class; else each place is a class, and these lie in rows, so that none without an active junction is kept.
+// segments at one place are one road, for which the segment with the number of the place stands. An answer is told by walking both ways round, and a name by
+// walking the open way. Where each place has an open road to the next, the ring is one class; else each place is a class, and these lie in rows, so that none
+// without an active junction is kept.
 use test_library::counts;
 use test_library::random;
 use test_library::tables;
