@@ -228,8 +228,7 @@ fn nearest_kept(nodes: &mut [Node], halves: &[Half], seen: usize) {
         } else {
             let top = &nodes[nodes[node[PARENT] as usize][TOP] as usize];
             let name = halves[2 * (node[TREE_EDGE] as usize - 1)][2];
-            // A class that is not kept hands on what lies between it and the nearest one above. A root that is not kept has no such class, and
-            // what it hands on is not read.
+            // A class that is not kept hands on what lies between it and the nearest one above. A root is active, so that its class is kept.
             let least = if top[NUMBER] == 0 {
                 name.min(top[LEAST])
             } else {

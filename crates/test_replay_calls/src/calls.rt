@@ -53,12 +53,11 @@ fn call(
     names: &mut [u16],
     work: &mut [u32],
 ) -> ReplayReply
-    requires { ⌜ (40968 ≤ length (now s)) × (4104 ≤ length (now answers)) × (4104 ≤ length (now names)) ⌝ }
-    requires { ⌜ 1247536 ≤ length (now work) ⌝ }
+    requires { ⌜ 40968 ≤ length (now s) ⌝ }
 {
-    let bytes = counts::least(lengths[5], 4104);
-    let entries = counts::least(lengths[6], 4104);
-    let words = counts::least(lengths[7], 1247536);
+    let bytes = counts::least(lengths[5], answers.len());
+    let entries = counts::least(lengths[6], names.len());
+    let words = counts::least(lengths[7], work.len());
     call_replay::replay(
         n,
         m,
