@@ -3,13 +3,14 @@
 -- Assumes nothing: these are definitions.
 use Prim.Native.Nat.{ℕ}
 use mathlib.Core.Bool.{Bool, _&&_, _||_, cond, false, not}
-use mathlib.Core.List.{List, List·Memᴰ, [], _∷_}
+use mathlib.Core.List.{List, List·Memᴰ, [], _∷_, map}
 use mathlib.Core.Path.{_≡_}
 use lib.Dec.{eqb}
 use lib.ListN.{getD}
 use Rattle.call_sizes.specs.Refusal.{seek}
 use Rattle.theory_graph.specs.Graph.{Edge, joined}
 use Rattle.theory_graph.specs.Lists.{all, filter}
+use Rattle.theory_names.specs.Names.{Entry, Named, least, plain}
 
 -- the two edges have the same two ends, in either order
 abbrev pub sameEnds : Edge → Edge → Bool
@@ -27,6 +28,11 @@ twoRoad E x y = joined E x y && all (λ e. joined (lose e E) x y) E
 -- the answer of two junctions where the segments E are open, by the loss of roads
 unfoldable pub roadAnswer : List Edge → ℕ → ℕ → ℕ
 roadAnswer E x y = cond (joined E x y) (cond (twoRoad E x y) 2 1) 0
+
+-- where that answer is 1, the smallest name of an edge whose road's loss parts the two; else 65,535
+unfoldable pub roadName : Named → ℕ → ℕ → ℕ
+roadName G x y =
+    cond (eqb (roadAnswer (plain G) x y) 1) (least (map (λ (e : Entry). e .1) (filter (λ (e : Entry). not (joined (lose (e .0) (plain G)) x y)) G))) 65535
 
 -- no edge of F is of the road of e
 abbrev pub Apart : Edge → List Edge → Type 0

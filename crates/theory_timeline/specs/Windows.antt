@@ -8,7 +8,8 @@ use lib.ListN.{drop, getD, length, take}
 use Rattle.theory_graph.specs.Contraction.{Contracted, contract, number}
 use Rattle.theory_graph.specs.Graph.{Edge}
 use Rattle.theory_graph.specs.Lists.{sum}
-use Rattle.theory_names.specs.Names.{Named, contractNamed, plain}
+use Rattle.theory_names.specs.Names.{Entry, Named, contractNamed, plain}
+use Rattle.theory_timeline.specs.Roads.{road}
 use Rattle.theory_timeline.specs.Events.{Event, SegmentSet, activeOf, afterAll, networkOf, openRoads, pick}
 
 -- a network, the segments open at the start, and the list of events
@@ -35,6 +36,10 @@ openBefore g i = afterAll (take i (g .events)) (g .start)
 -- the edges of a set of segments, or of roads by their names, each with its number as its name
 abbrev pub edgesOf : Timeline → SegmentSet → Named
 edgesOf g o = pick o 0 (g .segments)
+
+-- the edges of a set of segments, each with the name of its road
+abbrev pub segmentsOf : Timeline → SegmentSet → Named
+segmentsOf g o = map (λ (e : Entry). (e .0, road (g .segments) (e .1))) (edgesOf g o)
 
 -- the roads open before event i, and the graph of what is open then: one edge for each open road, in ascending order of their names, and with them
 abbrev pub roadsBefore : Timeline → ℕ → SegmentSet
