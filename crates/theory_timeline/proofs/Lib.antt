@@ -1,4 +1,5 @@
 pub mod RoadLaws
+pub mod RoadNames
 pub mod EventLaws
 pub mod WindowLaws
 pub mod Networks

@@ -1,6 +1,6 @@
--- What a reader of document 02, No. 3, expects: the byte of a query is by the loss of roads, straight from the open segments and with no list of roads in
--- sight; a window's network has just the roads that are open before it and that have no segment named in it; and what a step adds are new roads, as demand 3
--- adds them.
+-- What a reader of document 02, No. 3, expects: the byte and the name of a query are by the loss of roads, straight from the open segments and with no list
+-- of roads in sight; a window's network has just the roads that are open before it and that have no segment named in it; and what a step adds are new roads,
+-- as demand 3 adds them.
 -- Assumes nothing.
 use Prim.Native.Nat.{_+_, _<_, ℕ}
 use mathlib.Core.Bool.{_&&_, cond, false, not, true}
@@ -16,17 +16,24 @@ use Rattle.theory_timeline.proofs.Networks.{around, around-name}
 use Rattle.theory_names.specs.Names.{Entry, plain}
 use Rattle.theory_timeline.proofs.RoadLaws.{mem-pick, names-apart, names-different, open-name, open-segment, pick-mem, road-ends, road-most}
 use Rattle.theory_timeline.proofs.RoadLaws.{road-same, road-twice, roads-answer, same-road, segment-open}
+use Rattle.theory_timeline.proofs.RoadNames.{roads-name}
 use Rattle.theory_timeline.specs.DemandThree.{NewRoads}
 use Rattle.theory_timeline.specs.Events.{SegmentSet, asks, named, namedRoads, networkOf, openRoads}
-use Rattle.theory_timeline.specs.Replay.{byte}
-use Rattle.theory_timeline.specs.Roads.{road, roadAnswer, sameEnds, sameRoad}
+use Rattle.theory_timeline.specs.Replay.{byte, nameAt}
+use Rattle.theory_timeline.specs.Roads.{road, roadAnswer, roadName, sameEnds, sameRoad}
 use Rattle.theory_timeline.specs.Steps.{added}
-use Rattle.theory_timeline.specs.Windows.{Timeline, Window, during, edgesOf, event, network, openBefore}
+use Rattle.theory_timeline.specs.Windows.{Timeline, Window, during, edgesOf, event, network, openBefore, segmentsOf}
 
 -- 3 where an event opens or closes; else by the segments open before it: joined, and joined after the loss of each single road in turn
 pub byte-roads : (g : Timeline) (i : ℕ) → byte g i ≡ cond (asks (event g i)) (roadAnswer (plain (edgesOf g (openBefore g i))) (event g i .0) (event g i .1)) 3
 unfolding byte
 byte-roads g i = ap (λ (a : ℕ). cond (asks (event g i)) a 3) (roads-answer (g .segments) (openBefore g i) (event g i .0) (event g i .1))
+
+-- 65,535 where an event opens or closes; else by the segments open before it, each with the name of its road: at an answer 1 the smallest name of a road
+-- whose loss parts the two, at the others 65,535
+pub name-roads : (g : Timeline) (i : ℕ) → nameAt g i ≡ cond (asks (event g i)) (roadName (segmentsOf g (openBefore g i)) (event g i .0) (event g i .1)) 65535
+unfolding nameAt
+name-roads g i = ap (λ (a : ℕ). cond (asks (event g i)) a 65535) (roads-name (g .segments) (openBefore g i) (event g i .0) (event g i .1))
 
 -- ---- a window's network, in terms of segments
 module _ (g : Timeline) (w : Window) where

@@ -138,19 +138,22 @@ apart-lose : (e : Edge) (E : List Edge) → Apart e E → lose e E ≡ E
 apart-lose e [] h = refl
 apart-lose e (f ∷ E) h = ap₂ (λ b l. cond (not b) (f ∷ l) l) (h f (List·Memᴰ·head refl)) (apart-lose e E (λ g m. h g (List·Memᴰ·tail m)))
 
+-- the loss of the first edge's road takes that edge alone, and the loss of another's road keeps it
+pub lose-own : (e : Edge) (E : List Edge) → Apart e E → lose e (e ∷ E) ≡ E
+lose-own e E a = ap (λ b. cond (not b) (e ∷ lose e E) (lose e E)) (ends-refl e) ∙ apart-lose e E a
+
+pub lose-other : (e f : Edge) (E : List Edge) → Apart e E → List·Memᴰ f E → lose f (e ∷ E) ≡ e ∷ lose f E
+lose-other e f E a m =
+    ap (λ b. cond (not b) (e ∷ lose f E) (lose f E)) (onBool (sameEnds f e) (λ t. contradict (ends-sym f e t) (a f m)) (λ t. t))
+
 pub different-removals : (E : List Edge) → DifferentRoads E → removals E ≡ map (λ e. lose e E) E
 unfolding removals
 different-removals [] h = refl
-different-removals (e ∷ E) (a, h) =
-    ap₂ _∷_ (sym (ap (λ b. cond (not b) (e ∷ lose e E) (lose e E)) (ends-refl e) ∙ apart-lose e E a))
-    (ap (map (λ l. e ∷ l)) (different-removals E h) ∙ others E (λ f m. m))
+different-removals (e ∷ E) (a, h) = ap₂ _∷_ (sym (lose-own e E a)) (ap (map (λ l. e ∷ l)) (different-removals E h) ∙ others E (λ f m. m))
   where
-    swap : (f : Edge) → List·Memᴰ f E → sameEnds f e ≡ false
-    swap f m = onBool (sameEnds f e) (λ t. contradict (ends-sym f e t) (a f m)) (λ t. t)
-
     others : (F : List Edge) → ((f : Edge) → List·Memᴰ f F → List·Memᴰ f E) → map (λ l. e ∷ l) (map (λ f. lose f E) F) ≡ map (λ f. lose f (e ∷ E)) F
     others [] k = refl
-    others (f ∷ F) k = ap₂ _∷_ (sym (ap (λ b. cond (not b) (e ∷ lose f E) (lose f E)) (swap f (k f (List·Memᴰ·head refl))))) (others F (λ g m. k g (List·Memᴰ·tail m)))
+    others (f ∷ F) k = ap₂ _∷_ (sym (lose-other e f E a (k f (List·Memᴰ·head refl)))) (others F (λ g m. k g (List·Memᴰ·tail m)))
 
 pub different-answer : (E : List Edge) → DifferentRoads E → (x y : ℕ) → roadAnswer E x y ≡ answer E x y
 unfolding answer twoEdge roadAnswer
@@ -181,7 +184,7 @@ module _ (E F : List Edge) (c : Covers E F) where
   pub covers-joined : (x y : ℕ) → joined E x y ≡ true → joined F x y ≡ true
   covers-joined x y h = joined-from F x y (λ (U, p, q, z). joined-to E x y h (U, p, q, covers-closed U z))
 
-  covers-lose : (e f : Edge) → sameEnds e f ≡ true → Covers (lose e E) (lose f F)
+  pub covers-lose : (e f : Edge) → sameEnds e f ≡ true → Covers (lose e E) (lose f F)
   covers-lose e f s a m =
       let (n, k) = filter-in (λ a. not (sameEnds e a)) a E m in
       let (b, o, q) = c a n in (
@@ -306,7 +309,7 @@ module _ (segs : List Edge) (o : SegmentSet) where
   pub roads-different : DifferentRoads (plain (pick (openRoads segs o) 0 segs))
   roads-different = names-different segs (openRoads segs o) (λ r h. open-name segs o r h .0)
 
-  roads-cover : Covers (plain (pick (openRoads segs o) 0 segs)) (plain (pick o 0 segs))
+  pub roads-cover : Covers (plain (pick (openRoads segs o) 0 segs)) (plain (pick o 0 segs))
   roads-cover a m =
       let (r, l, h, q) = edges-mem (openRoads segs o) 0 segs a m in
       let z : 0 + r ≡ r = omega arith in
@@ -317,7 +320,7 @@ module _ (segs : List Edge) (o : SegmentSet) where
         subst (λ (e : Edge). sameEnds e (getD segs s (0, 0)) ≡ true) (sym q) (road-ends segs r s (ap (road segs) e ∙ road-twice segs s)),
       )
 
-  cover-roads : Covers (plain (pick o 0 segs)) (plain (pick (openRoads segs o) 0 segs))
+  pub cover-roads : Covers (plain (pick o 0 segs)) (plain (pick (openRoads segs o) 0 segs))
   cover-roads a m =
       let (s, l, h, q) = edges-mem o 0 segs a m in
       let z : 0 + s ≡ s = omega arith in
