@@ -370,32 +370,34 @@ module _ {w : Window} {p : Part} {v : List ℕ} (st : StepReady w (p .at) (p .ev
 
     -- what is loaded is the window's graph with the added roads
     edges-are : SameEntries (edgesIn (l .nodes) (l .edges) (drop S z)) (areaEdges (w .events) (w .edges) u ++ imageNamed (a .σ) (added g (span w) (p .at, c)))
-    edges-are = record { weights = λ φ U.
-        let s1 = st .starts in
-        let s2 = st .ends in
-        let z0 : w .at + 0 ≡ w .at = omega arith in
-        let z1 : w .at + (B + c) ≡ p .at + c = omega arith in
-        let z2 : w .events - (B + c) ≡ w .at + w .events - (p .at + c) = omega arith in
-        let f = addsEvent g (span w) (p .at, c) in
-        let P = pickEvents f (entryAt g) (w .at) B in
-        let Q = pickEvents f (entryAt g) (p .at + c) (w .at + w .events - (p .at + c)) in
-        let E = areaEdges (w .events) (w .edges) u in
-        let b1 = beside 0 B (omega arith) ∙ ap (λ (k : ℕ). imageNamed (a .σ) (pickEvents f (entryAt g) k B)) z0 in
-        let b2 = beside (B + c) (w .events - (B + c)) (omega arith) ∙ ap₂ (λ (k n : ℕ). imageNamed (a .σ) (pickEvents f (entryAt g) k n)) z1 z2 in
-        let e = events-added g (span w) (p .at, c) part inside (sound-segment g sound) φ (λ k. U (a .σ k)) in
-        let m : weigh φ U (edgesIn (l .nodes) (l .edges) (drop S z)) ≡ weigh φ U (E ++ (imageNamed (a .σ) P ++ imageNamed (a .σ) Q)) =
-        ap (weigh φ U) (pl .edges ∙ ap₂ (λ (x y : Named). E ++ (x ++ y)) b1 b2) in
-        omega (
-          arith,
-          m,
-          weigh-append φ U E (imageNamed (a .σ) P ++ imageNamed (a .σ) Q),
-          weigh-append φ U (imageNamed (a .σ) P) (imageNamed (a .σ) Q),
-          weigh-image φ U (a .σ) P,
-          weigh-image φ U (a .σ) Q,
-          e,
-          weigh-append φ U E (imageNamed (a .σ) (added g (span w) (p .at, c))),
-          weigh-image φ U (a .σ) (added g (span w) (p .at, c)),
-        ) }
+    edges-are = record {
+      weights = λ φ U.
+          let s1 = st .starts in
+          let s2 = st .ends in
+          let z0 : w .at + 0 ≡ w .at = omega arith in
+          let z1 : w .at + (B + c) ≡ p .at + c = omega arith in
+          let z2 : w .events - (B + c) ≡ w .at + w .events - (p .at + c) = omega arith in
+          let f = addsEvent g (span w) (p .at, c) in
+          let P = pickEvents f (entryAt g) (w .at) B in
+          let Q = pickEvents f (entryAt g) (p .at + c) (w .at + w .events - (p .at + c)) in
+          let E = areaEdges (w .events) (w .edges) u in
+          let b1 = beside 0 B (omega arith) ∙ ap (λ (k : ℕ). imageNamed (a .σ) (pickEvents f (entryAt g) k B)) z0 in
+          let b2 = beside (B + c) (w .events - (B + c)) (omega arith) ∙ ap₂ (λ (k n : ℕ). imageNamed (a .σ) (pickEvents f (entryAt g) k n)) z1 z2 in
+          let e = events-added g (span w) (p .at, c) part inside (sound-segment g sound) φ (λ k. U (a .σ k)) in
+          let m : weigh φ U (edgesIn (l .nodes) (l .edges) (drop S z)) ≡ weigh φ U (E ++ (imageNamed (a .σ) P ++ imageNamed (a .σ) Q)) =
+          ap (weigh φ U) (pl .edges ∙ ap₂ (λ (x y : Named). E ++ (x ++ y)) b1 b2) in
+          omega (
+            arith,
+            m,
+            weigh-append φ U E (imageNamed (a .σ) P ++ imageNamed (a .σ) Q),
+            weigh-append φ U (imageNamed (a .σ) P) (imageNamed (a .σ) Q),
+            weigh-image φ U (a .σ) P,
+            weigh-image φ U (a .σ) Q,
+            e,
+            weigh-append φ U E (imageNamed (a .σ) (added g (span w) (p .at, c))),
+            weigh-image φ U (a .σ) (added g (span w) (p .at, c)),
+          );
+    }
 
     part-made : SmallArea g (windowOf p r) (take (17 * c) (drop (17 * w .events) y))
     part-made =

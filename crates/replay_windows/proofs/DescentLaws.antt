@@ -292,10 +292,12 @@ module _ (tag nodes edges : ℕ) where
 -- a byte 1 is that of a query of two nodes with an edge
 byte-one : (tag nodes edges : ℕ) → byteBy tag nodes edges ≡ 1 → (tag ≡ 0) × (0 < edges)
 byte-one tag nodes edges h = onBool (eqb tag 0)
-    (λ t. let z = eqb-true tag 0 t in
-    (z, onBool (eqb edges 0)
-    (λ e. absurd (two (eqb nodes 1) (sym (byte-asked tag nodes edges z ∙ ap (λ b. cond (eqb nodes 1) 2 (cond b 0 1)) e) ∙ h)))
-    (λ e. let k = eqb-false edges 0 e in omega arith)))
+    (λ t. let z = eqb-true tag 0 t in (
+      z,
+      onBool (eqb edges 0)
+          (λ e. absurd (two (eqb nodes 1) (sym (byte-asked tag nodes edges z ∙ ap (λ b. cond (eqb nodes 1) 2 (cond b 0 1)) e) ∙ h)))
+          (λ e. let k = eqb-false edges 0 e in omega arith),
+    ))
     (λ t. absurd (three (byte-3 tag nodes edges (eqb-false tag 0 t) ∙ h)))
   where
     two : (b : Bool) → ¬ (_≡_ {A = ℕ} (cond b 2 0) 1)

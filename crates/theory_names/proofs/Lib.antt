@@ -1,3 +1,4 @@
+pub mod Examples
 pub mod NamedCuts
 pub mod Hangs
 pub mod NamedSmallCuts

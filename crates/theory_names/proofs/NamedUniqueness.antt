@@ -57,13 +57,13 @@ module _ (G : Named) (S : List ℕ) (h : ℕ) (H : Named) (ρ σ : ℕ → ℕ) 
   named-renumbered = record {
     graph = r;
     edge = λ i j k l lj. (
-        λ m.
-            let (k′, m′) = in-plain H′ (r .edge i j l lj .0 (plain-in m)) in
-            subst (λ (x : ℕ). List·Memᴰ ((min (r .π i) (r .π j), max (r .π i) (r .π j)), x) H′) (n′ .name _ _ k′ m′ ∙ sym (same-name i j l lj) ∙ sym (n .name i j k m)) m′,
-        λ m.
-            let (k′, m′) = in-plain H (r .edge i j l lj .1 (plain-in m)) in
-            subst (λ (x : ℕ). List·Memᴰ ((i, j), x) H) (n .name i j k′ m′ ∙ same-name i j l lj ∙ sym (n′ .name _ _ k m)) m′,
-      );
+      λ m.
+          let (k′, m′) = in-plain H′ (r .edge i j l lj .0 (plain-in m)) in
+          subst (λ (x : ℕ). List·Memᴰ ((min (r .π i) (r .π j), max (r .π i) (r .π j)), x) H′) (n′ .name _ _ k′ m′ ∙ sym (same-name i j l lj) ∙ sym (n .name i j k m)) m′,
+      λ m.
+          let (k′, m′) = in-plain H (r .edge i j l lj .1 (plain-in m)) in
+          subst (λ (x : ℕ). List·Memᴰ ((i, j), x) H) (n .name i j k′ m′ ∙ same-name i j l lj ∙ sym (n′ .name _ _ k m)) m′,
+    );
   }
 
 -- ---- the names follow from the nodes' classes

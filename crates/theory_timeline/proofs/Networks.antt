@@ -48,9 +48,11 @@ module _ (segs : List Edge) (pre mid post : List Event) (o : SegmentSet) where
 
   pub networkOf-part : SameEntries (networkOf segs whole o ++ addedOf) (networkOf segs mid (afterAll pre o))
   unfolding networkOf addedOf
-  networkOf-part = record { weights = λ φ U.
-      weigh-append φ U (networkOf segs whole o) addedOf
-      ∙ sym (pick-sum φ U (λ r. before r && not (naming mid r)) (λ r. openRoads segs o r && not (naming whole r)) (λ r. before r && (naming whole r && not (naming mid r))) one 0 segs) }
+  networkOf-part = record {
+    weights = λ φ U.
+        weigh-append φ U (networkOf segs whole o) addedOf
+        ∙ sym (pick-sum φ U (λ r. before r && not (naming mid r)) (λ r. openRoads segs o r && not (naming whole r)) (λ r. before r && (naming whole r && not (naming mid r))) one 0 segs);
+  }
     where
       one : (r : ℕ) → (((openRoads segs o r && not (naming whole r)) ≡ (before r && not (naming mid r))) × ((before r && (naming whole r && not (naming mid r))) ≡ false))
           ⊎ (((openRoads segs o r && not (naming whole r)) ≡ false) × ((before r && (naming whole r && not (naming mid r))) ≡ (before r && not (naming mid r))))
