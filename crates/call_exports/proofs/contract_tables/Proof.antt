@@ -5,10 +5,14 @@ use Rattle.call_exports.proofs.contract_tables.Statement.{statement}
 use Rattle.call_exports.proofs.contract_tables.Tie as tie
 
 returns : tie.Need-returns
-returns c = contract-done _ _ _ _ _ _ (c .before .before .before .before .before .before .before .before .before .before .before .before .before .contract .ensures) (c .before .reply .given .1)
+returns c =
+    contract-done _ _ _ _ _ _ _ (c .before .before .before .before .before .before .before .before .before .before .before .before .before .before .before .contract .ensures)
+    (c .before .reply .given .1)
 
 returns-2 : tie.Need-returns-2
-returns-2 c = contract-refused _ _ _ _ _ _ (c .before .before .before .before .before .before .before .before .before .before .before .before .before .contract .ensures) (c .before .reply2 .given .1)
+returns-2 c =
+    contract-refused _ _ _ _ _ _ _ (c .before .before .before .before .before .before .before .before .before .before .before .before .before .before .before .contract .ensures)
+    (c .before .reply2 .given .1)
 
 pub contract-tables-spec : {M : Type 1} → statement M
 contract-tables-spec =
@@ -21,7 +25,9 @@ contract-tables-spec =
     (λ c. search needs)
     (λ c. search needs)
     (λ c. search needs)
+    (λ c. search needs)
     returns
+    (λ c. search needs)
     (λ c. search needs)
     (λ c. search needs)
     (λ c. search needs)

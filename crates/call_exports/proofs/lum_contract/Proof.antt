@@ -63,7 +63,7 @@ use Rattle.call_exports.proofs.lum_contract.Code as code
 
 -- ---- what is had of the struct at exit: of each table that may be written what says its last list, of every other field nothing
 abbrev slots : List (Slot 1)
-slots = number ∷ number ∷ number ∷ read16 ∷ read16 ∷ read16 ∷ written16 ∷ written16 ∷ written16 ∷ written16 ∷ written32 ∷ []
+slots = number ∷ number ∷ number ∷ read16 ∷ read16 ∷ read16 ∷ read16 ∷ written16 ∷ written16 ∷ written16 ∷ written16 ∷ written16 ∷ written32 ∷ []
 
 abbrev struct-name : Sym
 struct-name = T.struct (namedLft 1 0 tt ([], tt)) .name
@@ -75,7 +75,13 @@ abbrev place : Slot 1
 place = plain row
 
 abbrev fields : Fields slots yes
-fields = (nothing-of number, (nothing-of number, (nothing-of number, (nothing-of read16, (nothing-of read16, (nothing-of read16, (last16, (last16, (last16, (last16, (last32, tt)))))))))))
+fields = (
+  nothing-of number,
+  (
+    nothing-of number,
+    (nothing-of number, (nothing-of read16, (nothing-of read16, (nothing-of read16, (nothing-of read16, (last16, (last16, (last16, (last16, (last16, (last32, tt))))))))))),
+  ),
+)
 
 abbrev as-struct : Stay (structAt struct-name (named 0 ∷ []) slots) yes
 as-struct = stay-struct-at struct-name (named 0 ∷ []) slots yes fields
@@ -98,7 +104,7 @@ module _ {M : Type 1} (𝓤 : URA M) (H : Heap 𝓤) (A : Atoms 𝓤) (W : Given
       goes-declared 𝓤 H A W 1 (structAt struct-name (named 0 ∷ []) slots) yes as-struct LumContractLent
       (λ κs. T.the-type (namedLft 1 0 tt κs) .to) (λ κs. T.the-type (namedLft 1 0 tt κs) .to-one)
       (goes-struct-at 𝓤 H A W 1 struct-name (named 0 ∷ []) slots yes fields
-      (number, (number, (number, (read, (read, (read, (written, (written, (written, (written, (words, tt))))))))))))
+      (number, (number, (number, (read, (read, (read, (read, (written, (written, (written, (written, (written, (words, tt))))))))))))))
 
 -- the contract that the proof cites
 abbrev Callee : {M : Type 1} (𝓤 : URA M) (H : Heap 𝓤) (A : Atoms 𝓤) (mem : Memory → SProp 𝓤) (run : Routine → Fun 𝓤) → Contract 𝓤
@@ -120,19 +126,31 @@ module _ {M : Type 1} (𝓤 : URA M) (H : Heap 𝓤) (A : Atoms 𝓤) (W : Given
   mach = T′.lowered d
 
   abbrev values : Values (D .parts)
-  values = (d .n, (d .m, (d .k, (d .from, (d .to, (d .active, (d .map, (d .«out_from», (d .«out_to», (d .pieces, (d .work, tt)))))))))))
+  values = (d .n, (d .m, (d .k, (d .from, (d .to, (d .names, (d .active, (d .map, (d .«out_from», (d .«out_to», (d .«out_names», (d .pieces, (d .work, tt)))))))))))))
 
   abbrev rows : List RattleType
   rows =
       usize ∷ usize ∷ usize ∷
-      ShrSlice (named 0) κ u16 ∷ ShrSlice (named 0) κ u16 ∷ ShrSlice (named 0) κ u16 ∷
-      MutSlice (named 0) κ u16 ∷ MutSlice (named 0) κ u16 ∷ MutSlice (named 0) κ u16 ∷ MutSlice (named 0) κ u16 ∷
+      ShrSlice (named 0) κ u16 ∷ ShrSlice (named 0) κ u16 ∷ ShrSlice (named 0) κ u16 ∷ ShrSlice (named 0) κ u16 ∷
+      MutSlice (named 0) κ u16 ∷ MutSlice (named 0) κ u16 ∷ MutSlice (named 0) κ u16 ∷ MutSlice (named 0) κ u16 ∷ MutSlice (named 0) κ u16 ∷
       MutSlice (named 0) κ u32 ∷ []
 
   abbrev passed : Vals callee.signature κs
   passed = (
     word (d .n),
-    (word (d .m), (word (d .k), (slice (d .from), (slice (d .to), (slice (d .active), (slice (d .map), (slice (d .«out_from»), (slice (d .«out_to»), (slice (d .pieces), (slice (d .work), tt)))))))))),
+    (
+      word (d .m),
+      (
+        word (d .k),
+        (
+          slice (d .from),
+          (
+            slice (d .to),
+            (slice (d .names), (slice (d .active), (slice (d .map), (slice (d .«out_from»), (slice (d .«out_to»), (slice (d .«out_names»), (slice (d .pieces), (slice (d .work), tt)))))))),
+          ),
+        ),
+      ),
+    ),
   )
 
   abbrev Post : Val → SProp 𝓤
@@ -155,44 +173,48 @@ module _ {M : Type 1} (𝓤 : URA M) (H : Heap 𝓤) (A : Atoms 𝓤) (W : Given
 
   -- ---- what the callee leaves: a last list for each table that may be written
   abbrev Lasts : Type 0
-  Lasts = Unit {0} × (Unit {0} × (Unit {0} × (Unit {0} × (Unit {0} × (Unit {0} × (List ℕ × (List ℕ × (List ℕ × (List ℕ × (List ℕ × Unit {0}))))))))))
+  Lasts = Unit {0} × (Unit {0} × (Unit {0} × (Unit {0} × (Unit {0} × (Unit {0} × (Unit {0} × (List ℕ × (List ℕ × (List ℕ × (List ℕ × (List ℕ × (List ℕ × Unit {0}))))))))))))
 
   abbrev Says : LumContractReply → Lasts → Type 0
   Says r zs =
-      contractedOf r (zs .1 .1 .1 .1 .1 .1 .0) (zs .1 .1 .1 .1 .1 .1 .1 .0) (zs .1 .1 .1 .1 .1 .1 .1 .1 .0) (zs .1 .1 .1 .1 .1 .1 .1 .1 .1 .0) (zs .1 .1 .1 .1 .1 .1 .1 .1 .1 .1 .0)
+      contractedOf r (zs .1 .1 .1 .1 .1 .1 .1 .0) (zs .1 .1 .1 .1 .1 .1 .1 .1 .0) (zs .1 .1 .1 .1 .1 .1 .1 .1 .1 .0)
+      (zs .1 .1 .1 .1 .1 .1 .1 .1 .1 .1 .0) (zs .1 .1 .1 .1 .1 .1 .1 .1 .1 .1 .1 .0) (zs .1 .1 .1 .1 .1 .1 .1 .1 .1 .1 .1 .1 .0)
       ≡ contraction (contractLent d)
 
   abbrev had : Lasts → Vals callee.signature κs → Fml
   had zs vss =
-      fsep ftrue (fsep ftrue (fsep ftrue (fsep ftrue (fsep ftrue (fsep ftrue (
-      fsep (finally u16 (name (d .map)) (zs .1 .1 .1 .1 .1 .1 .0)) (
-      fsep (finally u16 (name (d .«out_from»)) (zs .1 .1 .1 .1 .1 .1 .1 .0)) (
-      fsep (finally u16 (name (d .«out_to»)) (zs .1 .1 .1 .1 .1 .1 .1 .1 .0)) (
-      fsep (finally u16 (name (d .pieces)) (zs .1 .1 .1 .1 .1 .1 .1 .1 .1 .0)) (
-      fsep (finally u32 (name (d .work)) (zs .1 .1 .1 .1 .1 .1 .1 .1 .1 .1 .0)) ftrue))))))))))
+      fsep ftrue (fsep ftrue (fsep ftrue (fsep ftrue (fsep ftrue (fsep ftrue (fsep ftrue (
+      fsep (finally u16 (name (d .map)) (zs .1 .1 .1 .1 .1 .1 .1 .0)) (
+      fsep (finally u16 (name (d .«out_from»)) (zs .1 .1 .1 .1 .1 .1 .1 .1 .0)) (
+      fsep (finally u16 (name (d .«out_to»)) (zs .1 .1 .1 .1 .1 .1 .1 .1 .1 .0)) (
+      fsep (finally u16 (name (d .«out_names»)) (zs .1 .1 .1 .1 .1 .1 .1 .1 .1 .1 .0)) (
+      fsep (finally u16 (name (d .pieces)) (zs .1 .1 .1 .1 .1 .1 .1 .1 .1 .1 .1 .0)) (
+      fsep (finally u32 (name (d .work)) (zs .1 .1 .1 .1 .1 .1 .1 .1 .1 .1 .1 .1 .0)) ftrue))))))))))))
 
   exits : (r : LumContractReply) (u : Val) (zs : Lasts) → Says r zs
       → ent 𝓤 (⋆ 𝓤 H A (‵ (lasts callee.ended κs values zs) ∷ (‵ (flft κ q) ⊛ ‵ ftrue) ∷ ‵ (R.the-row .own r (u ∷ [])) ∷ [])) (Post u)
   exits r u zs e =
       qed W (‵ (lasts callee.ended κs values zs) ∷ (‵ (flft κ q) ⊛ ‵ ftrue) ∷ ‵ (R.the-row .own r (u ∷ [])) ∷ []) ∵
       -- nothing is said of the fields that are only read; of each other that its length stays, and its last list
-      fsplit ! $ drop ! $ fsplit ! $ drop ! $ fsplit ! $ drop ! $ fsplit ! $ drop ! $ fsplit ! $ drop ! $ fsplit ! $ drop ! $
+      fsplit ! $ drop ! $ fsplit ! $ drop ! $ fsplit ! $ drop ! $ fsplit ! $ drop ! $ fsplit ! $ drop ! $ fsplit ! $ drop ! $ fsplit ! $ drop ! $
       fsplit ! $ fsplit ! $ move ! (1 ∷ []) $ feqL ! (λ l₁. move ! (1 ∷ []) $
       fsplit ! $ fsplit ! $ move ! (1 ∷ []) $ feqL ! (λ l₂. move ! (1 ∷ []) $
       fsplit ! $ fsplit ! $ move ! (1 ∷ []) $ feqL ! (λ l₃. move ! (1 ∷ []) $
       fsplit ! $ fsplit ! $ move ! (1 ∷ []) $ feqL ! (λ l₄. move ! (1 ∷ []) $
       fsplit ! $ fsplit ! $ move ! (1 ∷ []) $ feqL ! (λ l₅. move ! (1 ∷ []) $
+      fsplit ! $ fsplit ! $ move ! (1 ∷ []) $ feqL ! (λ l₆. move ! (1 ∷ []) $
       drop ! $
       -- [the last lists, the last table's first; the token; the result]
       suffices ! _ (ends-at 𝓤 H A caller.ended stayed (caller.clauses 𝓤 H A mem run) W ((κs, (q, tt), tt, (d, tt), (mach ∷ [], tt)), tt) u r (zs, tt)
-      ((tt, (tt, (tt, (tt, (tt, (tt, (l₁, (l₂, (l₃, (l₄, (l₅, tt))))))))))), tt)) $
-      says ! e $ move ! (5 ∷ []) $ frame ! $ nothing ! $
+      ((tt, (tt, (tt, (tt, (tt, (tt, (tt, (l₁, (l₂, (l₃, (l₄, (l₅, (l₆, tt))))))))))))), tt)) $
+      says ! e $ move ! (6 ∷ []) $ frame ! $ nothing ! $
       move ! (1 ∷ 0 ∷ []) $ fjoin ! $ move ! (1 ∷ 0 ∷ []) $ fjoin ! $ move ! (1 ∷ 0 ∷ []) $ fjoin ! $ move ! (1 ∷ 0 ∷ []) $ fjoin ! $ move ! (1 ∷ 0 ∷ []) $ fjoin ! $
-      nothing ! $ fjoin ! $ nothing ! $ fjoin ! $ nothing ! $ fjoin ! $ nothing ! $ fjoin ! $ nothing ! $ fjoin ! $ nothing ! $ fjoin ! $
+      move ! (1 ∷ 0 ∷ []) $ fjoin ! $
+      nothing ! $ fjoin ! $ nothing ! $ fjoin ! $ nothing ! $ fjoin ! $ nothing ! $ fjoin ! $ nothing ! $ fjoin ! $ nothing ! $ fjoin ! $ nothing ! $ fjoin ! $
       use1 W (‵ (inStruct rows (mach ∷ []) (had zs))) (makes 𝓤 H A W rows (had zs) passed) $
-      nothing ! $ move ! (1 ∷ 0 ∷ []) $ fjoin ! $ done !)))))
+      nothing ! $ move ! (1 ∷ 0 ∷ []) $ fjoin ! $ done !))))))
 
-  -- ---- the walk. Local i of the 18 stands at 2 (17 - i) in the context: the struct, _1, at 32.
+  -- ---- the walk. Local i of the 21 stands at 2 (20 - i) in the context: the struct, _1, at 38.
   module _ (C : Calls 𝓤 H) (Λ : Loops 𝓤 H) (fm : FmC 𝓤 H (W .laws) C) (known : Triple 𝓤 (C #callee) (Callee 𝓤 H A mem run)) where
     walk : Holds (hasTy (T′.mir (named 0)) mach) × WT mach
         → ent 𝓤 (onEntry 𝓤 H A caller.signature κs (q, tt) (d, tt) (mach ∷ [], tt)) (WpFn 𝓤 H C Λ code.function (mach ∷ []) Post)
@@ -200,49 +222,56 @@ module _ {M : Type 1} (𝓤 : URA M) (H : Heap 𝓤) (A : Atoms 𝓤) (W : Given
         qed W (raw (onEntry 𝓤 H A caller.signature κs (q, tt) (d, tt) (mach ∷ [], tt)) ∷ []) ∵ enter ! C Λ code.function (mach ∷ []) _ $
         alloc1 ! (λ l₀. alloc1 ! (λ l₁. alloc1 ! (λ l₂. alloc1 ! (λ l₃. alloc1 ! (λ l₄. alloc1 ! (λ l₅. alloc1 ! (λ l₆. alloc1 ! (λ l₇.
         alloc1 ! (λ l₈. alloc1 ! (λ l₉. alloc1 ! (λ l₁₀. alloc1 ! (λ l₁₁. alloc1 ! (λ l₁₂. alloc1 ! (λ l₁₃. alloc1 ! (λ l₁₄. alloc1 ! (λ l₁₅.
-        alloc1 ! (λ l₁₆. alloc1 ! (λ l₁₇.
-        alloc0 ! $ params1 ! $ pass1 ! (init ! 32 refl wt) $ pass0 ! $
+        alloc1 ! (λ l₁₆. alloc1 ! (λ l₁₇. alloc1 ! (λ l₁₈. alloc1 ! (λ l₁₉. alloc1 ! (λ l₂₀.
+        alloc0 ! $ params1 ! $ pass1 ! (init ! 38 refl wt) $ pass0 ! $
         -- each field into a local of its own; a table that may be written by its pointer, and then with its length
-        assigns ! (of-opd ! (load ! (from ! (fld ! refl (stop !))) (look-in ! 32 (sub ! 0 refl (whole !))))) (from ! (stop !)) (init ! 30 refl (tt, wt .1 .0)) $
-        assigns ! (of-opd ! (load ! (from ! (fld ! refl (stop !))) (look-in ! 32 (sub ! 1 refl (whole !))))) (from ! (stop !)) (init ! 28 refl (tt, wt .1 .1 .0)) $
-        assigns ! (of-opd ! (load ! (from ! (fld ! refl (stop !))) (look-in ! 32 (sub ! 2 refl (whole !))))) (from ! (stop !)) (init ! 26 refl (tt, wt .1 .1 .1 .0)) $
-        assigns ! (of-opd ! (load ! (from ! (fld ! refl (stop !))) (look-in ! 32 (sub ! 3 refl (whole !))))) (from ! (stop !)) (init ! 24 refl (tt, wt .1 .1 .1 .1 .0)) $
-        assigns ! (of-opd ! (load ! (from ! (fld ! refl (stop !))) (look-in ! 32 (sub ! 4 refl (whole !))))) (from ! (stop !)) (init ! 22 refl (tt, wt .1 .1 .1 .1 .1 .0)) $
-        assigns ! (of-opd ! (load ! (from ! (fld ! refl (stop !))) (look-in ! 32 (sub ! 5 refl (whole !))))) (from ! (stop !)) (init ! 20 refl (tt, wt .1 .1 .1 .1 .1 .1 .0)) $
-        assigns ! (addr ! (from ! (fld ! refl (fld ! refl (hop ! (look-in ! 32 (sub ! 0 refl (sub ! 6 refl (whole !)))) (stop !)))))) (from ! (stop !)) (init ! 18 refl (tt, tt)) $
+        assigns ! (of-opd ! (load ! (from ! (fld ! refl (stop !))) (look-in ! 38 (sub ! 0 refl (whole !))))) (from ! (stop !)) (init ! 36 refl (tt, wt .1 .0)) $
+        assigns ! (of-opd ! (load ! (from ! (fld ! refl (stop !))) (look-in ! 38 (sub ! 1 refl (whole !))))) (from ! (stop !)) (init ! 34 refl (tt, wt .1 .1 .0)) $
+        assigns ! (of-opd ! (load ! (from ! (fld ! refl (stop !))) (look-in ! 38 (sub ! 2 refl (whole !))))) (from ! (stop !)) (init ! 32 refl (tt, wt .1 .1 .1 .0)) $
+        assigns ! (of-opd ! (load ! (from ! (fld ! refl (stop !))) (look-in ! 38 (sub ! 3 refl (whole !))))) (from ! (stop !)) (init ! 30 refl (tt, wt .1 .1 .1 .1 .0)) $
+        assigns ! (of-opd ! (load ! (from ! (fld ! refl (stop !))) (look-in ! 38 (sub ! 4 refl (whole !))))) (from ! (stop !)) (init ! 28 refl (tt, wt .1 .1 .1 .1 .1 .0)) $
+        assigns ! (of-opd ! (load ! (from ! (fld ! refl (stop !))) (look-in ! 38 (sub ! 5 refl (whole !))))) (from ! (stop !)) (init ! 26 refl (tt, wt .1 .1 .1 .1 .1 .1 .0)) $
+        assigns ! (of-opd ! (load ! (from ! (fld ! refl (stop !))) (look-in ! 38 (sub ! 6 refl (whole !))))) (from ! (stop !)) (init ! 24 refl (tt, wt .1 .1 .1 .1 .1 .1 .1 .0)) $
+        assigns ! (addr ! (from ! (fld ! refl (fld ! refl (hop ! (look-in ! 38 (sub ! 0 refl (sub ! 7 refl (whole !)))) (stop !)))))) (from ! (stop !)) (init ! 22 refl (tt, tt)) $
+        assigns ! (agg ! (and-then ! (load ! (from ! (stop !)) (look ! 22 refl))
+        (and-then ! (load ! (from ! (fld ! refl (fld ! refl (stop !)))) (look-in ! 38 (sub ! 1 refl (sub ! 7 refl (whole !))))) (no-more !)))) (from ! (stop !))
+        (init ! 20 refl (tt, wt .1 .1 .1 .1 .1 .1 .1 .1 .0)) $
+        assigns ! (addr ! (from ! (fld ! refl (fld ! refl (hop ! (look-in ! 38 (sub ! 0 refl (sub ! 8 refl (whole !)))) (stop !)))))) (from ! (stop !)) (init ! 18 refl (tt, tt)) $
         assigns ! (agg ! (and-then ! (load ! (from ! (stop !)) (look ! 18 refl))
-        (and-then ! (load ! (from ! (fld ! refl (fld ! refl (stop !)))) (look-in ! 32 (sub ! 1 refl (sub ! 6 refl (whole !))))) (no-more !)))) (from ! (stop !))
-        (init ! 16 refl (tt, wt .1 .1 .1 .1 .1 .1 .1 .0)) $
-        assigns ! (addr ! (from ! (fld ! refl (fld ! refl (hop ! (look-in ! 32 (sub ! 0 refl (sub ! 7 refl (whole !)))) (stop !)))))) (from ! (stop !)) (init ! 14 refl (tt, tt)) $
+        (and-then ! (load ! (from ! (fld ! refl (fld ! refl (stop !)))) (look-in ! 38 (sub ! 1 refl (sub ! 8 refl (whole !))))) (no-more !)))) (from ! (stop !))
+        (init ! 16 refl (tt, wt .1 .1 .1 .1 .1 .1 .1 .1 .1 .0)) $
+        assigns ! (addr ! (from ! (fld ! refl (fld ! refl (hop ! (look-in ! 38 (sub ! 0 refl (sub ! 9 refl (whole !)))) (stop !)))))) (from ! (stop !)) (init ! 14 refl (tt, tt)) $
         assigns ! (agg ! (and-then ! (load ! (from ! (stop !)) (look ! 14 refl))
-        (and-then ! (load ! (from ! (fld ! refl (fld ! refl (stop !)))) (look-in ! 32 (sub ! 1 refl (sub ! 7 refl (whole !))))) (no-more !)))) (from ! (stop !))
-        (init ! 12 refl (tt, wt .1 .1 .1 .1 .1 .1 .1 .1 .0)) $
-        assigns ! (addr ! (from ! (fld ! refl (fld ! refl (hop ! (look-in ! 32 (sub ! 0 refl (sub ! 8 refl (whole !)))) (stop !)))))) (from ! (stop !)) (init ! 10 refl (tt, tt)) $
+        (and-then ! (load ! (from ! (fld ! refl (fld ! refl (stop !)))) (look-in ! 38 (sub ! 1 refl (sub ! 9 refl (whole !))))) (no-more !)))) (from ! (stop !))
+        (init ! 12 refl (tt, wt .1 .1 .1 .1 .1 .1 .1 .1 .1 .1 .0)) $
+        assigns ! (addr ! (from ! (fld ! refl (fld ! refl (hop ! (look-in ! 38 (sub ! 0 refl (sub ! 10 refl (whole !)))) (stop !)))))) (from ! (stop !)) (init ! 10 refl (tt, tt)) $
         assigns ! (agg ! (and-then ! (load ! (from ! (stop !)) (look ! 10 refl))
-        (and-then ! (load ! (from ! (fld ! refl (fld ! refl (stop !)))) (look-in ! 32 (sub ! 1 refl (sub ! 8 refl (whole !))))) (no-more !)))) (from ! (stop !))
-        (init ! 8 refl (tt, wt .1 .1 .1 .1 .1 .1 .1 .1 .1 .0)) $
-        assigns ! (addr ! (from ! (fld ! refl (fld ! refl (hop ! (look-in ! 32 (sub ! 0 refl (sub ! 9 refl (whole !)))) (stop !)))))) (from ! (stop !)) (init ! 6 refl (tt, tt)) $
+        (and-then ! (load ! (from ! (fld ! refl (fld ! refl (stop !)))) (look-in ! 38 (sub ! 1 refl (sub ! 10 refl (whole !))))) (no-more !)))) (from ! (stop !))
+        (init ! 8 refl (tt, wt .1 .1 .1 .1 .1 .1 .1 .1 .1 .1 .1 .0)) $
+        assigns ! (addr ! (from ! (fld ! refl (fld ! refl (hop ! (look-in ! 38 (sub ! 0 refl (sub ! 11 refl (whole !)))) (stop !)))))) (from ! (stop !)) (init ! 6 refl (tt, tt)) $
         assigns ! (agg ! (and-then ! (load ! (from ! (stop !)) (look ! 6 refl))
-        (and-then ! (load ! (from ! (fld ! refl (fld ! refl (stop !)))) (look-in ! 32 (sub ! 1 refl (sub ! 9 refl (whole !))))) (no-more !)))) (from ! (stop !))
-        (init ! 4 refl (tt, wt .1 .1 .1 .1 .1 .1 .1 .1 .1 .1 .0)) $
-        assigns ! (addr ! (from ! (fld ! refl (fld ! refl (hop ! (look-in ! 32 (sub ! 0 refl (sub ! 10 refl (whole !)))) (stop !)))))) (from ! (stop !)) (init ! 2 refl (tt, tt)) $
+        (and-then ! (load ! (from ! (fld ! refl (fld ! refl (stop !)))) (look-in ! 38 (sub ! 1 refl (sub ! 11 refl (whole !))))) (no-more !)))) (from ! (stop !))
+        (init ! 4 refl (tt, wt .1 .1 .1 .1 .1 .1 .1 .1 .1 .1 .1 .1 .0)) $
+        assigns ! (addr ! (from ! (fld ! refl (fld ! refl (hop ! (look-in ! 38 (sub ! 0 refl (sub ! 12 refl (whole !)))) (stop !)))))) (from ! (stop !)) (init ! 2 refl (tt, tt)) $
         assigns ! (agg ! (and-then ! (load ! (from ! (stop !)) (look ! 2 refl))
-        (and-then ! (load ! (from ! (fld ! refl (fld ! refl (stop !)))) (look-in ! 32 (sub ! 1 refl (sub ! 10 refl (whole !))))) (no-more !)))) (from ! (stop !))
-        (init ! 0 refl (tt, wt .1 .1 .1 .1 .1 .1 .1 .1 .1 .1 .1 .0)) $
-        move ! (36 ∷ []) $ use1 W (raw (Callee 𝓤 H A mem run .pre to)) apart $
+        (and-then ! (load ! (from ! (fld ! refl (fld ! refl (stop !)))) (look-in ! 38 (sub ! 1 refl (sub ! 12 refl (whole !))))) (no-more !)))) (from ! (stop !))
+        (init ! 0 refl (tt, wt .1 .1 .1 .1 .1 .1 .1 .1 .1 .1 .1 .1 .1 .0)) $
+        move ! (42 ∷ []) $ use1 W (raw (Callee 𝓤 H A mem run .pre to)) apart $
         calls-at ! fm (Callee 𝓤 H A mem run) known to
+        (and-then ! (load ! (from ! (stop !)) (look ! 37 refl))
+        (and-then ! (load ! (from ! (stop !)) (look ! 35 refl))
+        (and-then ! (load ! (from ! (stop !)) (look ! 33 refl))
         (and-then ! (load ! (from ! (stop !)) (look ! 31 refl))
         (and-then ! (load ! (from ! (stop !)) (look ! 29 refl))
         (and-then ! (load ! (from ! (stop !)) (look ! 27 refl))
         (and-then ! (load ! (from ! (stop !)) (look ! 25 refl))
-        (and-then ! (load ! (from ! (stop !)) (look ! 23 refl))
         (and-then ! (load ! (from ! (stop !)) (look ! 21 refl))
         (and-then ! (load ! (from ! (stop !)) (look ! 17 refl))
         (and-then ! (load ! (from ! (stop !)) (look ! 13 refl))
         (and-then ! (load ! (from ! (stop !)) (look ! 9 refl))
         (and-then ! (load ! (from ! (stop !)) (look ! 5 refl))
         (and-then ! (load ! (from ! (stop !)) (look ! 1 refl))
-        (no-more !)))))))))))) (λ u.
+        (no-more !)))))))))))))) (λ u.
         use1 W (later (some (λ (r : LumContractReply). ((‵ (flft κ q) ⊛ ‵ ftrue) ⊛ ‵ (R.the-row .own r (u ∷ [])))
         ⊛ raw (ensured 𝓤 H A callee.ended (callee.clauses 𝓤 H A mem run) κs values tt r))))
         (id⊢ 𝓤 _) $ await ! tt $ pick ! (λ r.
@@ -250,16 +279,17 @@ module _ {M : Type 1} (𝓤 : URA M) (H : Heap 𝓤) (A : Atoms 𝓤) (W : Given
         split ! $ move ! (1 ∷ []) $ heard ! (Says r zs) (λ e. move ! (1 ∷ []) $ split ! $ move ! (1 ∷ []) $
         -- [the result; the token; the last lists; the last local; …; room for _0; …]
         peeks ! R.the-row (Is R.the-row) (shows 𝓤 H A R.the-row) r (u ∷ []) (λ is.
-        land ! (from ! (stop !)) (init ! 37 refl (LL.lawful R.the-type R′.the-laws 𝓤 H A W .typed r _ is .0)) $ returns ! (look ! 37 refl) $
+        land ! (from ! (stop !)) (init ! 43 refl (LL.lawful R.the-type R′.the-laws 𝓤 H A W .typed r _ is .0)) $ returns ! (look ! 43 refl) $
         forget ! 3 refl $ forget ! 5 refl $ forget ! 7 refl $ forget ! 9 refl $ forget ! 11 refl $ forget ! 13 refl $ forget ! 15 refl $ forget ! 17 refl $
         forget ! 19 refl $ forget ! 21 refl $ forget ! 23 refl $ forget ! 25 refl $ forget ! 27 refl $ forget ! 29 refl $ forget ! 31 refl $ forget ! 33 refl $
-        forget ! 35 refl $ forget ! 37 refl $
-        move ! (37 ∷ 38 ∷ []) $ free1 ! $ move ! (35 ∷ 36 ∷ []) $ free1 ! $ move ! (33 ∷ 34 ∷ []) $ free1 ! $ move ! (31 ∷ 32 ∷ []) $ free1 ! $
-        move ! (29 ∷ 30 ∷ []) $ free1 ! $ move ! (27 ∷ 28 ∷ []) $ free1 ! $ move ! (25 ∷ 26 ∷ []) $ free1 ! $ move ! (23 ∷ 24 ∷ []) $ free1 ! $
-        move ! (21 ∷ 22 ∷ []) $ free1 ! $ move ! (19 ∷ 20 ∷ []) $ free1 ! $ move ! (17 ∷ 18 ∷ []) $ free1 ! $ move ! (15 ∷ 16 ∷ []) $ free1 ! $
-        move ! (13 ∷ 14 ∷ []) $ free1 ! $ move ! (11 ∷ 12 ∷ []) $ free1 ! $ move ! (9 ∷ 10 ∷ []) $ free1 ! $ move ! (7 ∷ 8 ∷ []) $ free1 ! $
-        move ! (5 ∷ 6 ∷ []) $ free1 ! $ move ! (3 ∷ 4 ∷ []) $ free1 ! $
-        free0 ! $ keep ! (2 ∷ 1 ∷ 0 ∷ []) $ by ! (exits r u zs e))))))))))))))))))))))))
+        forget ! 35 refl $ forget ! 37 refl $ forget ! 39 refl $ forget ! 41 refl $ forget ! 43 refl $
+        move ! (43 ∷ 44 ∷ []) $ free1 ! $ move ! (41 ∷ 42 ∷ []) $ free1 ! $ move ! (39 ∷ 40 ∷ []) $ free1 ! $ move ! (37 ∷ 38 ∷ []) $ free1 ! $
+        move ! (35 ∷ 36 ∷ []) $ free1 ! $ move ! (33 ∷ 34 ∷ []) $ free1 ! $ move ! (31 ∷ 32 ∷ []) $ free1 ! $ move ! (29 ∷ 30 ∷ []) $ free1 ! $
+        move ! (27 ∷ 28 ∷ []) $ free1 ! $ move ! (25 ∷ 26 ∷ []) $ free1 ! $ move ! (23 ∷ 24 ∷ []) $ free1 ! $ move ! (21 ∷ 22 ∷ []) $ free1 ! $
+        move ! (19 ∷ 20 ∷ []) $ free1 ! $ move ! (17 ∷ 18 ∷ []) $ free1 ! $ move ! (15 ∷ 16 ∷ []) $ free1 ! $ move ! (13 ∷ 14 ∷ []) $ free1 ! $
+        move ! (11 ∷ 12 ∷ []) $ free1 ! $ move ! (9 ∷ 10 ∷ []) $ free1 ! $ move ! (7 ∷ 8 ∷ []) $ free1 ! $ move ! (5 ∷ 6 ∷ []) $ free1 ! $
+        move ! (3 ∷ 4 ∷ []) $ free1 ! $
+        free0 ! $ keep ! (2 ∷ 1 ∷ 0 ∷ []) $ by ! (exits r u zs e)))))))))))))))))))))))))))
 
 module _ {M : Type 1} (𝓤 : URA M) (H : Heap 𝓤) (A : Atoms 𝓤) (W : Given 𝓤 H A) (mem : Memory → SProp 𝓤) (run : Routine → Fun 𝓤) where
   walks : (C : Calls 𝓤 H) (Λ : Loops 𝓤 H) → FmC 𝓤 H (W .laws) C → Triple 𝓤 (C #callee) (Callee 𝓤 H A mem run)

@@ -47,7 +47,7 @@ use Rattle.theory_timeline.specs.Replay.{replay}
 use Rattle.call_exports.specs.Exports.{replayLent, replayedOf}
 use Rattle.call_exports.specs.declared.LumReplayLent.{LumReplayLent}
 use Rattle.call_exports.specs.declared.LumReplayReply.{LumReplayReply}
-use Rattle.call_exports.proofs.LentFields.{last32, last32-goes, last8, last8-goes, nothing-of, number, number-goes, read16, read16-goes, slice, word, written32, written8}
+use Rattle.call_exports.proofs.LentFields.{last16, last16-goes, last32, last32-goes, last8, last8-goes, nothing-of, number, number-goes, read16, read16-goes, slice, word, written16, written32, written8}
 use Rattle.call_exports.proofs.LumReplayLent as T
 use Rattle.call_exports.proofs.LumReplayLent.Laws as T′
 use Rattle.call_exports.proofs.LumReplayReply as R
@@ -63,7 +63,7 @@ use Rattle.call_exports.proofs.lum_replay.Code as code
 
 -- ---- what is had of the struct at exit: of each table that may be written what says its last list, of every other field nothing
 abbrev slots : List (Slot 1)
-slots = number ∷ number ∷ number ∷ number ∷ read16 ∷ read16 ∷ read16 ∷ read16 ∷ read16 ∷ written8 ∷ written32 ∷ []
+slots = number ∷ number ∷ number ∷ number ∷ read16 ∷ read16 ∷ read16 ∷ read16 ∷ read16 ∷ written8 ∷ written16 ∷ written32 ∷ []
 
 abbrev struct-name : Sym
 struct-name = T.struct (namedLft 1 0 tt ([], tt)) .name
@@ -79,13 +79,7 @@ fields = (
   nothing-of number,
   (
     nothing-of number,
-    (
-      nothing-of number,
-      (
-        nothing-of number,
-        (nothing-of read16, (nothing-of read16, (nothing-of read16, (nothing-of read16, (nothing-of read16, (last8, (last32, tt))))))),
-      ),
-    ),
+    (nothing-of number, (nothing-of number, (nothing-of read16, (nothing-of read16, (nothing-of read16, (nothing-of read16, (nothing-of read16, (last8, (last16, (last32, tt)))))))))),
   ),
 )
 
@@ -106,11 +100,12 @@ module _ {M : Type 1} (𝓤 : URA M) (H : Heap 𝓤) (A : Atoms 𝓤) (W : Given
       let number = number-goes 𝓤 H A W in
       let read = read16-goes 𝓤 H A W in
       let bytes = last8-goes 𝓤 H A W in
+      let written = last16-goes 𝓤 H A W in
       let words = last32-goes 𝓤 H A W in
       goes-declared 𝓤 H A W 1 (structAt struct-name (named 0 ∷ []) slots) yes as-struct LumReplayLent
       (λ κs. T.the-type (namedLft 1 0 tt κs) .to) (λ κs. T.the-type (namedLft 1 0 tt κs) .to-one)
       (goes-struct-at 𝓤 H A W 1 struct-name (named 0 ∷ []) slots yes fields
-      (number, (number, (number, (number, (read, (read, (read, (read, (read, (bytes, (words, tt))))))))))))
+      (number, (number, (number, (number, (read, (read, (read, (read, (read, (bytes, (written, (words, tt)))))))))))))
 
 -- the contract that the proof cites
 abbrev Callee : {M : Type 1} (𝓤 : URA M) (H : Heap 𝓤) (A : Atoms 𝓤) (mem : Memory → SProp 𝓤) (run : Routine → Fun 𝓤) → Contract 𝓤
@@ -132,36 +127,20 @@ module _ {M : Type 1} (𝓤 : URA M) (H : Heap 𝓤) (A : Atoms 𝓤) (W : Given
   mach = T′.lowered d
 
   abbrev values : Values (D .parts)
-  values = (d .n, (d .m, (d .t, (d .p, (d .a, (d .b, (d .start, (d .x, (d .y, (d .answers, (d .work, tt)))))))))))
+  values = (d .n, (d .m, (d .t, (d .p, (d .a, (d .b, (d .start, (d .x, (d .y, (d .answers, (d .names, (d .work, tt))))))))))))
 
   abbrev rows : List RattleType
   rows =
-      usize ∷ usize ∷ usize ∷
-      usize ∷ ShrSlice (named 0) κ u16 ∷ ShrSlice (named 0) κ u16 ∷
-      ShrSlice (named 0) κ u16 ∷ ShrSlice (named 0) κ u16 ∷ ShrSlice (named 0) κ u16 ∷ MutSlice (named 0) κ u8 ∷
-      MutSlice (named 0) κ u32 ∷ []
+      usize ∷ usize ∷ usize ∷ usize ∷
+      ShrSlice (named 0) κ u16 ∷ ShrSlice (named 0) κ u16 ∷ ShrSlice (named 0) κ u16 ∷ ShrSlice (named 0) κ u16 ∷ ShrSlice (named 0) κ u16 ∷
+      MutSlice (named 0) κ u8 ∷ MutSlice (named 0) κ u16 ∷ MutSlice (named 0) κ u32 ∷ []
 
   abbrev passed : Vals callee.signature κs
   passed = (
     word (d .n),
     (
       word (d .m),
-      (
-        word (d .t),
-        (
-          word (d .p),
-          (
-            slice (d .a),
-            (
-              slice (d .b),
-              (
-                slice (d .start),
-                (slice (d .x), (slice (d .y), (slice (d .answers), (slice (d .work), tt)))),
-              ),
-            ),
-          ),
-        ),
-      ),
+      (word (d .t), (word (d .p), (slice (d .a), (slice (d .b), (slice (d .start), (slice (d .x), (slice (d .y), (slice (d .answers), (slice (d .names), (slice (d .work), tt)))))))))),
     ),
   )
 
@@ -185,17 +164,19 @@ module _ {M : Type 1} (𝓤 : URA M) (H : Heap 𝓤) (A : Atoms 𝓤) (W : Given
 
   -- ---- what the callee leaves: a last list for each table that may be written
   abbrev Lasts : Type 0
-  Lasts = Unit {0} × (Unit {0} × (Unit {0} × (Unit {0} × (Unit {0} × (Unit {0} × (Unit {0} × (Unit {0} × (Unit {0} × (List ℕ × (List ℕ × Unit {0}))))))))))
+  Lasts = Unit {0} × (Unit {0} × (Unit {0} × (Unit {0} × (Unit {0} × (Unit {0} × (Unit {0} × (Unit {0} × (Unit {0} × (List ℕ × (List ℕ × (List ℕ × Unit {0})))))))))))
 
   abbrev Says : LumReplayReply → Lasts → Type 0
   Says r zs =
-      replayedOf r (zs .1 .1 .1 .1 .1 .1 .1 .1 .1 .0) (zs .1 .1 .1 .1 .1 .1 .1 .1 .1 .1 .0) ≡ replay (replayLent d) (d .p)
+      replayedOf r (zs .1 .1 .1 .1 .1 .1 .1 .1 .1 .0) (zs .1 .1 .1 .1 .1 .1 .1 .1 .1 .1 .0) (zs .1 .1 .1 .1 .1 .1 .1 .1 .1 .1 .1 .0)
+      ≡ replay (replayLent d) (d .p)
 
   abbrev had : Lasts → Vals callee.signature κs → Fml
   had zs vss =
       fsep ftrue (fsep ftrue (fsep ftrue (fsep ftrue (fsep ftrue (fsep ftrue (fsep ftrue (fsep ftrue (fsep ftrue (
       fsep (finally u8 (name (d .answers)) (zs .1 .1 .1 .1 .1 .1 .1 .1 .1 .0)) (
-      fsep (finally u32 (name (d .work)) (zs .1 .1 .1 .1 .1 .1 .1 .1 .1 .1 .0)) ftrue))))))))))
+      fsep (finally u16 (name (d .names)) (zs .1 .1 .1 .1 .1 .1 .1 .1 .1 .1 .0)) (
+      fsep (finally u32 (name (d .work)) (zs .1 .1 .1 .1 .1 .1 .1 .1 .1 .1 .1 .0)) ftrue)))))))))))
 
   exits : (r : LumReplayReply) (u : Val) (zs : Lasts) → Says r zs
       → ent 𝓤 (⋆ 𝓤 H A (‵ (lasts callee.ended κs values zs) ∷ (‵ (flft κ q) ⊛ ‵ ftrue) ∷ ‵ (R.the-row .own r (u ∷ [])) ∷ [])) (Post u)
@@ -206,46 +187,54 @@ module _ {M : Type 1} (𝓤 : URA M) (H : Heap 𝓤) (A : Atoms 𝓤) (W : Given
       fsplit ! $ drop ! $
       fsplit ! $ fsplit ! $ move ! (1 ∷ []) $ feqL ! (λ l₁. move ! (1 ∷ []) $
       fsplit ! $ fsplit ! $ move ! (1 ∷ []) $ feqL ! (λ l₂. move ! (1 ∷ []) $
+      fsplit ! $ fsplit ! $ move ! (1 ∷ []) $ feqL ! (λ l₃. move ! (1 ∷ []) $
       drop ! $
       -- [the last lists, the last table's first; the token; the result]
       suffices ! _ (ends-at 𝓤 H A caller.ended stayed (caller.clauses 𝓤 H A mem run) W ((κs, (q, tt), tt, (d, tt), (mach ∷ [], tt)), tt) u r (zs, tt)
-      ((tt, (tt, (tt, (tt, (tt, (tt, (tt, (tt, (tt, (l₁, (l₂, tt))))))))))), tt)) $
-      says ! e $ move ! (2 ∷ []) $ frame ! $ nothing ! $
-      move ! (1 ∷ 0 ∷ []) $ fjoin ! $ move ! (1 ∷ 0 ∷ []) $ fjoin ! $
+      ((tt, (tt, (tt, (tt, (tt, (tt, (tt, (tt, (tt, (l₁, (l₂, (l₃, tt)))))))))))), tt)) $
+      says ! e $ move ! (3 ∷ []) $ frame ! $ nothing ! $
+      move ! (1 ∷ 0 ∷ []) $ fjoin ! $ move ! (1 ∷ 0 ∷ []) $ fjoin ! $ move ! (1 ∷ 0 ∷ []) $ fjoin ! $
       nothing ! $ fjoin ! $ nothing ! $ fjoin ! $ nothing ! $ fjoin ! $ nothing ! $ fjoin ! $ nothing ! $ fjoin ! $ nothing ! $ fjoin ! $ nothing ! $ fjoin ! $ nothing ! $ fjoin ! $
       nothing ! $ fjoin ! $
       use1 W (‵ (inStruct rows (mach ∷ []) (had zs))) (makes 𝓤 H A W rows (had zs) passed) $
-      nothing ! $ move ! (1 ∷ 0 ∷ []) $ fjoin ! $ done !))
+      nothing ! $ move ! (1 ∷ 0 ∷ []) $ fjoin ! $ done !)))
 
-  -- ---- the walk. Local i of the 15 stands at 2 (14 - i) in the context: the struct, _1, at 26.
+  -- ---- the walk. Local i of the 17 stands at 2 (16 - i) in the context: the struct, _1, at 30.
   module _ (C : Calls 𝓤 H) (Λ : Loops 𝓤 H) (fm : FmC 𝓤 H (W .laws) C) (known : Triple 𝓤 (C #callee) (Callee 𝓤 H A mem run)) where
     walk : Holds (hasTy (T′.mir (named 0)) mach) × WT mach
         → ent 𝓤 (onEntry 𝓤 H A caller.signature κs (q, tt) (d, tt) (mach ∷ [], tt)) (WpFn 𝓤 H C Λ code.function (mach ∷ []) Post)
     walk wt =
         qed W (raw (onEntry 𝓤 H A caller.signature κs (q, tt) (d, tt) (mach ∷ [], tt)) ∷ []) ∵ enter ! C Λ code.function (mach ∷ []) _ $
         alloc1 ! (λ l₀. alloc1 ! (λ l₁. alloc1 ! (λ l₂. alloc1 ! (λ l₃. alloc1 ! (λ l₄. alloc1 ! (λ l₅. alloc1 ! (λ l₆. alloc1 ! (λ l₇.
-        alloc1 ! (λ l₈. alloc1 ! (λ l₉. alloc1 ! (λ l₁₀. alloc1 ! (λ l₁₁. alloc1 ! (λ l₁₂. alloc1 ! (λ l₁₃. alloc1 ! (λ l₁₄.
-        alloc0 ! $ params1 ! $ pass1 ! (init ! 26 refl wt) $ pass0 ! $
+        alloc1 ! (λ l₈. alloc1 ! (λ l₉. alloc1 ! (λ l₁₀. alloc1 ! (λ l₁₁. alloc1 ! (λ l₁₂. alloc1 ! (λ l₁₃. alloc1 ! (λ l₁₄. alloc1 ! (λ l₁₅.
+        alloc1 ! (λ l₁₆.
+        alloc0 ! $ params1 ! $ pass1 ! (init ! 30 refl wt) $ pass0 ! $
         -- each field into a local of its own; a table that may be written by its pointer, and then with its length
-        assigns ! (of-opd ! (load ! (from ! (fld ! refl (stop !))) (look-in ! 26 (sub ! 0 refl (whole !))))) (from ! (stop !)) (init ! 24 refl (tt, wt .1 .0)) $
-        assigns ! (of-opd ! (load ! (from ! (fld ! refl (stop !))) (look-in ! 26 (sub ! 1 refl (whole !))))) (from ! (stop !)) (init ! 22 refl (tt, wt .1 .1 .0)) $
-        assigns ! (of-opd ! (load ! (from ! (fld ! refl (stop !))) (look-in ! 26 (sub ! 2 refl (whole !))))) (from ! (stop !)) (init ! 20 refl (tt, wt .1 .1 .1 .0)) $
-        assigns ! (of-opd ! (load ! (from ! (fld ! refl (stop !))) (look-in ! 26 (sub ! 3 refl (whole !))))) (from ! (stop !)) (init ! 18 refl (tt, wt .1 .1 .1 .1 .0)) $
-        assigns ! (of-opd ! (load ! (from ! (fld ! refl (stop !))) (look-in ! 26 (sub ! 4 refl (whole !))))) (from ! (stop !)) (init ! 16 refl (tt, wt .1 .1 .1 .1 .1 .0)) $
-        assigns ! (of-opd ! (load ! (from ! (fld ! refl (stop !))) (look-in ! 26 (sub ! 5 refl (whole !))))) (from ! (stop !)) (init ! 14 refl (tt, wt .1 .1 .1 .1 .1 .1 .0)) $
-        assigns ! (of-opd ! (load ! (from ! (fld ! refl (stop !))) (look-in ! 26 (sub ! 6 refl (whole !))))) (from ! (stop !)) (init ! 12 refl (tt, wt .1 .1 .1 .1 .1 .1 .1 .0)) $
-        assigns ! (of-opd ! (load ! (from ! (fld ! refl (stop !))) (look-in ! 26 (sub ! 7 refl (whole !))))) (from ! (stop !)) (init ! 10 refl (tt, wt .1 .1 .1 .1 .1 .1 .1 .1 .0)) $
-        assigns ! (of-opd ! (load ! (from ! (fld ! refl (stop !))) (look-in ! 26 (sub ! 8 refl (whole !))))) (from ! (stop !)) (init ! 8 refl (tt, wt .1 .1 .1 .1 .1 .1 .1 .1 .1 .0)) $
-        assigns ! (addr ! (from ! (fld ! refl (fld ! refl (hop ! (look-in ! 26 (sub ! 0 refl (sub ! 9 refl (whole !)))) (stop !)))))) (from ! (stop !)) (init ! 6 refl (tt, tt)) $
+        assigns ! (of-opd ! (load ! (from ! (fld ! refl (stop !))) (look-in ! 30 (sub ! 0 refl (whole !))))) (from ! (stop !)) (init ! 28 refl (tt, wt .1 .0)) $
+        assigns ! (of-opd ! (load ! (from ! (fld ! refl (stop !))) (look-in ! 30 (sub ! 1 refl (whole !))))) (from ! (stop !)) (init ! 26 refl (tt, wt .1 .1 .0)) $
+        assigns ! (of-opd ! (load ! (from ! (fld ! refl (stop !))) (look-in ! 30 (sub ! 2 refl (whole !))))) (from ! (stop !)) (init ! 24 refl (tt, wt .1 .1 .1 .0)) $
+        assigns ! (of-opd ! (load ! (from ! (fld ! refl (stop !))) (look-in ! 30 (sub ! 3 refl (whole !))))) (from ! (stop !)) (init ! 22 refl (tt, wt .1 .1 .1 .1 .0)) $
+        assigns ! (of-opd ! (load ! (from ! (fld ! refl (stop !))) (look-in ! 30 (sub ! 4 refl (whole !))))) (from ! (stop !)) (init ! 20 refl (tt, wt .1 .1 .1 .1 .1 .0)) $
+        assigns ! (of-opd ! (load ! (from ! (fld ! refl (stop !))) (look-in ! 30 (sub ! 5 refl (whole !))))) (from ! (stop !)) (init ! 18 refl (tt, wt .1 .1 .1 .1 .1 .1 .0)) $
+        assigns ! (of-opd ! (load ! (from ! (fld ! refl (stop !))) (look-in ! 30 (sub ! 6 refl (whole !))))) (from ! (stop !)) (init ! 16 refl (tt, wt .1 .1 .1 .1 .1 .1 .1 .0)) $
+        assigns ! (of-opd ! (load ! (from ! (fld ! refl (stop !))) (look-in ! 30 (sub ! 7 refl (whole !))))) (from ! (stop !)) (init ! 14 refl (tt, wt .1 .1 .1 .1 .1 .1 .1 .1 .0)) $
+        assigns ! (of-opd ! (load ! (from ! (fld ! refl (stop !))) (look-in ! 30 (sub ! 8 refl (whole !))))) (from ! (stop !)) (init ! 12 refl (tt, wt .1 .1 .1 .1 .1 .1 .1 .1 .1 .0)) $
+        assigns ! (addr ! (from ! (fld ! refl (fld ! refl (hop ! (look-in ! 30 (sub ! 0 refl (sub ! 9 refl (whole !)))) (stop !)))))) (from ! (stop !)) (init ! 10 refl (tt, tt)) $
+        assigns ! (agg ! (and-then ! (load ! (from ! (stop !)) (look ! 10 refl))
+        (and-then ! (load ! (from ! (fld ! refl (fld ! refl (stop !)))) (look-in ! 30 (sub ! 1 refl (sub ! 9 refl (whole !))))) (no-more !)))) (from ! (stop !))
+        (init ! 8 refl (tt, wt .1 .1 .1 .1 .1 .1 .1 .1 .1 .1 .0)) $
+        assigns ! (addr ! (from ! (fld ! refl (fld ! refl (hop ! (look-in ! 30 (sub ! 0 refl (sub ! 10 refl (whole !)))) (stop !)))))) (from ! (stop !)) (init ! 6 refl (tt, tt)) $
         assigns ! (agg ! (and-then ! (load ! (from ! (stop !)) (look ! 6 refl))
-        (and-then ! (load ! (from ! (fld ! refl (fld ! refl (stop !)))) (look-in ! 26 (sub ! 1 refl (sub ! 9 refl (whole !))))) (no-more !)))) (from ! (stop !))
-        (init ! 4 refl (tt, wt .1 .1 .1 .1 .1 .1 .1 .1 .1 .1 .0)) $
-        assigns ! (addr ! (from ! (fld ! refl (fld ! refl (hop ! (look-in ! 26 (sub ! 0 refl (sub ! 10 refl (whole !)))) (stop !)))))) (from ! (stop !)) (init ! 2 refl (tt, tt)) $
+        (and-then ! (load ! (from ! (fld ! refl (fld ! refl (stop !)))) (look-in ! 30 (sub ! 1 refl (sub ! 10 refl (whole !))))) (no-more !)))) (from ! (stop !))
+        (init ! 4 refl (tt, wt .1 .1 .1 .1 .1 .1 .1 .1 .1 .1 .1 .0)) $
+        assigns ! (addr ! (from ! (fld ! refl (fld ! refl (hop ! (look-in ! 30 (sub ! 0 refl (sub ! 11 refl (whole !)))) (stop !)))))) (from ! (stop !)) (init ! 2 refl (tt, tt)) $
         assigns ! (agg ! (and-then ! (load ! (from ! (stop !)) (look ! 2 refl))
-        (and-then ! (load ! (from ! (fld ! refl (fld ! refl (stop !)))) (look-in ! 26 (sub ! 1 refl (sub ! 10 refl (whole !))))) (no-more !)))) (from ! (stop !))
-        (init ! 0 refl (tt, wt .1 .1 .1 .1 .1 .1 .1 .1 .1 .1 .1 .0)) $
-        move ! (30 ∷ []) $ use1 W (raw (Callee 𝓤 H A mem run .pre to)) apart $
+        (and-then ! (load ! (from ! (fld ! refl (fld ! refl (stop !)))) (look-in ! 30 (sub ! 1 refl (sub ! 11 refl (whole !))))) (no-more !)))) (from ! (stop !))
+        (init ! 0 refl (tt, wt .1 .1 .1 .1 .1 .1 .1 .1 .1 .1 .1 .1 .0)) $
+        move ! (34 ∷ []) $ use1 W (raw (Callee 𝓤 H A mem run .pre to)) apart $
         calls-at ! fm (Callee 𝓤 H A mem run) known to
+        (and-then ! (load ! (from ! (stop !)) (look ! 29 refl))
+        (and-then ! (load ! (from ! (stop !)) (look ! 27 refl))
         (and-then ! (load ! (from ! (stop !)) (look ! 25 refl))
         (and-then ! (load ! (from ! (stop !)) (look ! 23 refl))
         (and-then ! (load ! (from ! (stop !)) (look ! 21 refl))
@@ -253,11 +242,10 @@ module _ {M : Type 1} (𝓤 : URA M) (H : Heap 𝓤) (A : Atoms 𝓤) (W : Given
         (and-then ! (load ! (from ! (stop !)) (look ! 17 refl))
         (and-then ! (load ! (from ! (stop !)) (look ! 15 refl))
         (and-then ! (load ! (from ! (stop !)) (look ! 13 refl))
-        (and-then ! (load ! (from ! (stop !)) (look ! 11 refl))
         (and-then ! (load ! (from ! (stop !)) (look ! 9 refl))
         (and-then ! (load ! (from ! (stop !)) (look ! 5 refl))
         (and-then ! (load ! (from ! (stop !)) (look ! 1 refl))
-        (no-more !)))))))))))) (λ u.
+        (no-more !))))))))))))) (λ u.
         use1 W (later (some (λ (r : LumReplayReply). ((‵ (flft κ q) ⊛ ‵ ftrue) ⊛ ‵ (R.the-row .own r (u ∷ [])))
         ⊛ raw (ensured 𝓤 H A callee.ended (callee.clauses 𝓤 H A mem run) κs values tt r))))
         (id⊢ 𝓤 _) $ await ! tt $ pick ! (λ r.
@@ -265,14 +253,16 @@ module _ {M : Type 1} (𝓤 : URA M) (H : Heap 𝓤) (A : Atoms 𝓤) (W : Given
         split ! $ move ! (1 ∷ []) $ heard ! (Says r zs) (λ e. move ! (1 ∷ []) $ split ! $ move ! (1 ∷ []) $
         -- [the result; the token; the last lists; the last local; …; room for _0; …]
         peeks ! R.the-row (Is R.the-row) (shows 𝓤 H A R.the-row) r (u ∷ []) (λ is.
-        land ! (from ! (stop !)) (init ! 31 refl (LL.lawful R.the-type R′.the-laws 𝓤 H A W .typed r _ is .0)) $ returns ! (look ! 31 refl) $
+        land ! (from ! (stop !)) (init ! 35 refl (LL.lawful R.the-type R′.the-laws 𝓤 H A W .typed r _ is .0)) $ returns ! (look ! 35 refl) $
         forget ! 3 refl $ forget ! 5 refl $ forget ! 7 refl $ forget ! 9 refl $ forget ! 11 refl $ forget ! 13 refl $ forget ! 15 refl $ forget ! 17 refl $
-        forget ! 19 refl $ forget ! 21 refl $ forget ! 23 refl $ forget ! 25 refl $ forget ! 27 refl $ forget ! 29 refl $ forget ! 31 refl $
-        move ! (31 ∷ 32 ∷ []) $ free1 ! $ move ! (29 ∷ 30 ∷ []) $ free1 ! $ move ! (27 ∷ 28 ∷ []) $ free1 ! $ move ! (25 ∷ 26 ∷ []) $ free1 ! $ move ! (23 ∷ 24 ∷ []) $ free1 ! $
-        move ! (21 ∷ 22 ∷ []) $ free1 ! $ move ! (19 ∷ 20 ∷ []) $ free1 ! $ move ! (17 ∷ 18 ∷ []) $ free1 ! $ move ! (15 ∷ 16 ∷ []) $ free1 ! $
-        move ! (13 ∷ 14 ∷ []) $ free1 ! $ move ! (11 ∷ 12 ∷ []) $ free1 ! $ move ! (9 ∷ 10 ∷ []) $ free1 ! $ move ! (7 ∷ 8 ∷ []) $ free1 ! $
-        move ! (5 ∷ 6 ∷ []) $ free1 ! $ move ! (3 ∷ 4 ∷ []) $ free1 ! $
-        free0 ! $ keep ! (2 ∷ 1 ∷ 0 ∷ []) $ by ! (exits r u zs e)))))))))))))))))))))
+        forget ! 19 refl $ forget ! 21 refl $ forget ! 23 refl $ forget ! 25 refl $ forget ! 27 refl $ forget ! 29 refl $ forget ! 31 refl $ forget ! 33 refl $
+        forget ! 35 refl $
+        move ! (35 ∷ 36 ∷ []) $ free1 ! $ move ! (33 ∷ 34 ∷ []) $ free1 ! $ move ! (31 ∷ 32 ∷ []) $ free1 ! $ move ! (29 ∷ 30 ∷ []) $ free1 ! $
+        move ! (27 ∷ 28 ∷ []) $ free1 ! $ move ! (25 ∷ 26 ∷ []) $ free1 ! $ move ! (23 ∷ 24 ∷ []) $ free1 ! $ move ! (21 ∷ 22 ∷ []) $ free1 ! $
+        move ! (19 ∷ 20 ∷ []) $ free1 ! $ move ! (17 ∷ 18 ∷ []) $ free1 ! $ move ! (15 ∷ 16 ∷ []) $ free1 ! $ move ! (13 ∷ 14 ∷ []) $ free1 ! $
+        move ! (11 ∷ 12 ∷ []) $ free1 ! $ move ! (9 ∷ 10 ∷ []) $ free1 ! $ move ! (7 ∷ 8 ∷ []) $ free1 ! $ move ! (5 ∷ 6 ∷ []) $ free1 ! $
+        move ! (3 ∷ 4 ∷ []) $ free1 ! $
+        free0 ! $ keep ! (2 ∷ 1 ∷ 0 ∷ []) $ by ! (exits r u zs e)))))))))))))))))))))))
 
 module _ {M : Type 1} (𝓤 : URA M) (H : Heap 𝓤) (A : Atoms 𝓤) (W : Given 𝓤 H A) (mem : Memory → SProp 𝓤) (run : Routine → Fun 𝓤) where
   walks : (C : Calls 𝓤 H) (Λ : Loops 𝓤 H) → FmC 𝓤 H (W .laws) C → Triple 𝓤 (C #callee) (Callee 𝓤 H A mem run)

@@ -5,10 +5,10 @@ use Rattle.call_exports.proofs.replay_tables.Statement.{statement}
 use Rattle.call_exports.proofs.replay_tables.Tie as tie
 
 returns : tie.Need-returns
-returns c = replay-done _ _ _ _ (c .before .before .before .before .before .before .before .replay .ensures .0) (c .before .reply .given .1)
+returns c = replay-done _ _ _ _ _ (c .before .before .before .before .before .before .before .before .before .replay .ensures .0) (c .before .reply .given .1)
 
 returns-2 : tie.Need-returns-2
-returns-2 c = replay-refused _ _ _ _ (c .before .before .before .before .before .before .before .replay .ensures .0) (c .before .reply2 .given .1)
+returns-2 c = replay-refused _ _ _ _ _ (c .before .before .before .before .before .before .before .before .before .replay .ensures .0) (c .before .reply2 .given .1)
 
 pub replay-tables-spec : {M : Type 1} → statement M
 replay-tables-spec =
@@ -18,7 +18,9 @@ replay-tables-spec =
     (λ c. search needs)
     (λ c. search needs)
     (λ c. search needs)
+    (λ c. search needs)
     returns
+    (λ c. search needs)
     (λ c. search needs)
     (λ c. search needs)
     (λ c. search needs)
