@@ -26,9 +26,10 @@ fn contracted(
     pieces: &mut [u16],
     work: &mut [u32],
 ) -> ContractReply
-    requires { ⌜ Faultless (lent n m k (now from) (now to) (now names) (now active) (now map) (now «out_from») (now «out_to») (now «out_names») (now pieces) (now work)) ⌝ }
-    ensures { λ r. ⌜ outcome r (now (map .exit)) (now («out_from» .exit)) (now («out_to» .exit)) (now («out_names» .exit)) (now (pieces .exit)) (now (work .exit))
-        ≡ done (lent n m k (now (from .entry)) (now (to .entry)) (now (names .entry)) (now (active .entry))
+    requires { ⌜ Faultless (lent n m k (now from) (now to) (now names) (now active)
+        (now map) (now «out_from») (now «out_to») (now «out_names») (now pieces) (now work)) ⌝ }
+    ensures { λ r. ⌜ outcome r (now (map .exit)) (now («out_from» .exit)) (now («out_to» .exit)) (now («out_names» .exit))
+        (now (pieces .exit)) (now (work .exit)) ≡ done (lent n m k (now (from .entry)) (now (to .entry)) (now (names .entry)) (now (active .entry))
         (now (map .entry)) (now («out_from» .entry)) (now («out_to» .entry)) (now («out_names» .entry)) (now (pieces .entry)) (now (work .entry))) ⌝ }
 {
     let d = contraction_tables::load(work, n, m, k, from, to, names, active);
@@ -62,8 +63,8 @@ pub fn contract(
     pieces: &mut [u16],
     work: &mut [u32],
 ) -> ContractReply
-    ensures { λ r. ⌜ outcome r (now (map .exit)) (now («out_from» .exit)) (now («out_to» .exit)) (now («out_names» .exit)) (now (pieces .exit)) (now (work .exit))
-        ≡ contraction (lent n m k (now (from .entry)) (now (to .entry)) (now (names .entry)) (now (active .entry))
+    ensures { λ r. ⌜ outcome r (now (map .exit)) (now («out_from» .exit)) (now («out_to» .exit)) (now («out_names» .exit))
+        (now (pieces .exit)) (now (work .exit)) ≡ contraction (lent n m k (now (from .entry)) (now (to .entry)) (now (names .entry)) (now (active .entry))
         (now (map .entry)) (now («out_from» .entry)) (now («out_to» .entry)) (now («out_names» .entry)) (now (pieces .entry)) (now (work .entry))) ⌝ }
 {
     let fault = contraction_checks::first_fault(

@@ -176,9 +176,9 @@ fn contract_tables<'a>(
     pieces: &'a mut [u16],
     work: &'a mut [u32],
 ) -> LumContractReply
-    ensures { λ r. ⌜ contractedOf r (now (map .exit)) (now («out_from» .exit)) (now («out_to» .exit)) (now («out_names» .exit)) (now (pieces .exit)) (now (work .exit))
-        ≡ contraction (contracting.lent n m k (now (from .entry)) (now (to .entry)) (now (names .entry)) (now (active .entry))
-        (now (map .entry)) (now («out_from» .entry)) (now («out_to» .entry)) (now («out_names» .entry)) (now (pieces .entry)) (now (work .entry))) ⌝ }
+    ensures { λ r. ⌜ contractedOf r (now (map .exit)) (now («out_from» .exit)) (now («out_to» .exit)) (now («out_names» .exit))
+        (now (pieces .exit)) (now (work .exit)) ≡ contraction (contracting.lent n m k
+        (now (from .entry)) (now (to .entry)) (now (names .entry)) (now (active .entry)) (now (map .entry)) (now («out_from» .entry)) (now («out_to» .entry)) (now («out_names» .entry)) (now (pieces .entry)) (now (work .entry))) ⌝ }
 {
     let reply = call_contract::contract(
         n,

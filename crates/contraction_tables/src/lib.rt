@@ -23,7 +23,8 @@ fn enter_active(work: &mut [u32], n: usize, k: usize, active: &[u16]) -> usize
 
 // Puts the first m edges, with their names, into the half-edges.
 fn put_edges(work: &mut [u32], n: usize, m: usize, from: &[u16], to: &[u16], names: &[u16])
-    requires { ⌜ (n ≤ 65536) × (m ≤ 32768) × (16 * n + 6 * m ≤ length (now work)) × (m ≤ length (now from)) × (m ≤ length (now to)) × (m ≤ length (now names)) ⌝ }
+    requires { ⌜ (n ≤ 65536) × (m ≤ 32768) × (16 * n + 6 * m ≤ length (now work))
+        × (m ≤ length (now from)) × (m ≤ length (now to)) × (m ≤ length (now names)) ⌝ }
     ensures { λ _. ⌜ Edges n m (now (from .entry)) (now (to .entry)) (now (names .entry)) (now (work .entry)) (now (work .exit)) m ⌝ }
 {
     for s in 0..m {
@@ -46,7 +47,8 @@ pub fn load(
     active: &[u16],
 ) -> usize
     requires { ⌜ Loadable n m k (now from) (now to) (now names) (now active) (now work) ⌝ }
-    ensures { λ r. ⌜ Prepared n m k (now (from .entry)) (now (to .entry)) (now (names .entry)) (now (active .entry)) (now (work .entry)) (now (work .exit)) r ⌝ }
+    ensures { λ r. ⌜ Prepared n m k (now (from .entry)) (now (to .entry)) (now (names .entry)) (now (active .entry))
+        (now (work .entry)) (now (work .exit)) r ⌝ }
 {
     core_words::clear_field(work, n, core_words::MARK, n);
     let d = enter_active(work, n, k, active);
