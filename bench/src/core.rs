@@ -17,22 +17,20 @@ const ORDER: usize = 3;
 const PLACE: usize = 4;
 const PARENT: usize = 5;
 const TOP: usize = 6;
-/// 1 + the number of the nearest kept class at or above.
-const NEAREST: usize = 7;
+/// At i: the top of the class i.
+const CLASS: usize = 7;
 /// The branches of a class that have an active node.
 const BRANCHES: usize = 8;
 /// At i: 1 + the number of the nearest kept class above the class i.
 const ABOVE: usize = 9;
 /// 1 + the number of a class.
 const NUMBER: usize = 10;
-/// At i: the name of the edge from the class i to the nearest kept class above.
+/// At i: the smallest name between the class i and the nearest kept class above.
 const UPWARD: usize = 11;
 /// The root of the tree, where it is asked for.
 pub const ROOT: usize = 12;
 /// 1 + the edge to the parent, 0 at a root.
 const TREE_EDGE: usize = 13;
-/// At a top that is no root: the smallest name between its class and the nearest kept class above.
-const LEAST: usize = 14;
 /// At i: the name of the i-th edge (out).
 pub const NAMED: usize = 15;
 /// At i: the ends of the i-th edge (out).
@@ -174,6 +172,13 @@ fn merge_edges(nodes: &mut [Node], halves: &[Half], seen: usize) {
     }
 }
 
+/// Gives the class with this top the next number.
+fn number(nodes: &mut [Node], count: &mut usize, top: usize) {
+    nodes[*count][CLASS] = top as u32;
+    *count += 1;
+    nodes[top][NUMBER] = *count as u32;
+}
+
 /// Numbers the classes of the active nodes in order of first appearance.
 fn number_actives(nodes: &mut [Node], k: usize) -> usize {
     let mut count = 0;
@@ -181,8 +186,7 @@ fn number_actives(nodes: &mut [Node], k: usize) -> usize {
         let v = nodes[i][ACTIVE] as usize;
         let top = nodes[v][TOP] as usize;
         if nodes[top][NUMBER] == 0 {
-            count += 1;
-            nodes[top][NUMBER] = count as u32;
+            number(nodes, &mut count, top);
         }
     }
     count
@@ -206,45 +210,33 @@ fn number_others(nodes: &mut [Node], mut count: usize) -> usize {
         if nodes[v][PLACE] == 0 {
             continue;
         }
-        let top = &mut nodes[nodes[v][TOP] as usize];
-        if top[NUMBER] == 0 && top[BRANCHES] >= 2 {
-            count += 1;
-            top[NUMBER] = count as u32;
+        let top = nodes[v][TOP] as usize;
+        if nodes[top][NUMBER] == 0 && nodes[top][BRANCHES] >= 2 {
+            number(nodes, &mut count, top);
         }
     }
     count
 }
 
-/// The nearest kept class above each kept class, and the smallest name on the way to it.
-fn nearest_kept(nodes: &mut [Node], halves: &[Half], seen: usize) {
-    for i in 0..seen {
-        let v = nodes[i][ORDER] as usize;
-        let node = nodes[v];
-        if node[TOP] as usize != v {
+/// From each kept class up to the nearest kept class above, with the smallest name on the way. A class that is not kept lies on one such
+/// way at most, so that all together are linear. A root is active, so that its class is kept and ends each way.
+fn ways_up(nodes: &mut [Node], halves: &[Half], count: usize) {
+    for x in 0..count {
+        let mut node = &nodes[nodes[x][CLASS] as usize];
+        if node[TREE_EDGE] == 0 {
+            nodes[x][ABOVE] = 0;
             continue;
         }
-        let (above, least) = if node[TREE_EDGE] == 0 {
-            (0, 0)
-        } else {
-            let top = &nodes[nodes[node[PARENT] as usize][TOP] as usize];
-            let name = halves[2 * (node[TREE_EDGE] as usize - 1)][2];
-            // A class that is not kept hands on what lies between it and the nearest one above. A root is active, so that its class is kept.
-            let least = if top[NUMBER] == 0 {
-                name.min(top[LEAST])
-            } else {
-                name
-            };
-            (top[NEAREST], least)
-        };
-        nodes[v][LEAST] = least;
-        let number = node[NUMBER];
-        if number == 0 {
-            nodes[v][NEAREST] = above;
-        } else {
-            nodes[v][NEAREST] = number;
-            nodes[number as usize - 1][ABOVE] = above;
-            nodes[number as usize - 1][UPWARD] = least;
+        let mut least = u32::MAX;
+        loop {
+            least = least.min(halves[2 * (node[TREE_EDGE] as usize - 1)][2]);
+            node = &nodes[nodes[node[PARENT] as usize][TOP] as usize];
+            if node[NUMBER] != 0 {
+                break;
+            }
         }
+        nodes[x][ABOVE] = node[NUMBER];
+        nodes[x][UPWARD] = least;
     }
 }
 
@@ -307,7 +299,7 @@ pub fn reduce<const ROOTS: bool>(
     let actives = number_actives(nodes, k);
     count_branches(nodes, seen);
     let count = number_others(nodes, actives);
-    nearest_kept(nodes, halves, seen);
+    ways_up(nodes, halves, count);
     let edges = list_edges(nodes, count);
     for i in 0..k {
         let v = nodes[i][ACTIVE] as usize;

@@ -8,17 +8,18 @@ use lib.Dec.{eqb, ltb}
 use lib.ListN.{length}
 use native.Mathlib.Omega.{arith}
 use borrow.Author.Tests.{eqb-false, eqb-true, ltb-false, ltb-true}
-use Rattle.core_branches.proofs.SmallForestOf.{small-canonical, small-forest}
+use Rattle.core_branches.proofs.SmallForestOf.{root-place, small-canonical, small-forest}
+use Rattle.core_branches.proofs.WayLaws.{ParentNumbers, nearest, nearest-numbers, parent-numbers}
 use Rattle.core_branches.specs.BranchCounts.{Branches, CanCount, Counting, TreeOrderAt}
 use Rattle.core_branches.specs.Classes.{CanNumberClasses, ClassNumbers, classFields}
-use Rattle.core_branches.specs.Numbers.{CanFindNearest, CanNumberActives, CanNumberOthers, CanSetParents, NearestLoop, NearestNumbers}
-use Rattle.core_branches.specs.Numbers.{NumberingActives, NumberingOthers, OtherNumbers, ParentLoop, ParentNumbers}
+use Rattle.core_branches.specs.Numbers.{CanNumberActives, CanNumberOthers, NumberingActives, NumberingOthers, OtherNumbers}
+use Rattle.core_branches.specs.Ways.{CanSetParents, ParentLoop, ParentWays, WayTree}
 use Rattle.core_forest.proofs.Counting.{count-le}
 use Rattle.core_forest.proofs.SearchLaws.{seen-less}
 use Rattle.theory_graph.proofs.Booleans.{onBool}
 use Rattle.core_words.proofs.ChangeLaws.{only-more, only-then}
 use Rattle.core_words.specs.Changes.{OnlyFields}
-use Rattle.core_words.specs.Fields.{ABOVE, ACTIVE, BRANCH, EDGE, LIVE, MEMBER, NEAREST, NUMBER, ORDER, OTHER, PARENT, POSITION, TOP, node}
+use Rattle.core_words.specs.Fields.{ABOVE, ACTIVE, BRANCH, EDGE, LEAST, LIVE, MEMBER, NAME, NUMBER, ORDER, OTHER, PARENT, POSITION, TOP, half, node}
 
 module _ {n m k seen : ℕ} {w₀ : List ℕ} (s : CanNumberClasses n m k seen w₀) where
   pub few : n ≤ 65536
@@ -29,6 +30,9 @@ module _ {n m k seen : ℕ} {w₀ : List ℕ} (s : CanNumberClasses n m k seen w
 
   par-fit : (u : ℕ) → u < n → 0 < node POSITION w₀ u → node PARENT w₀ u < n
   par-fit u l p = ⊎-elim (λ r. rw (r .self) l) (λ h. h .fit) (s .forest .kind u l p)
+
+  par-seen : (u : ℕ) → u < n → 0 < node POSITION w₀ u → 0 < node POSITION w₀ (node PARENT w₀ u)
+  par-seen u l p = ⊎-elim (λ r. rw (r .self) p) (λ h. h .seen) (s .forest .kind u l p)
 
   tree-order : TreeOrderAt n seen w₀
   tree-order = record {
@@ -44,7 +48,7 @@ module _ {n m k seen : ℕ} {w₀ : List ℕ} (s : CanNumberClasses n m k seen w
       over v u l q = onBool (eqb (node TOP w₀ v) v) (λ e. omega (arith, ap (node POSITION w₀) (eqb-true (node TOP w₀ v) v e)))
           (λ e. omega (arith, s .final .tops .up v l (eqb-false (node TOP w₀ v) v e)))
 
-  pub tree-order-at : (w : List ℕ) → OnlyFields classFields n w₀ w → TreeOrderAt n seen w
+  tree-order-at : (w : List ℕ) → OnlyFields classFields n w₀ w → TreeOrderAt n seen w
   tree-order-at w o = rw (
     o .nodes ORDER (omega arith) refl,
     o .nodes POSITION (omega arith) refl,
@@ -103,9 +107,6 @@ module _ {n m k seen : ℕ} {w₀ : List ℕ} (s : CanNumberClasses n m k seen w
         others : OtherNumbers n g n h (node POSITION w₀) (node TOP w₀) (node OTHER w₂) (node NUMBER w₁) (node NUMBER w₃) (node MEMBER w₁) (node MEMBER w₃)
         others = rw (rest₂ .nodes POSITION (omega arith) refl, e6, e10, e11) at (r .others)
 
-        pub can-nearest : CanFindNearest n seen w₃
-        can-nearest = record { few = few; room = rw (rest₃ .same) room; tree = tree-order-at w₃ rest₃ }
-
         rep-seen : (x : ℕ) → x < h → 0 < node POSITION w₀ (node MEMBER w₃ x)
         rep-seen x l = onBool (ltb x g)
             (λ q.
@@ -117,96 +118,109 @@ module _ {n m k seen : ℕ} {w₀ : List ℕ} (s : CanNumberClasses n m k seen w
         fits : h ≤ n
         fits = omega (arith, count-le (node NUMBER w₃) n, others .numbers .count)
 
-        module _ {w₄ : List ℕ} (l : NearestLoop n w₃ seen w₄) where
-          rest₄ : OnlyFields classFields n w₀ w₄
-          rest₄ = only-then rest₃ (only-more (NEAREST ∷ []) refl (l .rest))
+        -- the top of a number's class
+        top-at : (x : ℕ) → x < h → (node TOP w₀ (node MEMBER w₃ x) < n) × (0 < node POSITION w₀ (node TOP w₀ (node MEMBER w₃ x)))
+        top-at x l =
+            let p = others .numbers .place x l .0 in
+            (s .final .tops .fit (node MEMBER w₃ x) p, s .final .seen (node MEMBER w₃ x) p (rep-seen x l))
 
-          g5 : node PARENT w₄ ≡ node PARENT w₀
-          g5 = rest₄ .nodes PARENT (omega arith) refl
+        -- the class of an active node has a number
+        active-number : (j : ℕ) → j < k → ¬ (node NUMBER w₃ (node TOP w₀ (node ACTIVE w₀ j)) ≡ 0)
+        active-number j i z =
+            let ne = a .actives .done j i in
+            ne (sym (others .still (node TOP w₀ (node ACTIVE w₀ j)) ne) ∙ z)
 
-          g6 : node TOP w₄ ≡ node TOP w₀
-          g6 = rest₄ .nodes TOP (omega arith) refl
+        -- a root is active
+        root-number : (c : ℕ) → c < n → 0 < node POSITION w₀ c → node TOP w₀ c ≡ c → node NUMBER w₃ c ≡ 0 → ¬ (node EDGE w₀ c ≡ 0)
+        root-number c l p t z e =
+            let (j, i, q) = root-place (s .forest) (s .marks) (s .search .search .marked) c l p e in
+            active-number j i (ap (λ (v : ℕ). node NUMBER w₃ (node TOP w₀ v)) q ∙ ap (node NUMBER w₃) t ∙ z)
 
-          g11 : node MEMBER w₄ ≡ node MEMBER w₃
-          g11 = l .rest .nodes MEMBER (omega arith) refl
+        way-tree : WayTree n m (node POSITION w₀) (node PARENT w₀) (node EDGE w₀) (node TOP w₀) (node NUMBER w₃)
+        way-tree = record {
+          edge-fit = λ c l p. ⊎-elim (λ r. omega (arith, r .none)) (λ t. omega (arith, t .is, t .less)) (s .forest .kind c l p);
+          above = λ c l p ne.
+              let b = par-fit c l p in
+              record {
+                par-fit = b;
+                fit = s .final .tops .fit (node PARENT w₀ c) b;
+                seen = s .final .seen (node PARENT w₀ c) b (par-seen c l p);
+                flat = s .final .flat (node PARENT w₀ c) b;
+                earlier = tree-order .up c l p ne;
+              };
+          no-root = root-number;
+        }
 
-          room₄ : 16 * n ≤ length w₄
-          room₄ = rw (rest₄ .same) room
+        e5 : node PARENT w₃ ≡ node PARENT w₀
+        e5 = rest₃ .nodes PARENT (omega arith) refl
 
-          pub can-parents : CanSetParents n h w₄
-          can-parents = record {
+        t6 : node TOP w₃ ≡ node TOP w₀
+        t6 = rest₃ .nodes TOP (omega arith) refl
+
+        e4 : node POSITION w₃ ≡ node POSITION w₀
+        e4 = rest₃ .nodes POSITION (omega arith) refl
+
+        e13 : node EDGE w₃ ≡ node EDGE w₀
+        e13 = rest₃ .nodes EDGE (omega arith) refl
+
+        pub can-parents : CanSetParents n m h w₃
+        can-parents = record {
+          few = few;
+          less = fits;
+          each = λ x l. record {
             few = few;
-            room = room₄;
+            much = s .search .lists .much;
+            room = rw (rest₃ .same) (s .search .lists .room);
+            tree = rw (e4, e5, e13, t6) way-tree;
+            fit = omega (arith, fits);
+            rep-fit = others .numbers .place x l .0;
+            top-fit = rw t6 (top-at x l .0);
+            seen = rw (t6, e4) (top-at x l .1);
+          };
+        }
+
+        module _ {w₄ : List ℕ} (u : ParentLoop n w₃ h w₄) where
+          h6 : node TOP w₄ ≡ node TOP w₀
+          h6 = u .rest .nodes TOP (omega arith) refl ∙ t6
+
+          h10 : node NUMBER w₄ ≡ node NUMBER w₃
+          h10 = u .rest .nodes NUMBER (omega arith) refl
+
+          h11 : node MEMBER w₄ ≡ node MEMBER w₃
+          h11 = u .rest .nodes MEMBER (omega arith) refl
+
+          branches : Branches n (node POSITION w₀) (node PARENT w₀) (node EDGE w₀) (node TOP w₀) (node LIVE w₁) (node LIVE w₂) (node BRANCH w₂) (node OTHER w₂) 0
+          branches = rw (
+            rest₁ .nodes POSITION (omega arith) refl,
+            rest₁ .nodes PARENT (omega arith) refl,
+            rest₁ .nodes EDGE (omega arith) refl,
+            rest₁ .nodes TOP (omega arith) refl,
+          ) at (b .branches)
+
+          ways : ParentWays h (half n NAME w₀) (node POSITION w₀) (node PARENT w₀) (node EDGE w₀) (node TOP w₀) (node NUMBER w₃) (node MEMBER w₃) (node ABOVE w₄) (node LEAST w₄)
+          ways = rw (rest₃ .halves NAME, e4, e5, e13, t6) at (u .ways)
+
+          parents : ParentNumbers h (node PARENT w₀) (node EDGE w₀) (node TOP w₀) (nearest (half n NAME w₀) way-tree) (node MEMBER w₃) (node ABOVE w₄)
+          parents = parent-numbers (half n NAME w₀) way-tree top-at ways
+
+          pub class-numbers : ClassNumbers n m k w₀ h w₄
+          class-numbers = record {
+            forest = rw (h11, h10, h6) (small-forest (s .forest) (s .final) (s .marks) (s .search .search .marked) (s .search .active) (s .search .have)
+                (a .actives) branches others (nearest-numbers (half n NAME w₀) way-tree) parents);
+            canonical = rw (h11, h10, h6) (small-canonical (s .forest) (s .final) (s .marks) (s .search .search .marked) (s .search .active) (s .search .have)
+                (a .actives) branches others (nearest-numbers (half n NAME w₀) way-tree) parents);
             less = fits;
-            each = λ x i.
-                let p = others .numbers .place x i .0 in
-                let q = s .final .tops .fit (node MEMBER w₃ x) p in
-                let z = par-fit (node TOP w₀ (node MEMBER w₃ x)) q (s .final .seen (node MEMBER w₃ x) p (rep-seen x i)) in
+            numbers = rw (h11, h10) (others .numbers);
+            seen = rw h11 rep-seen;
+            tree = rw h10 way-tree;
+            ways = rw (h11, h10) ways;
+            placed = λ j i.
+                let p = s .search .active j i .0 in
                 record {
-                  few = few;
-                  room = room₄;
-                  fit = omega (arith, fits);
-                  rep-fit = rw g11 p;
-                  top-fit = rw (g11, g6) q;
-                  par-fit = rw (g11, g6, g5) z;
-                  over-fit = rw (g11, g6, g5) (s .final .tops .fit (node PARENT w₀ (node TOP w₀ (node MEMBER w₃ x))) z);
+                  room = rw (u .rest .same, rest₃ .same) room;
+                  fit = p;
+                  top-fit = rw h6 (s .final .tops .fit (node ACTIVE w₀ j) p);
+                  some = rw (h10, h6) (active-number j i);
                 };
+            rest = only-then rest₃ (only-more (ABOVE ∷ LEAST ∷ []) refl (u .rest));
           }
-
-          module _ {w₅ : List ℕ} (u : ParentLoop n w₄ h w₅) where
-            h6 : node TOP w₅ ≡ node TOP w₀
-            h6 = u .rest .nodes TOP (omega arith) refl ∙ g6
-
-            h7 : node NEAREST w₅ ≡ node NEAREST w₄
-            h7 = u .rest .nodes NEAREST (omega arith) refl
-
-            h10 : node NUMBER w₅ ≡ node NUMBER w₃
-            h10 = u .rest .nodes NUMBER (omega arith) refl ∙ l .rest .nodes NUMBER (omega arith) refl
-
-            h11 : node MEMBER w₅ ≡ node MEMBER w₃
-            h11 = u .rest .nodes MEMBER (omega arith) refl ∙ g11
-
-            branches : Branches n (node POSITION w₀) (node PARENT w₀) (node EDGE w₀) (node TOP w₀) (node LIVE w₁) (node LIVE w₂) (node BRANCH w₂) (node OTHER w₂) 0
-            branches = rw (
-              rest₁ .nodes POSITION (omega arith) refl,
-              rest₁ .nodes PARENT (omega arith) refl,
-              rest₁ .nodes EDGE (omega arith) refl,
-              rest₁ .nodes TOP (omega arith) refl,
-            ) at (b .branches)
-
-            nearest : NearestNumbers n seen (node POSITION w₀) (node PARENT w₀) (node EDGE w₀) (node TOP w₀) (node NUMBER w₃) (node NEAREST w₄)
-            nearest = rw (
-              rest₃ .nodes POSITION (omega arith) refl,
-              rest₃ .nodes PARENT (omega arith) refl,
-              rest₃ .nodes EDGE (omega arith) refl,
-              rest₃ .nodes TOP (omega arith) refl,
-            ) at (l .nearest)
-
-            parents : ParentNumbers h (node PARENT w₀) (node EDGE w₀) (node TOP w₀) (node NEAREST w₄) (node MEMBER w₃) (node ABOVE w₅)
-            parents = rw (g5, rest₄ .nodes EDGE (omega arith) refl, g6, g11) at (u .parents)
-
-            pub class-numbers : ClassNumbers n m k w₀ h w₅
-            class-numbers = record {
-              forest = rw (h11, h10, h6) (small-forest (s .forest) (s .final) (s .marks) (s .search .search .marked) (s .search .active) (s .search .have)
-                  (λ v i p. s .search .search .place-of v i p .0) (a .actives) branches others nearest parents);
-              canonical = rw (h11, h10, h6) (small-canonical (s .forest) (s .final) (s .marks) (s .search .search .marked) (s .search .active) (s .search .have)
-                  (λ v i p. s .search .search .place-of v i p .0) (a .actives) branches others nearest parents);
-              less = fits;
-              numbers = rw (h11, h10) (others .numbers);
-              seen = rw h11 rep-seen;
-              nearest = rw (h10, h7) (record {
-                numbered = λ v i p b. nearest .numbered v i p (s .search .search .place-of v i p .0);
-                up = λ v i p b. nearest .up v i p (s .search .search .place-of v i p .0);
-              });
-              parents = rw (h11, h7) parents;
-              placed = λ j i.
-                  let p = s .search .active j i .0 in
-                  let ne = a .actives .done j i in
-                  record {
-                    room = rw (u .rest .same) room₄;
-                    fit = p;
-                    top-fit = rw h6 (s .final .tops .fit (node ACTIVE w₀ j) p);
-                    some = rw (h10, h6) (λ z. ne (sym (others .still (node TOP w₀ (node ACTIVE w₀ j)) ne) ∙ z));
-                  };
-              rest = only-then rest₄ (only-more (ABOVE ∷ []) refl (u .rest));
-            }

@@ -3,6 +3,6 @@ pub mod SmallForestLaws
 pub mod KeptClasses
 pub mod ForestOfClasses
 pub mod NumberLaws
-pub mod NearestLaws
+pub mod WayLaws
 pub mod SmallForestOf
 pub mod ClassLaws

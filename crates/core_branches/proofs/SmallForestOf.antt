@@ -11,7 +11,8 @@ use borrow.Author.Tests.{eqb-false, eqb-true, lt-ltb, ltb-false, ltb-true}
 use Rattle.core_branches.proofs.ForestOfClasses.{classForest, isSeen, root-is, root-no, seen-closed, seen-in, seen-is, witnesses}
 use Rattle.core_branches.proofs.KeptClasses.{Nearest, Numbered, Witnesses, kept-other, nearest-above, nearest-passes, nearest-self, numbered-forest, other-kept}
 use Rattle.core_branches.specs.BranchCounts.{Branches}
-use Rattle.core_branches.specs.Numbers.{ActiveNumbers, NearestNumbers, OtherNumbers, ParentNumbers, Prior}
+use Rattle.core_branches.proofs.WayLaws.{NearestNumbers, ParentNumbers}
+use Rattle.core_branches.specs.Numbers.{ActiveNumbers, OtherNumbers, Prior}
 use Rattle.core_branches.specs.SmallForest.{SmallForest}
 use Rattle.core_components.proofs.ComponentLaws.{class-same-top}
 use Rattle.core_components.specs.Merging.{FinalTops}
@@ -51,15 +52,14 @@ root-place {mark = mark} f marks marked r l p z = marks r l (⊎-elim
     (λ q. absurd (omega (arith, q .is)))
     (f .kind r l p))
 
-module _ {n m k seen h₀ h : ℕ} {to pos par te root top mark act nr₀ rep₀ live₀ live child other nr rep near up : ℕ → ℕ}
+module _ {n m k h₀ h : ℕ} {to pos par te root top mark act nr₀ rep₀ live₀ live child other nr rep near up : ℕ → ℕ}
     (f : Forest n m to pos par te root) (g : FinalTops n m to pos par te top)
     (marks : (v : ℕ) → v < n → 0 < mark v → (j : ℕ) × (j < k) × (act j ≡ v))
     (marked : (u : ℕ) → u < n → 0 < pos u → 0 < mark (root u))
     (actives : (j : ℕ) → j < k → (act j < n) × (0 < mark (act j)))
     (have : (j : ℕ) → j < k → 0 < pos (act j))
-    (low : (u : ℕ) → u < n → 0 < pos u → pos u ≤ seen)
     (A : ActiveNumbers n k h₀ act top nr₀ rep₀ live₀) (K : Branches n pos par te top live₀ live child other 0) (R : OtherNumbers n h₀ n h pos top other nr₀ nr rep₀ rep)
-    (L : NearestNumbers n seen pos par te top nr near) (U : ParentNumbers h par te top near rep up) where
+    (L : NearestNumbers n pos par te top nr near) (U : ParentNumbers h par te top near rep up) where
   abbrev E : List Edge
   E = edgesBelow to m
 
@@ -136,7 +136,7 @@ module _ {n m k seen h₀ h : ℕ} {to pos par te root top mark act nr₀ rep₀
   near-own y l p t ne =
       let s = seen-is n pos y l p in
       let (b, q) = R .numbers .place-of y l ne in
-      let e : near y ≡ nr y = L .numbered y l p (low y l p) t ne in
+      let e : near y ≡ nr y = L .numbered y l p t ne in
       let c : nr y - 1 < h = omega arith in
       let k′ : Kept E S y = subst (λ (v : ℕ). Kept E S v) q (rep-kept (nr y - 1) c) in
       rw (e, q) (ne, c, nearest-self E S T y (record { on = s; is-top = t; kept = k′ }))
@@ -154,7 +154,7 @@ module _ {n m k seen h₀ h : ℕ} {to pos par te root top mark act nr₀ rep₀
       let px : pos x < pos y = onBool (eqb x (par y)) (λ i. omega (arith, ap pos (eqb-true x (par y) i), T .par-pos y s r))
       (λ i. omega (arith, g .tops .up (par y) lp (eqb-false x (par y) i), T .par-pos y s r)) in
       let w = ih x px (g .tops .fit (par y) lp) (g .seen (par y) lp pp) (g .flat (par y) lp) in
-      let e : near y ≡ near x = L .up y l p (low y l p) t nt z in
+      let e : near y ≡ near x = L .up y l p t nt z in
       rw e (w .0, w .1, nearest-passes E S T y s t r (top (rep (near x - 1))) (w .2) nk)
 
   near-step : (y : ℕ) → y < n → 0 < pos y → top y ≡ y → ((x : ℕ) → pos x < pos y → x < n → 0 < pos x → top x ≡ x → NearAt x) → NearAt y

@@ -1,16 +1,14 @@
--- The loops that number the kept classes and find the nearest kept class above each. Functions: `nr` of a top is one more than the number of its class (0
--- for none), `rep` of a number a node of its class, `near` of a top one more than the number of the nearest kept class at or above, `up` of a number that
--- of the nearest above.
+-- The loops that number the kept classes. Functions: `nr` of a top is one more than the number of its class (0 for none), `rep` of a number a node of its
+-- class.
 -- Assumes nothing: these are definitions.
 use Prim.Native.Nat.{_*_, _+_, _-_, _<_, _≤_, ℕ}
 use mathlib.Core.List.{List, [], _∷_}
 use mathlib.Core.Logic.{_⊎_}
 use mathlib.Core.Path.{_≡_}
 use lib.ListN.{length}
-use Rattle.core_branches.specs.BranchCounts.{TreeOrderAt}
 use Rattle.core_forest.specs.Search.{countNonzero}
 use Rattle.core_words.specs.Changes.{OnlyFields}
-use Rattle.core_words.specs.Fields.{ABOVE, ACTIVE, EDGE, LIVE, MEMBER, NEAREST, NUMBER, OTHER, PARENT, POSITION, TOP, node, update}
+use Rattle.core_words.specs.Fields.{ACTIVE, LIVE, MEMBER, NUMBER, OTHER, POSITION, TOP, node, update}
 
 -- h classes have a number
 pub record Numbers (n h : ℕ) (top nr rep : ℕ → ℕ) : Type 0 where
@@ -111,68 +109,3 @@ pub record CanNumberOthers (n h : ℕ) (w : List ℕ) : Type 0 where
   pub room : 16 * n ≤ length w
   pub numbers : NumbersAt n h w
   pub top-fit : (v : ℕ) → v < n → node TOP w v < n
-
--- ---- the nearest kept class above
-pub record CanSetNearest (n : ℕ) (w : List ℕ) (v : ℕ) : Type 0 where
-  pub few : n ≤ 65536
-  pub room : 16 * n ≤ length w
-  pub fit : v < n
-  pub par-fit : node PARENT w v < n
-  pub top-fit : node TOP w (node PARENT w v) < n
-
--- the top v gets the number of its class, or where it has none what the class above has
-pub record SetNearest (n v : ℕ) (a b : List ℕ) : Type 0 where
-  pub value : ℕ
-  pub numbered : ¬ (node NUMBER a v ≡ 0) → value ≡ node NUMBER a v
-  pub up : node NUMBER a v ≡ 0 → value ≡ node NEAREST a (node TOP a (node PARENT a v))
-  pub rest : OnlyFields (NEAREST ∷ []) n a b
-  pub nearest : node NEAREST b ≡ update (node NEAREST a) v value
-
-abbrev pub NearestStep : ℕ → ℕ → List ℕ → List ℕ → Type 0
-NearestStep n v a b = ((b ≡ a) × ¬ (node TOP a v ≡ v)) ⊎ SetNearest n v a b
-
--- the same of the tops up to place i
-pub record NearestNumbers (n i : ℕ) (pos par te top nr near : ℕ → ℕ) : Type 0 where
-  pub numbered : (c : ℕ) → c < n → 0 < pos c → pos c ≤ i → top c ≡ c → ¬ (nr c ≡ 0) → near c ≡ nr c
-  pub up : (c : ℕ) → c < n → 0 < pos c → pos c ≤ i → top c ≡ c → ¬ (te c ≡ 0) → nr c ≡ 0 → near c ≡ near (top (par c))
-
-pub record NearestLoop (n : ℕ) (a : List ℕ) (i : ℕ) (w : List ℕ) : Type 0 where
-  pub rest : OnlyFields (NEAREST ∷ []) n a w
-  pub nearest : NearestNumbers n i (node POSITION a) (node PARENT a) (node EDGE a) (node TOP a) (node NUMBER a) (node NEAREST w)
-
-pub record CanFindNearest (n seen : ℕ) (w : List ℕ) : Type 0 where
-  pub few : n ≤ 65536
-  pub room : 16 * n ≤ length w
-  pub tree : TreeOrderAt n seen w
-
-pub record CanSetParent (n : ℕ) (w : List ℕ) (x : ℕ) : Type 0 where
-  pub few : n ≤ 65536
-  pub room : 16 * n ≤ length w
-  pub fit : x < n
-  pub rep-fit : node MEMBER w x < n
-  pub top-fit : node TOP w (node MEMBER w x) < n
-  pub par-fit : node PARENT w (node TOP w (node MEMBER w x)) < n
-  pub over-fit : node TOP w (node PARENT w (node TOP w (node MEMBER w x))) < n
-
--- number x gets what the class above its class has; a root's class gets 0
-pub record SetParent (n x : ℕ) (a b : List ℕ) : Type 0 where
-  pub value : ℕ
-  pub none : node EDGE a (node TOP a (node MEMBER a x)) ≡ 0 → value ≡ 0
-  pub some : ¬ (node EDGE a (node TOP a (node MEMBER a x)) ≡ 0) → value ≡ node NEAREST a (node TOP a (node PARENT a (node TOP a (node MEMBER a x))))
-  pub rest : OnlyFields (ABOVE ∷ []) n a b
-  pub parents : node ABOVE b ≡ update (node ABOVE a) x value
-
--- the same of the first i numbers
-pub record ParentNumbers (i : ℕ) (par te top near rep up : ℕ → ℕ) : Type 0 where
-  pub none : (x : ℕ) → x < i → te (top (rep x)) ≡ 0 → up x ≡ 0
-  pub some : (x : ℕ) → x < i → ¬ (te (top (rep x)) ≡ 0) → up x ≡ near (top (par (top (rep x))))
-
-pub record ParentLoop (n : ℕ) (a : List ℕ) (i : ℕ) (w : List ℕ) : Type 0 where
-  pub rest : OnlyFields (ABOVE ∷ []) n a w
-  pub parents : ParentNumbers i (node PARENT a) (node EDGE a) (node TOP a) (node NEAREST a) (node MEMBER a) (node ABOVE w)
-
-pub record CanSetParents (n h : ℕ) (w : List ℕ) : Type 0 where
-  pub few : n ≤ 65536
-  pub room : 16 * n ≤ length w
-  pub less : h ≤ n
-  pub each : (x : ℕ) → x < h → CanSetParent n w x

@@ -1,10 +1,10 @@
 use core_words::*;
-ghost use Prim.Native.Nat.{_+_};
+ghost use mathlib.Core.Path.{_≡_};
+ghost use Prim.Native.Nat.{_+_, min};
 ghost use Rattle.core_branches.specs.BranchCounts.{CanReport, Report, CanCount, Counting};
 ghost use Rattle.core_branches.specs.Numbers.{CanAssign, Assigned, CanNumber, ActiveStep, CanNumberActives, NumberingActives};
 ghost use Rattle.core_branches.specs.Numbers.{OtherStep, CanNumberOthers, NumberingOthers};
-ghost use Rattle.core_branches.specs.Numbers.{CanSetNearest, NearestStep, CanFindNearest, NearestLoop};
-ghost use Rattle.core_branches.specs.Numbers.{CanSetParent, SetParent, CanSetParents, ParentLoop};
+ghost use Rattle.core_branches.specs.Ways.{CanGoUp, CanSetParent, CanSetParents, CanStepUp, ParentLoop, ParentStep, SteppedUp, WayFound};
 ghost use Rattle.core_branches.specs.Classes.{CanNumberClasses, ClassNumbers};
 
 // The class with the top t, which has no number, gets the number h, by its node v.
@@ -116,41 +116,67 @@ fn number_others(work: &mut [u32], n: usize, h: usize) -> usize
     r
 }
 
-// The top v gets the number of its class, or where it has none what the class above has.
-fn nearest_at(work: &mut [u32], n: usize, v: usize)
-    requires { ⌜ CanSetNearest n (now work) v ⌝ }
-    ensures { λ _. ⌜ NearestStep n v (now (work .entry)) (now (work .exit)) ⌝ }
+// The smaller of two names.
+fn smaller(a: usize, b: usize) -> usize
+    ensures { λ r. ⌜ r ≡ min a b ⌝ }
 {
-    let t = core_words::get(work, v, TOP);
-    if t != v {
-        return;
+    if a < b {
+        return a;
     }
-    let x = core_words::get(work, v, NUMBER);
-    if x != 0 {
-        core_words::put(work, v, NEAREST, x);
-        return;
-    }
+    b
+}
+
+// One class up: the name of the tree edge, the top of the class above, and one more than its number, 0 where it has none.
+struct StepUp {
+    name: usize,
+    top: usize,
+    number: usize,
+}
+
+fn step_up(work: &[u32], n: usize, m: usize, v: usize) -> StepUp
+    requires { ⌜ CanStepUp n m (now work) v ⌝ }
+    ensures { λ r. ⌜ SteppedUp n (now (work .entry)) v (r .name) (r .top) (r .number) ⌝ }
+{
+    let e = core_words::get(work, v, EDGE);
+    let c = core_words::get_half(work, n, 2 * (e - 1), NAME);
     let p = core_words::get(work, v, PARENT);
     let q = core_words::get(work, p, TOP);
-    let y = core_words::get(work, q, NEAREST);
-    core_words::put(work, v, NEAREST, y);
-}
-
-// The nearest kept class at or above each class, by its number: in order, so that the class above has it already.
-fn nearest_kept(work: &mut [u32], n: usize, seen: usize)
-    requires { ⌜ CanFindNearest n seen (now work) ⌝ }
-    ensures { λ _. ⌜ NearestLoop n (now (work .entry)) seen (now (work .exit)) ⌝ }
-{
-    for i in 0..seen {
-        let v = core_words::get(work, i, ORDER);
-        nearest_at(work, n, v);
+    let x = core_words::get(work, q, NUMBER);
+    StepUp {
+        name: c,
+        top: q,
+        number: x,
     }
 }
 
-// The number of the nearest kept class above the class with the number x.
-fn parent_number(work: &mut [u32], n: usize, x: usize)
-    requires { ⌜ CanSetParent n (now work) x ⌝ }
-    ensures { λ _. ⌜ SetParent n x (now (work .entry)) (now (work .exit)) ⌝ }
+// The way up from a class: one more than the number of the nearest kept class above, and the smallest name on the way to it.
+struct Way {
+    number: usize,
+    name: usize,
+}
+
+// From the top v, no root. All such ways together are linear: a class that is not kept lies on one of them at most, since with two it would be kept.
+fn way_up(work: &[u32], n: usize, m: usize, v: usize) -> Way
+    requires { ⌜ CanGoUp n m (now work) v ⌝ }
+    ensures { λ r. ⌜ WayFound n (now (work .entry)) v (r .number) (r .name) ⌝ }
+{
+    let first = step_up(work, n, m, v);
+    let mut q = first.top;
+    let mut x = first.number;
+    let mut c = first.name;
+    while x == 0 {
+        let next = step_up(work, n, m, q);
+        q = next.top;
+        x = next.number;
+        c = smaller(c, next.name);
+    }
+    Way { number: x, name: c }
+}
+
+// The number of the nearest kept class above the class with the number x, and the smallest name on the way to it.
+fn parent_number(work: &mut [u32], n: usize, m: usize, x: usize)
+    requires { ⌜ CanSetParent n m (now work) x ⌝ }
+    ensures { λ _. ⌜ ParentStep n x (now (work .entry)) (now (work .exit)) ⌝ }
 {
     let v = core_words::get(work, x, MEMBER);
     let t = core_words::get(work, v, TOP);
@@ -159,23 +185,22 @@ fn parent_number(work: &mut [u32], n: usize, x: usize)
         core_words::put(work, x, ABOVE, 0);
         return;
     }
-    let p = core_words::get(work, t, PARENT);
-    let q = core_words::get(work, p, TOP);
-    let y = core_words::get(work, q, NEAREST);
-    core_words::put(work, x, ABOVE, y);
+    let way = way_up(work, n, m, t);
+    core_words::put(work, x, ABOVE, way.number);
+    core_words::put(work, x, LEAST, way.name);
 }
 
 // The same for each of the h numbers.
-fn parent_numbers(work: &mut [u32], n: usize, h: usize)
-    requires { ⌜ CanSetParents n h (now work) ⌝ }
+fn parent_numbers(work: &mut [u32], n: usize, m: usize, h: usize)
+    requires { ⌜ CanSetParents n m h (now work) ⌝ }
     ensures { λ _. ⌜ ParentLoop n (now (work .entry)) h (now (work .exit)) ⌝ }
 {
     for x in 0..h {
-        parent_number(work, n, x);
+        parent_number(work, n, m, x);
     }
 }
 
-// Internal: numbers the kept classes, and finds the nearest kept class above each; how many they are.
+// Internal: numbers the kept classes, and finds the nearest kept class above each with the smallest name on the way to it; how many they are.
 pub fn number_classes(work: &mut [u32], n: usize, m: usize, k: usize, seen: usize) -> usize
     requires { ⌜ CanNumberClasses n m k seen (now work) ⌝ }
     ensures { λ h. ⌜ ClassNumbers n m k (now (work .entry)) h (now (work .exit)) ⌝ }
@@ -183,7 +208,6 @@ pub fn number_classes(work: &mut [u32], n: usize, m: usize, k: usize, seen: usiz
     let g = number_actives(work, n, k);
     count_branches(work, n, seen);
     let h = number_others(work, n, g);
-    nearest_kept(work, n, seen);
-    parent_numbers(work, n, h);
+    parent_numbers(work, n, m, h);
     h
 }

@@ -1,4 +1,3 @@
-pub mod LeastLaws
 pub mod NamingLaws
 pub mod RouteNames
-pub mod NamePasses
+pub mod ChildNames

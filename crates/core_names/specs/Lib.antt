@@ -1,2 +1,1 @@
-pub mod LeastNames
 pub mod EdgeNames

@@ -14,9 +14,8 @@ use Rattle.core_branches.specs.Classes.{CanNumberClasses, ClassNumbers}
 use Rattle.core_branches.specs.SmallForest.{ParentPair, ParentPairs}
 use Rattle.core_components.proofs.JoinLaws.{between-still}
 use Rattle.core_components.specs.Components.{CanMergeComponents, Components}
-use Rattle.core_names.proofs.NamePasses.{can-find-least, child-hangs}
-use Rattle.core_names.specs.EdgeNames.{CanNameEdges, ChildEnd, NamingEdges, NumberFits}
-use Rattle.core_names.specs.LeastNames.{CanFindLeast, LeastLoop}
+use Rattle.core_names.proofs.ChildNames.{child-hangs}
+use Rattle.core_names.specs.EdgeNames.{CanNameEdges, ChildEnd, NamingEdges}
 use Rattle.core_reduce.proofs.EdgeOrder.{canonical-cuts-equal, edges-cut}
 use Rattle.core_reduce.proofs.PieceLaws.{root-below, root-joined}
 use Rattle.core_words.specs.Clearing.{Cleared}
@@ -123,9 +122,6 @@ module _ {n m k : ℕ} {w₀ : List ℕ} (s : Loaded n m k w₀) where
           }
 
           module _ {h : ℕ} {w₅ : List ℕ} (d : ClassNumbers n m k w₄ h w₅) where
-            pub can-least : CanFindLeast n m seen w₅
-            can-least = can-find-least can-number-classes d
-
             ends-same : half n TO w₄ ≡ half n TO w₀
             ends-same = found .halves TO ∙ q .0 .tos ∙ c .rest .halves TO
 
@@ -141,149 +137,130 @@ module _ {n m k : ℕ} {w₀ : List ℕ} (s : Loaded n m k w₀) where
             cuts : (U : NodeSet) → cut U (plain (edgesIn n m w₀)) ≡ cut U (edgesBelow (half n TO w₀) m)
             cuts U = ap (cut U) (plain-in-words n m w₀) ∙ sym (edges-cut U (half n TO w₀) m)
 
-            module _ {w₆ : List ℕ} (o : LeastLoop n w₅ seen w₆) where
-              -- LEAST of the child of two numbers
-              child-name : (i j x : ℕ) → i < h → j < h → ParentPair (node ABOVE w₅) i j → ChildEnd (node ABOVE w₅) i j x
-                  → node LEAST w₆ (node TOP w₅ (node MEMBER w₅ x)) ≡ hangs (edgesIn n m w₀) (node MEMBER w₅ i) (node MEMBER w₅ j)
-              child-name = child-hangs can-number-classes d o (edgesIn n m w₀) (rw ends-same cuts)
-                  (rw (ends-same, names-same) (λ e l. table-in (λ e. ((half n TO w₀ (2 * e), half n TO w₀ (2 * e + 1)), half n NAME w₀ (2 * e))) 0 m e (omega arith) (omega arith)))
+            -- LEAST of the child of two numbers
+            child-name : (i j x : ℕ) → i < h → j < h → ParentPair (node ABOVE w₅) i j → ChildEnd (node ABOVE w₅) i j x
+                → node LEAST w₅ x ≡ hangs (edgesIn n m w₀) (node MEMBER w₅ i) (node MEMBER w₅ j)
+            child-name = child-hangs can-number-classes d (edgesIn n m w₀) (rw ends-same cuts)
+                (rw (ends-same, names-same) (λ e l. table-in (λ e. ((half n TO w₀ (2 * e), half n TO w₀ (2 * e + 1)), half n NAME w₀ (2 * e))) 0 m e (omega arith) (omega arith)))
 
-              above₆ : node ABOVE w₆ ≡ node ABOVE w₅
-              above₆ = o .rest .nodes ABOVE (omega arith) refl
+            room₅ : 16 * n ≤ length w₅
+            room₅ = omega (arith, s .room, d .rest .same, found .same, q .0 .same, c .rest .same)
 
-              room₆ : 16 * n ≤ length w₆
-              room₆ = omega (arith, s .room, o .rest .same, d .rest .same, found .same, q .0 .same, c .rest .same)
+            pub can-list : CanList n h w₅
+            can-list = record { few = s .few; room = room₅; less = d .less; fits = d .forest .up-fit }
 
-              pub can-list : CanList n h w₆
-              can-list = record { few = s .few; room = room₆; less = d .less; fits = rw above₆ (d .forest .up-fit) }
+            module _ {e : ℕ} {w₆ : List ℕ} (l : EdgesListed n h w₅ w₆ e) where
+              -- the ends of an edge out
+              ends : (j : ℕ) → j < e → (node LOWER w₆ j < h) × (node UPPER w₆ j < h) × ParentPair (node ABOVE w₅) (node LOWER w₆ j) (node UPPER w₆ j)
+              ends j b =
+                  let (i, u, p) = edge-pair (node ABOVE w₅) (node LOWER w₆ j) (node UPPER w₆ j)
+                  (l .is (node LOWER w₆ j) (node UPPER w₆ j) (table-in (λ j. (node LOWER w₆ j, node UPPER w₆ j)) 0 e j (omega arith) (omega arith))) in
+                  (omega arith, u, p)
 
-              module _ {e : ℕ} {w₇ : List ℕ} (l : EdgesListed n h w₆ w₇ e) where
-                listed : OnlyFields (LEAST ∷ listFields) n w₅ w₇
-                listed = only-then (only-more (LEAST ∷ []) refl (o .rest)) (only-more listFields refl (l .rest))
+              pub can-name : CanNameEdges n e w₆
+              can-name = record {
+                few = s .few;
+                room = rw (l .rest .same) room₅;
+                most = omega (arith, l .most, d .less);
+                ends = λ j b. let (i, u, _) = ends j b in (omega (arith, d .less), omega (arith, d .less));
+              }
 
-                -- the ends of an edge out
-                ends : (j : ℕ) → j < e → (node LOWER w₇ j < h) × (node UPPER w₇ j < h) × ParentPair (node ABOVE w₅) (node LOWER w₇ j) (node UPPER w₇ j)
-                ends j b =
-                    let (i, u, p) = edge-pair (node ABOVE w₆) (node LOWER w₇ j) (node UPPER w₇ j)
-                    (l .is (node LOWER w₇ j) (node UPPER w₇ j) (table-in (λ j. (node LOWER w₇ j, node UPPER w₇ j)) 0 e j (omega arith) (omega arith))) in
-                    (omega arith, u, rw above₆ at p)
+              module _ {w₇ : List ℕ} (z : NamingEdges n w₆ e w₇) where
+                named : OnlyFields (NAMED ∷ listFields) n w₅ w₇
+                named = only-then (only-more listFields refl (l .rest)) (only-more (NAMED ∷ []) refl (z .rest))
 
-                number-fits : (x : ℕ) → x < h → NumberFits n w₇ x
-                number-fits x b =
-                    let f = d .numbers .place x b .0 in
-                    record {
-                      fit = omega (arith, d .less);
-                      member-fit = rw (listed .nodes MEMBER (omega arith) refl) f;
-                      top-fit = rw (listed .nodes MEMBER (omega arith) refl, listed .nodes TOP (omega arith) refl, d .rest .nodes TOP (omega arith) refl)
-                          (p .final .tops .fit (node MEMBER w₅ x) f);
-                    }
+                edge-name : (j : ℕ) → j < e → node NAMED w₇ j ≡ hangs (edgesIn n m w₀) (node MEMBER w₅ (node LOWER w₆ j)) (node MEMBER w₅ (node UPPER w₆ j))
+                edge-name j b =
+                    let (i, u, r) = ends j b in
+                    let (x, y, v) = z .names j b in
+                    let y′ : ChildEnd (node ABOVE w₅) (node LOWER w₆ j) (node UPPER w₆ j) x = rw (l .rest .nodes ABOVE (omega arith) refl) at y in
+                    v ∙ ap (λ f. f x) (l .rest .nodes LEAST (omega arith) refl) ∙ child-name (node LOWER w₆ j) (node UPPER w₆ j) x i u r y′
 
-                pub can-name : CanNameEdges n e w₇
-                can-name = record {
-                  few = s .few;
-                  room = rw (l .rest .same) room₆;
-                  most = omega (arith, l .most, d .less);
-                  ends = λ j b. let (i, u, _) = ends j b in (number-fits (node LOWER w₇ j) i, number-fits (node UPPER w₇ j) u);
+                act₇ : (i : ℕ) → i < k → node ACTIVE w₇ i ≡ node ACTIVE w₀ i
+                act₇ i b = ap (λ f. f i) (named .nodes ACTIVE (omega arith) refl ∙ d .rest .nodes ACTIVE (omega arith) refl) ∙ act₄ i b
+
+                pub can-write : CanWrite n k w₇
+                can-write = record {
+                  room = rw (z .rest .same, l .rest .same) room₅;
+                  less = s .less;
+                  placed = λ i b.
+                      let a : node ACTIVE w₇ i ≡ node ACTIVE w₄ i = ap (λ f. f i) (named .nodes ACTIVE (omega arith) refl ∙ d .rest .nodes ACTIVE (omega arith) refl) in
+                      let o = d .placed i b in
+                      record {
+                        room = rw (z .rest .same, l .rest .same) room₅;
+                        fit = rw a (o .fit);
+                        top-fit = rw (named .nodes TOP (omega arith) refl, a) (o .top-fit);
+                        some = rw (named .nodes NUMBER (omega arith) refl, named .nodes TOP (omega arith) refl, a) (o .some);
+                      };
                 }
 
-                module _ {w₈ : List ℕ} (z : NamingEdges n w₇ e w₈) where
-                  named : OnlyFields (NAMED ∷ LEAST ∷ listFields) n w₅ w₈
-                  named = only-then (only-more (LEAST ∷ listFields) refl listed) (only-more (NAMED ∷ []) refl (z .rest))
+                small : IsSmallGraph (plain (edgesIn n m w₀)) (activeIn k w₀) h (edgeTable (node LOWER w₆) (node UPPER w₆) 0 e) (node MEMBER w₅) (λ v. node NUMBER w₅ (node TOP w₅ v) - 1)
+                small =
+                    let g : IsSmallGraph (edgesBelow (half n TO w₀) m) (activeIn k w₀) h (edgeTable (node LOWER w₆) (node UPPER w₆) 0 e) (node MEMBER w₅) (λ v. node NUMBER w₅ (node TOP w₅ v) - 1) =
+                    rw (ends-same, actives-same) at (forest-small (d .forest) (listed-pairs l)) in
+                    small-definition _ _ _ _ _ _ (small-cuts-equal _ _ (λ U. sym (cuts U)) _ _ _ _ _ (definition-small _ _ _ _ _ _ g))
 
-                  edge-name : (j : ℕ) → j < e → node NAMED w₈ j ≡ hangs (edgesIn n m w₀) (node MEMBER w₅ (node LOWER w₇ j)) (node MEMBER w₅ (node UPPER w₇ j))
-                  edge-name j b =
-                      let (i, u, r) = ends j b in
-                      let (x, y, v) = z .names j b in
-                      let y′ : ChildEnd (node ABOVE w₅) (node LOWER w₇ j) (node UPPER w₇ j) x = rw (l .rest .nodes ABOVE (omega arith) refl, above₆) at y in
-                      let v′ : node NAMED w₈ j ≡ node LEAST w₆ (node TOP w₅ (node MEMBER w₅ x)) =
-                      rw (l .rest .nodes LEAST (omega arith) refl, listed .nodes TOP (omega arith) refl, listed .nodes MEMBER (omega arith) refl) at v in
-                      v′ ∙ child-name (node LOWER w₇ j) (node UPPER w₇ j) x i u r y′
+                low₇ : node LOWER w₇ ≡ node LOWER w₆
+                low₇ = z .rest .nodes LOWER (omega arith) refl
 
-                  act₈ : (i : ℕ) → i < k → node ACTIVE w₈ i ≡ node ACTIVE w₀ i
-                  act₈ i b = ap (λ f. f i) (named .nodes ACTIVE (omega arith) refl ∙ d .rest .nodes ACTIVE (omega arith) refl) ∙ act₄ i b
+                upp₇ : node UPPER w₇ ≡ node UPPER w₆
+                upp₇ = z .rest .nodes UPPER (omega arith) refl
 
-                  pub can-write : CanWrite n k w₈
-                  can-write = record {
-                    room = rw (z .rest .same, l .rest .same) room₆;
-                    less = s .less;
-                    placed = λ i b.
-                        let a : node ACTIVE w₈ i ≡ node ACTIVE w₄ i = ap (λ f. f i) (named .nodes ACTIVE (omega arith) refl ∙ d .rest .nodes ACTIVE (omega arith) refl) in
-                        let o = d .placed i b in
-                        record {
-                          room = rw (z .rest .same, l .rest .same) room₆;
-                          fit = rw a (o .fit);
-                          top-fit = rw (named .nodes TOP (omega arith) refl, a) (o .top-fit);
-                          some = rw (named .nodes NUMBER (omega arith) refl, named .nodes TOP (omega arith) refl, a) (o .some);
-                        };
+                named-small : IsNamedSmallGraph (edgesIn n m w₀) (activeIn k w₀) h (edgesOut e w₇) (node MEMBER w₅) (λ v. node NUMBER w₅ (node TOP w₅ v) - 1)
+                named-small = record {
+                  small = rw (plain-out e w₇, low₇, upp₇) small;
+                  name = λ i j x y.
+                      let (t, b, r) = table-mem (λ j. ((node LOWER w₇ j, node UPPER w₇ j), node NAMED w₇ j)) 0 e ((i, j), x) y in
+                      let ri : i ≡ node LOWER w₆ t = ap (λ (f : Entry). f .0 .0) r ∙ ap (λ f. f t) low₇ in
+                      let rj : j ≡ node UPPER w₆ t = ap (λ (f : Entry). f .0 .1) r ∙ ap (λ f. f t) upp₇ in
+                      ap (λ (f : Entry). f .1) r ∙ edge-name t (omega arith)
+                      ∙ ap₂ (λ (u v : ℕ). hangs (edgesIn n m w₀) (node MEMBER w₅ u) (node MEMBER w₅ v)) (sym ri) (sym rj);
+                }
+
+                canonical : Canonical (plain (edgesIn n m w₀)) (activeIn k w₀) h (node MEMBER w₅) (λ v. node NUMBER w₅ (node TOP w₅ v) - 1)
+                canonical =
+                    let g : Canonical (edgesBelow (half n TO w₀) m) (activeIn k w₀) h (node MEMBER w₅) (λ v. node NUMBER w₅ (node TOP w₅ v) - 1) =
+                    rw (ends-same, actives-same) at (d .canonical) in
+                    canonical-cuts-equal (edgesBelow (half n TO w₀) m) (plain (edgesIn n m w₀)) (λ U. sym (cuts U)) g
+
+                module _ {w₈ : List ℕ} (t : WritingNumbers n w₇ k w₈) where
+                  numbers : (i : ℕ) → i < k → node MAPPED w₈ (node ACTIVE w₀ i) ≡ node NUMBER w₅ (node TOP w₅ (node ACTIVE w₀ i)) - 1
+                  numbers i b =
+                      let e : node MAPPED w₈ (node ACTIVE w₇ i) ≡ node NUMBER w₅ (node TOP w₅ (node ACTIVE w₇ i)) - 1 =
+                      rw (named .nodes NUMBER (omega arith) refl, named .nodes TOP (omega arith) refl) at (t .numbers i b) in
+                      rw (act₇ i b) at e
+
+                  root-same : node ROOT w₈ ≡ node ROOT w₄
+                  root-same = t .rest .nodes ROOT (omega arith) refl ∙ named .nodes ROOT (omega arith) refl ∙ d .rest .nodes ROOT (omega arith) refl
+
+                  -- an active node is seen
+                  seen₄ : (i : ℕ) → i < k → 0 < node POSITION w₄ (node ACTIVE w₀ i)
+                  seen₄ i b = subst (λ (v : ℕ). 0 < node POSITION w₄ v) (act₄ i b) (between-still (p .rest) (f .1) .have i b)
+
+                  roots : (i : ℕ) → i < k → node ROOT w₈ (node ACTIVE w₀ i) < n
+                  roots i b = rw root-same (root-below (p .forest) (node POSITION w₄ (node ACTIVE w₀ i)) (node ACTIVE w₀ i) (omega arith) (s .active i b) (seen₄ i b))
+
+                  pieces : (i j : ℕ) → i < k → j < k
+                      → eqb (node ROOT w₈ (node ACTIVE w₀ i)) (node ROOT w₈ (node ACTIVE w₀ j)) ≡ joined (plain (edgesIn n m w₀)) (node ACTIVE w₀ i) (node ACTIVE w₀ j)
+                  pieces i j b c =
+                      rw root-same
+                      (root-joined (p .forest) (node ACTIVE w₀ i) (node ACTIVE w₀ j) (s .active i b) (s .active j c) (seen₄ i b) (seen₄ j c) (plain (edgesIn n m w₀)) (rw ends-same (λ U. sym (cuts U))))
+
+                  past : (i : ℕ) → 16 * n + 6 * m ≤ i → getD w₈ i 0 ≡ getD w₀ i 0
+                  past i b =
+                      let f : 16 * n ≤ i = omega arith in
+                      only-past (t .rest) i f ∙ only-past named i f ∙ only-past (d .rest) i f ∙ only-past found i f ∙ linking-past (q .0) i b ∙ only-past (c .rest) i f
+
+                  pub reduced : Reduced n m k w₀ w₈ h e
+                  reduced = record {
+                    same = t .rest .same ∙ named .same ∙ d .rest .same ∙ found .same ∙ q .0 .same ∙ c .rest .same;
+                    past = past;
+                    less = d .less;
+                    ρ = node MEMBER w₅;
+                    σ = λ v. node NUMBER w₅ (node TOP w₅ v) - 1;
+                    small = rw (t .rest .nodes LOWER (omega arith) refl, t .rest .nodes UPPER (omega arith) refl, t .rest .nodes NAMED (omega arith) refl) named-small;
+                    canonical = canonical;
+                    numbers = numbers;
+                    roots = roots;
+                    pieces = pieces;
                   }
-
-                  small : IsSmallGraph (plain (edgesIn n m w₀)) (activeIn k w₀) h (edgeTable (node LOWER w₇) (node UPPER w₇) 0 e) (node MEMBER w₅) (λ v. node NUMBER w₅ (node TOP w₅ v) - 1)
-                  small =
-                      let g : IsSmallGraph (edgesBelow (half n TO w₀) m) (activeIn k w₀) h (edgeTable (node LOWER w₇) (node UPPER w₇) 0 e) (node MEMBER w₅) (λ v. node NUMBER w₅ (node TOP w₅ v) - 1) =
-                      rw (ends-same, actives-same) at (forest-small (d .forest) (rw above₆ at (listed-pairs l))) in
-                      small-definition _ _ _ _ _ _ (small-cuts-equal _ _ (λ U. sym (cuts U)) _ _ _ _ _ (definition-small _ _ _ _ _ _ g))
-
-                  low₈ : node LOWER w₈ ≡ node LOWER w₇
-                  low₈ = z .rest .nodes LOWER (omega arith) refl
-
-                  upp₈ : node UPPER w₈ ≡ node UPPER w₇
-                  upp₈ = z .rest .nodes UPPER (omega arith) refl
-
-                  named-small : IsNamedSmallGraph (edgesIn n m w₀) (activeIn k w₀) h (edgesOut e w₈) (node MEMBER w₅) (λ v. node NUMBER w₅ (node TOP w₅ v) - 1)
-                  named-small = record {
-                    small = rw (plain-out e w₈, low₈, upp₈) small;
-                    name = λ i j x y.
-                        let (t, b, r) = table-mem (λ j. ((node LOWER w₈ j, node UPPER w₈ j), node NAMED w₈ j)) 0 e ((i, j), x) y in
-                        let ri : i ≡ node LOWER w₇ t = ap (λ (f : Entry). f .0 .0) r ∙ ap (λ f. f t) low₈ in
-                        let rj : j ≡ node UPPER w₇ t = ap (λ (f : Entry). f .0 .1) r ∙ ap (λ f. f t) upp₈ in
-                        ap (λ (f : Entry). f .1) r ∙ edge-name t (omega arith)
-                        ∙ ap₂ (λ (u v : ℕ). hangs (edgesIn n m w₀) (node MEMBER w₅ u) (node MEMBER w₅ v)) (sym ri) (sym rj);
-                  }
-
-                  canonical : Canonical (plain (edgesIn n m w₀)) (activeIn k w₀) h (node MEMBER w₅) (λ v. node NUMBER w₅ (node TOP w₅ v) - 1)
-                  canonical =
-                      let g : Canonical (edgesBelow (half n TO w₀) m) (activeIn k w₀) h (node MEMBER w₅) (λ v. node NUMBER w₅ (node TOP w₅ v) - 1) =
-                      rw (ends-same, actives-same) at (d .canonical) in
-                      canonical-cuts-equal (edgesBelow (half n TO w₀) m) (plain (edgesIn n m w₀)) (λ U. sym (cuts U)) g
-
-                  module _ {w₉ : List ℕ} (t : WritingNumbers n w₈ k w₉) where
-                    numbers : (i : ℕ) → i < k → node MAPPED w₉ (node ACTIVE w₀ i) ≡ node NUMBER w₅ (node TOP w₅ (node ACTIVE w₀ i)) - 1
-                    numbers i b =
-                        let e : node MAPPED w₉ (node ACTIVE w₈ i) ≡ node NUMBER w₅ (node TOP w₅ (node ACTIVE w₈ i)) - 1 =
-                        rw (named .nodes NUMBER (omega arith) refl, named .nodes TOP (omega arith) refl) at (t .numbers i b) in
-                        rw (act₈ i b) at e
-
-                    root-same : node ROOT w₉ ≡ node ROOT w₄
-                    root-same = t .rest .nodes ROOT (omega arith) refl ∙ named .nodes ROOT (omega arith) refl ∙ d .rest .nodes ROOT (omega arith) refl
-
-                    -- an active node is seen
-                    seen₄ : (i : ℕ) → i < k → 0 < node POSITION w₄ (node ACTIVE w₀ i)
-                    seen₄ i b = subst (λ (v : ℕ). 0 < node POSITION w₄ v) (act₄ i b) (between-still (p .rest) (f .1) .have i b)
-
-                    roots : (i : ℕ) → i < k → node ROOT w₉ (node ACTIVE w₀ i) < n
-                    roots i b = rw root-same (root-below (p .forest) (node POSITION w₄ (node ACTIVE w₀ i)) (node ACTIVE w₀ i) (omega arith) (s .active i b) (seen₄ i b))
-
-                    pieces : (i j : ℕ) → i < k → j < k
-                        → eqb (node ROOT w₉ (node ACTIVE w₀ i)) (node ROOT w₉ (node ACTIVE w₀ j)) ≡ joined (plain (edgesIn n m w₀)) (node ACTIVE w₀ i) (node ACTIVE w₀ j)
-                    pieces i j b c =
-                        rw root-same
-                        (root-joined (p .forest) (node ACTIVE w₀ i) (node ACTIVE w₀ j) (s .active i b) (s .active j c) (seen₄ i b) (seen₄ j c) (plain (edgesIn n m w₀)) (rw ends-same (λ U. sym (cuts U))))
-
-                    past : (i : ℕ) → 16 * n + 6 * m ≤ i → getD w₉ i 0 ≡ getD w₀ i 0
-                    past i b =
-                        let f : 16 * n ≤ i = omega arith in
-                        only-past (t .rest) i f ∙ only-past named i f ∙ only-past (d .rest) i f ∙ only-past found i f ∙ linking-past (q .0) i b ∙ only-past (c .rest) i f
-
-                    pub reduced : Reduced n m k w₀ w₉ h e
-                    reduced = record {
-                      same = t .rest .same ∙ named .same ∙ d .rest .same ∙ found .same ∙ q .0 .same ∙ c .rest .same;
-                      past = past;
-                      less = d .less;
-                      ρ = node MEMBER w₅;
-                      σ = λ v. node NUMBER w₅ (node TOP w₅ v) - 1;
-                      small = rw (t .rest .nodes LOWER (omega arith) refl, t .rest .nodes UPPER (omega arith) refl, t .rest .nodes NAMED (omega arith) refl) named-small;
-                      canonical = canonical;
-                      numbers = numbers;
-                      roots = roots;
-                      pieces = pieces;
-                    }

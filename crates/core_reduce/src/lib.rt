@@ -9,18 +9,18 @@
 // | POSITION | a node | 1 + its place in the search, 0 unseen | LOWER of i: smaller end of the i-th edge (out) |
 // | PARENT | a node | its parent in the forest | UPPER of i: larger end of the i-th edge (out) |
 // | TOP | a node | the top of its class | |
-// | LIVE | a top | 1 + an active node at or below its class, 0 for none | NEAREST: 1 + the number of the nearest kept class at or above |
+// | LIVE | a top | 1 + an active node at or below its class, 0 for none | |
 // | BRANCH | a top | 1 + the last branch reported to its class | SIBLING of a number: next in a list of larger children |
 // | OTHER | a top | 1 + another branch | ABOVE of a number: 1 + the number of the nearest kept class above |
 // | NUMBER | a top | 1 + the number of its class, 0 for none | |
 // | MEMBER | a number | a node of its class | |
 // | ROOT | a node | the root of its tree (out) | |
 // | EDGE | a node | 1 + its tree edge, 0 at a root | |
-// | LEAST | a top, no root | the smallest name from its class to the nearest kept class above | |
+// | LEAST | a number | the smallest name from its class to the nearest kept class above | |
 // | NAMED | i | the name of the i-th edge (out) | |
 //
 // HEAD, POSITION, LIVE, BRANCH, OTHER and NUMBER start at 0. TO of a half-edge is its far end, NEXT the next at the same node; NAME of the first half-edge of
-// an edge is the edge's name. LEAST is found before the edges are listed, since their list takes the words of POSITION and PARENT.
+// an edge is the edge's name.
 mod edge_list;
 
 use core_words::*;
@@ -94,7 +94,6 @@ pub fn reduce(work: &mut [u32], n: usize, m: usize, k: usize) -> Counts
     let seen = core_forest::spanning_forest(work, n, m, k);
     core_components::merge_components(work, n, m, seen);
     let nodes = core_branches::number_classes(work, n, m, k, seen);
-    core_names::least_names(work, n, m, seen);
     let edges = edge_list::list_edges(work, n, nodes);
     core_names::name_edges(work, n, edges);
     write_numbers(work, n, k);

@@ -57,10 +57,6 @@ TOP = 6
 abbrev pub LIVE : ℕ
 LIVE = 7
 
--- at a top: 1 + the number of the nearest kept class at or above
-abbrev pub NEAREST : ℕ
-NEAREST = 7
-
 -- at a top: 1 + the last branch that was reported to its class, 0 for none
 abbrev pub BRANCH : ℕ
 BRANCH = 8
@@ -93,7 +89,7 @@ ROOT = 12
 abbrev pub EDGE : ℕ
 EDGE = 13
 
--- at a top that is no root: the smallest name between its class and the nearest kept class above
+-- at a number: the smallest name between its class and the nearest kept class above, where there is one
 abbrev pub LEAST : ℕ
 LEAST = 14
 

@@ -31,8 +31,6 @@ pub const TOP: usize = 6;
 
 pub const LIVE: usize = 7;
 
-pub const NEAREST: usize = 7;
-
 pub const BRANCH: usize = 8;
 
 pub const SIBLING: usize = 8;

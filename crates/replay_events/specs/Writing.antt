@@ -1,6 +1,6 @@
 -- What the passes over the events write: word k of event j stands at 2 t + 3 j + k, behind the 2 t junctions. The links by the tags, and the whole.
 -- Assumes nothing: these are definitions.
-use Prim.Native.Nat.{_*_, _+_, _-_, _/_, _<_, _≤_, ℕ}
+use Prim.Native.Nat.{_*_, _+_, _-_, _<_, _≤_, ℕ}
 use mathlib.Core.Bool.{Bool, _&&_, cond, false, true}
 use mathlib.Core.List.{List}
 use mathlib.Core.Path.{_≡_}

@@ -1,26 +1,16 @@
 -- The one named small graph: where the classes without an active node are numbered by their smallest node, ascending, two named small graphs have the same edges and names.
 -- So whatever is a named small graph and so numbered is the contraction with names.
 -- Assumes nothing.
-use Prim.Native.Nat.{_<_, _≤_, suc, zero, ℕ}
+use Prim.Native.Nat.{_<_, ℕ}
 use mathlib.Core.Bool.{true}
 use mathlib.Core.List.{List, List·Memᴰ, map}
-use mathlib.Core.Path.{_∙_, _≡_, ap, subst, sym}
-use lib.Dec.{eqb, ltb}
-use native.Mathlib.Omega.{arith}
-use borrow.Author.Tests.{eq-eqb, eqb-false, eqb-true, ltb-false, ltb-true}
-use Rattle.theory_graph.proofs.Booleans.{contradict, onBool}
+use mathlib.Core.Path.{_∙_, _≡_, subst, sym}
+use lib.Dec.{ltb}
 use Rattle.theory_graph.proofs.Canonical.{same-two}
 use Rattle.theory_graph.proofs.CanonicalContraction.{contract-canon}
-use Rattle.theory_graph.proofs.Lists.{any-find, any-in, map-same}
-use Rattle.theory_graph.proofs.Separation.{insep-sym, insep-trans}
 use Rattle.theory_graph.proofs.SmallGraphDefinition.{definition-small}
-use Rattle.theory_graph.proofs.SmallGraphs.{SmallGraph}
-use Rattle.theory_graph.proofs.Uniqueness.{places-same}
 use Rattle.theory_graph.specs.Contraction.{Contracted, contract, number}
-use Rattle.theory_graph.specs.Cut.{TwoEdgeConnected}
-use Rattle.theory_graph.specs.Graph.{Edge}
-use Rattle.theory_graph.specs.Lists.{any}
-use Rattle.theory_graph.specs.SmallGraph.{Canonical, Idle, endsIn}
+use Rattle.theory_graph.specs.SmallGraph.{Canonical, endsIn}
 use Rattle.theory_names.proofs.NamedContraction.{class-entry, contract-is-named-small, contract-map}
 use Rattle.theory_names.proofs.NamedUniqueness.{named-edges-same, named-renumbered}
 use Rattle.theory_names.specs.NamedSmallGraph.{IsNamedSmallGraph}

@@ -2,22 +2,18 @@
 -- Where their nodes stand for the same classes they are one.
 -- Assumes nothing.
 use Prim.Native.Nat.{_<_, max, min, ℕ}
-use mathlib.Core.Bool.{Bool, false, true}
 use mathlib.Core.List.{List, List·Memᴰ, List·Memᴰ·head, List·Memᴰ·tail, [], _∷_}
-use mathlib.Core.Logic.{_↔_, _⊎_, inl, inr}
 use mathlib.Core.Path.{_∙_, _≡_, ap, ap₂, refl, subst, sym}
 use lib.Dec.{ltb}
 use lib.ListN.{length}
 use native.Mathlib.Omega.{arith}
-use borrow.Author.Tests.{lt-ltb, ltb-false, ltb-true}
-use Rattle.theory_graph.proofs.Booleans.{contradict, onBool}
-use Rattle.theory_graph.proofs.Lists.{map-same}
+use borrow.Author.Tests.{ltb-false, ltb-true}
+use Rattle.theory_graph.proofs.Booleans.{onBool}
 use Rattle.theory_graph.proofs.CutEquivalence.{small-cuts-equal}
 use Rattle.theory_graph.proofs.Renumbering.{renumbered, renumbered-class, renumbered-small}
-use Rattle.theory_graph.proofs.Separation.{insep-sym, insep-trans, same-side, twoEdge-connected}
 use Rattle.theory_graph.proofs.SmallGraphDefinition.{definition-small, small-definition}
 use Rattle.theory_graph.proofs.SmallGraphs.{SmallGraph}
-use Rattle.theory_graph.proofs.Uniqueness.{edges-same, nodes-same, places-same}
+use Rattle.theory_graph.proofs.Uniqueness.{edges-same}
 use Rattle.theory_graph.specs.Cut.{TwoEdgeConnected}
 use Rattle.theory_graph.specs.Graph.{Edge}
 use Rattle.theory_graph.specs.SmallGraph.{Renumbered}

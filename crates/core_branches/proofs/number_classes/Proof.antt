@@ -1,7 +1,7 @@
 -- `number_classes` meets its contract.
 -- Assumes nothing.
 use borrow.Author.Needs.{needs}
-use Rattle.core_branches.proofs.ClassLaws.{can-count, can-nearest, can-number-actives, can-number-others, can-parents, class-numbers}
+use Rattle.core_branches.proofs.ClassLaws.{can-count, can-number-actives, can-number-others, can-parents, class-numbers}
 use Rattle.core_branches.proofs.number_classes.Statement.{statement}
 use Rattle.core_branches.proofs.number_classes.Tie as tie
 
@@ -21,35 +21,24 @@ number-others-requires c κs =
     let start = at-number-actives .before .before .before in
     can-number-others (start .pre) (at-number-actives .number-actives .ensures) (at-count-branches .count-branches .ensures)
 
-nearest-kept-requires : tie.Need-nearest-kept-requires
-nearest-kept-requires c κs =
+parent-numbers-requires : tie.Need-parent-numbers-requires
+parent-numbers-requires c κs =
     let at-number-others = c .before .before .before in
     let at-count-branches = at-number-others .before .before .before .before in
     let at-number-actives = at-count-branches .before .before .before .before in
     let start = at-number-actives .before .before .before in
-    can-nearest (start .pre) (at-number-actives .number-actives .ensures) (at-count-branches .count-branches .ensures)
-    (at-number-others .number-others .ensures)
-
-parent-numbers-requires : tie.Need-parent-numbers-requires
-parent-numbers-requires c κs =
-    let at-nearest-kept = c .before .before .before in
-    let at-number-others = at-nearest-kept .before .before .before .before in
-    let at-count-branches = at-number-others .before .before .before .before in
-    let at-number-actives = at-count-branches .before .before .before .before in
-    let start = at-number-actives .before .before .before in
     can-parents (start .pre) (at-number-actives .number-actives .ensures) (at-count-branches .count-branches .ensures)
-    (at-number-others .number-others .ensures) (at-nearest-kept .nearest-kept .ensures)
+    (at-number-others .number-others .ensures)
 
 returns : tie.Need-returns
 returns c =
     let at-parent-numbers = c .before .before in
-    let at-nearest-kept = at-parent-numbers .before .before .before .before in
-    let at-number-others = at-nearest-kept .before .before .before .before in
+    let at-number-others = at-parent-numbers .before .before .before .before in
     let at-count-branches = at-number-others .before .before .before .before in
     let at-number-actives = at-count-branches .before .before .before .before in
     let start = at-number-actives .before .before .before in
     class-numbers (start .pre) (at-number-actives .number-actives .ensures) (at-count-branches .count-branches .ensures)
-    (at-number-others .number-others .ensures) (at-nearest-kept .nearest-kept .ensures) (at-parent-numbers .parent-numbers .ensures)
+    (at-number-others .number-others .ensures) (at-parent-numbers .parent-numbers .ensures)
 
 pub number-classes-spec : {M : Type 1} → statement M
 number-classes-spec =
@@ -58,7 +47,6 @@ number-classes-spec =
     number-actives-requires
     count-branches-requires
     number-others-requires
-    nearest-kept-requires
     parent-numbers-requires
     (λ c. search needs)
     returns)

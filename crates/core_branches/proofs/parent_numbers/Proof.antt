@@ -3,16 +3,16 @@
 use Prim.Native.Nat.{_-_, _≤_}
 use mathlib.Core.Path.{_≡_}
 use native.Mathlib.Omega.{arith}
-use Rattle.core_branches.proofs.NearestLaws.{parents-can, parents-more, parents-none}
-use Rattle.core_branches.specs.Numbers.{ParentLoop}
+use Rattle.core_branches.proofs.WayLaws.{parents-can, parents-more, parents-none}
+use Rattle.core_branches.specs.Ways.{ParentLoop}
 use Rattle.core_branches.proofs.parent_numbers.Statement.{statement}
 use Rattle.core_branches.proofs.parent_numbers.Tie as tie
 
 abbrev Inv-loop : tie.InvT-loop
-Inv-loop work₀ n h x₀ work x = (x ≤ h) × ParentLoop n work₀ x work
+Inv-loop work₀ n m h x₀ work x = (x ≤ h) × ParentLoop n work₀ x work
 
 abbrev μ-loop : tie.MeasureT-loop
-μ-loop work₀ n h x₀ work x = h - x
+μ-loop work₀ n m h x₀ work x = h - x
 
 loop-holds : tie.Need-loop-holds Inv-loop μ-loop
 loop-holds c = (omega arith, parents-none (c .before .pre))

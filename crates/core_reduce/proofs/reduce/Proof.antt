@@ -1,6 +1,6 @@
 -- `reduce` meets its contract: each pass asks for what those before it ensure.
 -- Assumes nothing.
-use Rattle.core_reduce.proofs.ReduceLaws.{can-clear, can-least, can-link, can-list, can-merge-components, can-name, can-number-classes, can-search, can-write, reduced}
+use Rattle.core_reduce.proofs.ReduceLaws.{can-clear, can-link, can-list, can-merge-components, can-name, can-number-classes, can-search, can-write, reduced}
 use Rattle.core_reduce.proofs.reduce.Statement.{statement}
 use Rattle.core_reduce.proofs.reduce.Tie as tie
 
@@ -33,52 +33,39 @@ number-classes-requires c κs =
     let cleared = linked .before .before .before .before in
     can-number-classes (cleared .before .before .before .pre) (cleared .clear-nodes .ensures) (linked .link-edges .ensures) (searched .spanning-forest .ensures) (merged .merge-components .ensures)
 
-least-names-requires : tie.Need-least-names-requires
-least-names-requires c κs =
+list-edges-requires : tie.Need-list-edges-requires
+list-edges-requires c κs =
     let numbered = c .before .before .before in
     let merged = numbered .before .before .before .before in
     let searched = merged .before .before .before .before in
     let linked = searched .before .before .before .before in
     let cleared = linked .before .before .before .before in
-    can-least (cleared .before .before .before .pre) (cleared .clear-nodes .ensures) (linked .link-edges .ensures) (searched .spanning-forest .ensures)
-    (merged .merge-components .ensures) (numbered .number-classes .ensures)
-
-list-edges-requires : tie.Need-list-edges-requires
-list-edges-requires c κs =
-    let least = c .before .before .before in
-    let numbered = least .before .before .before .before in
-    let merged = numbered .before .before .before .before in
-    let searched = merged .before .before .before .before in
-    let linked = searched .before .before .before .before in
-    let cleared = linked .before .before .before .before in
     can-list (cleared .before .before .before .pre) (cleared .clear-nodes .ensures) (linked .link-edges .ensures) (searched .spanning-forest .ensures)
-    (merged .merge-components .ensures) (numbered .number-classes .ensures) (least .least-names .ensures)
+    (merged .merge-components .ensures) (numbered .number-classes .ensures)
 
 name-edges-requires : tie.Need-name-edges-requires
 name-edges-requires c κs =
     let listed = c .before .before .before in
-    let least = listed .before .before .before .before in
-    let numbered = least .before .before .before .before in
+    let numbered = listed .before .before .before .before in
     let merged = numbered .before .before .before .before in
     let searched = merged .before .before .before .before in
     let linked = searched .before .before .before .before in
     let cleared = linked .before .before .before .before in
     can-name (cleared .before .before .before .pre) (cleared .clear-nodes .ensures) (linked .link-edges .ensures) (searched .spanning-forest .ensures)
-    (merged .merge-components .ensures) (numbered .number-classes .ensures) (least .least-names .ensures)
+    (merged .merge-components .ensures) (numbered .number-classes .ensures)
     (listed .list-edges .ensures)
 
 write-numbers-requires : tie.Need-write-numbers-requires
 write-numbers-requires c κs =
     let named = c .before .before .before in
     let listed = named .before .before .before .before in
-    let least = listed .before .before .before .before in
-    let numbered = least .before .before .before .before in
+    let numbered = listed .before .before .before .before in
     let merged = numbered .before .before .before .before in
     let searched = merged .before .before .before .before in
     let linked = searched .before .before .before .before in
     let cleared = linked .before .before .before .before in
     can-write (cleared .before .before .before .pre) (cleared .clear-nodes .ensures) (linked .link-edges .ensures) (searched .spanning-forest .ensures)
-    (merged .merge-components .ensures) (numbered .number-classes .ensures) (least .least-names .ensures)
+    (merged .merge-components .ensures) (numbered .number-classes .ensures)
     (listed .list-edges .ensures) (named .name-edges .ensures)
 
 returns : tie.Need-returns
@@ -86,14 +73,13 @@ returns c =
     let written = c .before .before in
     let named = written .before .before .before .before in
     let listed = named .before .before .before .before in
-    let least = listed .before .before .before .before in
-    let numbered = least .before .before .before .before in
+    let numbered = listed .before .before .before .before in
     let merged = numbered .before .before .before .before in
     let searched = merged .before .before .before .before in
     let linked = searched .before .before .before .before in
     let cleared = linked .before .before .before .before in
     reduced (cleared .before .before .before .pre) (cleared .clear-nodes .ensures) (linked .link-edges .ensures) (searched .spanning-forest .ensures)
-    (merged .merge-components .ensures) (numbered .number-classes .ensures) (least .least-names .ensures)
+    (merged .merge-components .ensures) (numbered .number-classes .ensures)
     (listed .list-edges .ensures) (named .name-edges .ensures) (written .write-numbers .ensures)
 
 same-length : tie.Need-same-length
@@ -108,7 +94,6 @@ reduce-spec =
     spanning-forest-requires
     merge-components-requires
     number-classes-requires
-    least-names-requires
     list-edges-requires
     name-edges-requires
     write-numbers-requires
