@@ -8,12 +8,12 @@ use lib.ListN.{drop, getD, length, length-drop, length-replicate, length-take, r
 use lib.Seq.{drop-at, getD-take, length-take-le, sets, sets-eq}
 use native.Mathlib.Omega.{arith}
 use borrow.Author.Tests.{ne-eqb}
+use Rattle.call_kinds.specs.Kinds.{isQuery, kindOf}
 use Rattle.call_sizes.specs.Refusal.{Refusal}
 use Rattle.replay_checks.specs.Check.{CheckedTables}
 use Rattle.replay_checks.specs.declared.Checked.{Checked}
-use Rattle.replay_events.proofs.KindLaws.{query-asks}
 use Rattle.replay_events.proofs.WritingLaws.{size-is}
-use Rattle.replay_events.specs.Kinds.{isQuery, queriesBy}
+use Rattle.replay_events.specs.Kinds.{queriesBy}
 use Rattle.replay_events.specs.Writing.{EventsWritten, listOf}
 use Rattle.replay_start.specs.Whole.{ListIn, WholeMade, WholeReady}
 use Rattle.replay_step.specs.Area.{SmallArea}
@@ -27,10 +27,9 @@ use Rattle.theory_timeline.proofs.Counting.{count, count-split}
 use Rattle.theory_timeline.proofs.DemandThree.{accepted-done, bytes-length, demand-3, names-length}
 use Rattle.theory_timeline.specs.Call.{outcome}
 use Rattle.theory_timeline.specs.DemandThree.{KeepsDemand3}
-use Rattle.theory_timeline.specs.Events.{Event, asks, kindOf}
-use Rattle.theory_timeline.specs.Steps.{Sound}
+use Rattle.theory_timeline.specs.Events.{Event}
 use Rattle.theory_timeline.specs.Replay.{Faultless, Lent, Outcome, byte, bytes, done, fault, given, nameAt, namesAt, openAtEnd, queries, refused, replay, required}
-use Rattle.theory_timeline.specs.Windows.{Timeline, event, kept, size, small, windows, windowsFrom}
+use Rattle.theory_timeline.specs.Windows.{Timeline, asksAt, event, kept, size, small, windows, windowsFrom}
 use Rattle.theory_timeline.specs.declared.ReplayReply.the-variants.{Done, Refused}
 use Rattle.call_replay.specs.List.{ListReady, ListReplied}
 
@@ -96,20 +95,20 @@ module _ {n p : ℕ} {a b start x y answers names work : List ℕ} (q : ListRead
       list-replied d = let u = d .replied g (q .events .sound) (omega (arith, m .at, m .events, size-is (q .events))) small-in in rw (m .at, m .events) at u
 
 -- ---- the queries
--- in a list without a fault they are those that ask
-queries-same : (g : Timeline) → Sound g → (x : List ℕ) (t : ℕ) → t ≤ size g → ((i : ℕ) → i < t → getD x i 0 ≡ event g i .0)
-    → queriesBy (g .junctions) x t ≡ count (λ i. asks (event g i)) 0 t
+-- by X alone they are those of the list
+queries-same : (g : Timeline) (x : List ℕ) (t : ℕ) → t ≤ size g → ((i : ℕ) → i < t → getD x i 0 ≡ event g i .0)
+    → queriesBy (g .junctions) x t ≡ count (asksAt g) 0 t
 unfolding queriesBy
-queries-same g sound x zero l h = refl
-queries-same g sound x (suc t) l h =
-    let f : ℕ → Bool = λ i. asks (event g i) in
+queries-same g x zero l h = refl
+queries-same g x (suc t) l h =
+    let f : ℕ → Bool = asksAt g in
     let z : suc t ≡ t + 1 = omega arith in
     let y : 0 + t ≡ t = omega arith in
     let c : _≡_ {A = ℕ} (count f t 1) (cond (f t) 1 0) = count-one (f t) in
     let e : count f 0 (suc t) ≡ count f 0 t + count f t 1 = ap (count f 0) z ∙ count-split f 0 t 1 ∙ ap (λ (k : ℕ). count f 0 t + count f k 1) y in
     let b : _≡_ {A = ℕ} (cond (isQuery (kindOf (g .junctions) (getD x t 0))) 1 0) (cond (f t) 1 0) =
-    ap (λ (v : ℕ). cond (isQuery (kindOf (g .junctions) v)) 1 0) (h t (omega arith)) ∙ ap (λ (b : Bool). cond b 1 0) (query-asks g sound t (omega arith)) in
-    omega (arith, queries-same g sound x t (omega arith) (λ i u. h i (omega arith)))
+    ap (λ (v : ℕ). cond (isQuery (kindOf (g .junctions) v)) 1 0) (h t (omega arith)) in
+    omega (arith, queries-same g x t (omega arith) (λ i u. h i (omega arith)))
   where
     count-one : (b : Bool) → length {A = ℕ} (cond b (t ∷ []) []) ≡ cond b 1 0
     count-one true = refl
@@ -166,9 +165,9 @@ module _ (l : Lent) (p : ℕ) (f : Faultless l p) where
         room = omega (arith, long-x, la);
       }
 
-  queries-are : queriesBy (l .n) (l .x) (l .t) ≡ count (λ i. asks (event (given l) i)) 0 (l .t)
+  queries-are : queriesBy (l .n) (l .x) (l .t) ≡ count (asksAt (given l)) 0 (l .t)
   unfolding given
-  queries-are = queries-same (given l) (accepted-sound l p granted) (l .x) (l .t) (omega (arith, events-length l p granted)) λ i u.
+  queries-are = queries-same (given l) (l .x) (l .t) (omega (arith, events-length l p granted)) λ i u.
       sym (ap (λ (e : Event). e .0) (pairs-at (take (l .t) (l .x)) (take (l .t) (l .y)) i (omega (arith, long-x))
       (omega (arith, length-take-le (l .t) (l .y) (granted .y-long)))) ∙ getD-take (l .t) (l .x) i 0 u)
 
@@ -198,7 +197,7 @@ module _ (l : Lent) (p : ℕ) (f : Faultless l p) where
     done-is {cleared} zs q o eq eo lz ew =
         let lr : length (replicate {A = ℕ} need 0) ≡ need = length-replicate need 0 in
         let lw : length (take need (l .work)) ≡ need = length-take-le need (l .work) (granted .work-long) in
-        let e1 = eq ∙ queries-are ∙ ap (count (λ i. asks (event (given l) i)) 0) (sym (events-length l p granted)) in
+        let e1 = eq ∙ queries-are ∙ ap (count (asksAt (given l)) 0) (sym (events-length l p granted)) in
         let e3 = replied .kept ∙ ap (λ (k : ℕ). sum (map (λ w. (small (given l) w) .nodes) (windowsFrom p k 0 k))) (sym (events-length l p granted)) in
         let e5 = ew ∙ ap (λ (k : ℕ). over (replicate need 0) (zs ++ drop k (l .work))) (sym lr) ∙ over-prefix (replicate need 0) zs (l .work) (lz ∙ lw ∙ sym lr) in
         λ i. record { accepted = true; code = 0; place = 0; queries = e1 i; opened = eo i; kept = e3 i; answers = answers-is i; names = names-is i; work = e5 i }

@@ -11,7 +11,11 @@ use lib.ListN.{getD, length, set, take}
 use lib.Seq.{take-all, take-suc}
 use native.Mathlib.Numerals.{add-one}
 use native.Mathlib.Omega.{arith}
-use borrow.Author.Tests.{eq-eqb, eqb-false, eqb-true, le-ltb, lt-ltb, ltb-false, ltb-true, ne-eqb}
+use borrow.Author.Tests.{eq-eqb, eqb-false, eqb-true, le-ltb, lt-ltb, ltb-false, ne-eqb}
+use Rattle.call_kinds.proofs.KindLaws.{query-keeps}
+use Rattle.call_kinds.specs.Kinds.{isClosing, isOpening, isQuery, kindOf}
+use Rattle.call_kinds.specs.declared.Kind.{Kind}
+use Rattle.call_kinds.specs.declared.Kind.the-variants.{Closes, None, Opens, Query}
 use Rattle.call_open_set.proofs.OpenSetLaws.{stored-length}
 use Rattle.call_open_set.specs.OpenSet.{bits, isOpen}
 use Rattle.call_sizes.proofs.RefusalLaws.{accepted-long, fault-left, fault-right, fault-silent, seek-at, seek-end, short-numbered, sizes-numbered, skip-silent}
@@ -21,11 +25,9 @@ use Rattle.theory_graph.proofs.Booleans.{onBool}
 use Rattle.theory_graph.specs.Lists.{pairs, sum}
 use Rattle.theory_timeline.proofs.Acceptance.{Accepted, accepted-from, accepted-sound, fault-fine, getD-pairs, length-pairs}
 use Rattle.theory_timeline.proofs.Networks.{after-append}
-use Rattle.theory_timeline.specs.Events.{Event, SegmentSet, after, afterAll, kindOf}
+use Rattle.theory_timeline.specs.Events.{Event, SegmentSet, after, afterAll, changes, closes, opens}
 use Rattle.theory_timeline.specs.Replay.{Lent, eventFault, fault, faultAt, faults, given, listFaults, shareFaults, shortTables, tableLengths}
 use Rattle.theory_timeline.specs.Windows.{atStart, openBefore, size}
-use Rattle.theory_timeline.specs.declared.Kind.{Kind}
-use Rattle.theory_timeline.specs.declared.Kind.the-variants.{Closes, Nothing, Opens, Query}
 use Rattle.replay_checks.proofs.SetLaws.{StartsBelow, event-stays, event-stored, open-count, start-below, start-taken}
 use Rattle.replay_checks.specs.Check.{CanCheckList, CheckedEvents, CheckedList, CheckedTables, EventFits, eventsFault, faultOf, tablesOf}
 use Rattle.replay_checks.specs.declared.Checked.{Checked}
@@ -35,12 +37,12 @@ pub below-next : (f : ℕ → Bool) (s : ℕ) → ((u : ℕ) → u < s → f u �
 below-next f s h t u l = onBool (eqb u s) (λ q. ap f (eqb-true u s q) ∙ t) (λ q. let ne : ¬ (u ≡ s) = eqb-false u s q in h u (omega arith))
 
 -- the segments open before the end are those after all events
-ends-with : (l : Lent) (p : ℕ) → Accepted l p → openBefore (given l) (size (given l)) ≡ afterAll (pairs (take (l .t) (l .x)) (take (l .t) (l .y)))
+ends-with : (l : Lent) (p : ℕ) → Accepted l p → openBefore (given l) (size (given l)) ≡ afterAll (l .n) (pairs (take (l .t) (l .x)) (take (l .t) (l .y)))
     (atStart (take (l .m) (l .start)))
 unfolding openBefore given
 ends-with l p a =
     let e = pairs (take (l .t) (l .x)) (take (l .t) (l .y)) in
-    ap (λ (k : List Event). afterAll k (atStart (take (l .m) (l .start)))) (take-all (length e) e (omega arith))
+    ap (λ (k : List Event). afterAll (l .n) k (atStart (take (l .m) (l .start)))) (take-all (length e) e (omega arith))
 
 -- those open at the start are segments: the starting table counts as far as the segments go
 starts-below : (l : Lent) (p : ℕ) → Accepted l p → StartsBelow (given l)
@@ -161,7 +163,7 @@ module _ {n m t : ℕ} {a b start x y : List ℕ} (q : CanCheckList n m t a b st
             let o′ : isOpen first ≡ atStart (take m start) = o ∙ start-taken m start in
             record {
               refusal = k .refusal ∙ ap (λ (o : SegmentSet). eventsFault n m o (pairs (take t x) (take t y)) t) o′ ∙ events-fault;
-              last = λ z. (held, k .last z ∙ ap (afterAll (pairs (take t x) (take t y))) o′, refl);
+              last = λ z. (held, k .last z ∙ ap (afterAll n (pairs (take t x) (take t y))) o′, refl);
             }
 
 -- ---- events
@@ -175,7 +177,7 @@ module _ (n m : ℕ) (o : SegmentSet) (x y : ℕ) where
     | Query ↦ cond (ltb y n) 0 5
     | Opens ↦ cond (ltb y m) (cond (o y) 6 0) 5
     | Closes ↦ cond (ltb y m) (cond (o y) 0 7) 5
-    | Nothing ↦ 5
+    | None ↦ 5
   ]
 
   fault-kind : (k : Kind) → kindOf n x ≡ k → eventFault n m o (x, y) ≡ value k
@@ -206,18 +208,18 @@ module _ (n m : ℕ) (o : SegmentSet) (x y : ℕ) where
   pub closes-closed : kindOf n x ≡ Closes → y < m → o y ≡ false → 7 ≡ eventFault n m o (x, y)
   closes-closed k l t = sym (fault-kind Closes k ∙ ap₂ (λ (b c : Bool). choose b (choose c 0 7) 5) (lt-ltb y m l) t)
 
-  pub nothing-bad : kindOf n x ≡ Nothing → 5 ≡ eventFault n m o (x, y)
-  nothing-bad k = sym (fault-kind Nothing k)
+  pub none-bad : kindOf n x ≡ None → 5 ≡ eventFault n m o (x, y)
+  none-bad k = sym (fault-kind None k)
 
 -- the loop: i events without a fault, and the segments open after them where those of o are open before the first
 pub record Passing (n m : ℕ) (o : SegmentSet) (t : ℕ) (x y held : List ℕ) (i : ℕ) : Type 0 where
   pub low : i ≤ t
   pub words : length held ≡ 128
-  pub held-open : isOpen held ≡ afterAll (take i (pairs (take t x) (take t y))) o
+  pub held-open : isOpen held ≡ afterAll n (take i (pairs (take t x) (take t y))) o
   pub fine : (u : ℕ) → u < i → not (eqb (faultOf n m o (pairs (take t x) (take t y)) u) 0) ≡ false
 
 module _ {n m : ℕ} {o : SegmentSet} {t : ℕ} {x y held : List ℕ} {i : ℕ} (p : Passing n m o t x y held i) (l : i < t)
-    (ready : (t ≤ length x) × (t ≤ length y) × (m ≤ 8192) × (n ≤ 4096)) (r : ℕ) (e : r ≡ eventFault n m (isOpen held) (getD x i 0, getD y i 0)) where
+    (ready : (t ≤ length x) × (t ≤ length y) × (m ≤ 8192)) (r : ℕ) (e : r ≡ eventFault n m (isOpen held) (getD x i 0, getD y i 0)) where
   abbrev evs : List Event
   evs = pairs (take t x) (take t y)
 
@@ -244,16 +246,16 @@ module _ {n m : ℕ} {o : SegmentSet} {t : ℕ} {x y held : List ℕ} {i : ℕ} 
       }
 
   pub event-fits : r ≡ 0 → EventFits n held (getD x i 0) (getD y i 0)
-  event-fits z = record { words = p .words; m = m; few = ready .3; much = ready .2; fine = sym e ∙ z }
+  event-fits z = record { words = p .words; m = m; much = ready .2; fine = sym e ∙ z }
 
-  pub event-passes : r ≡ 0 → (next : List ℕ) → length next ≡ 128 → isOpen next ≡ after (getD x i 0, getD y i 0) (isOpen held) → Passing n m o t x y next (i + 1)
+  pub event-passes : r ≡ 0 → (next : List ℕ) → length next ≡ 128 → isOpen next ≡ after n (getD x i 0, getD y i 0) (isOpen held) → Passing n m o t x y next (i + 1)
   event-passes z next k q =
       record {
         low = omega arith;
         words = k;
         held-open =
-            q ∙ ap₂ (λ (v : Event) (w : SegmentSet). after v w) (sym (getD-pairs t x y i lx ly l)) (p .held-open) ∙ after-append (take i evs) (getD evs i (0, 0) ∷ []) o
-            ∙ ap (λ (l : List Event). afterAll l o) (sym (ap (λ k. take k evs) (add-one i) ∙ take-suc evs i (0, 0) (omega (arith, length-pairs t x y lx ly))));
+            q ∙ ap₂ (λ (v : Event) (w : SegmentSet). after n v w) (sym (getD-pairs t x y i lx ly l)) (p .held-open) ∙ after-append n (take i evs) (getD evs i (0, 0) ∷ []) o
+            ∙ ap (λ (l : List Event). afterAll n l o) (sym (ap (λ k. take k evs) (add-one i) ∙ take-suc evs i (0, 0) (omega (arith, length-pairs t x y lx ly))));
         fine = below-next (λ u. not (eqb (faultOf n m o evs u) 0)) i (p .fine) (ap not (eq-eqb (faultOf n m o evs i) 0 (sym fault-is ∙ z)));
       }
 
@@ -265,78 +267,42 @@ events-pass {n} {m} {o} {t} {x} {y} {held} {i} p q lx ly =
     let s : i ≡ seek (λ i. not (eqb (faultOf n m o evs i) 0)) 0 t = q ∙ sym (seek-end (λ i. not (eqb (faultOf n m o evs i) 0)) 0 t (λ u _ k. p .fine u (omega arith)) ∙ omega arith) in
     record {
       refusal = sym (ap (λ (k : ℕ). cond (ltb k t) (faultOf n m o evs k, k) (0, 0)) (sym s) ∙ ap (λ (c : Bool). cond c (faultOf n m o evs i, i) (0, 0)) (le-ltb i t (omega arith)));
-      last = λ _. p .held-open ∙ ap (λ (k : List Event). afterAll k o) (take-all i evs (omega (arith, length-pairs t x y lx ly)));
+      last = λ _. p .held-open ∙ ap (λ (k : List Event). afterAll n k o) (take-all i evs (omega (arith, length-pairs t x y lx ly)));
     }
 
 pub passing-none : (n m t : ℕ) (x y held : List ℕ) → length held ≡ 128 → Passing n m (isOpen held) t x y held 0
 passing-none n m t x y held l = record { low = omega arith; words = l; held-open = refl; fine = λ u h. absurd (omega arith) }
 
 -- ---- the set after an event without a fault, by its kind
-rank : Kind → ℕ
-rank k = elim k [ Query ↦ 0 | Opens ↦ 1 | Closes ↦ 2 | Nothing ↦ 3 ]
-
-module _ (n x : ℕ) where
-  ranked : (k : Kind) → kindOf n x ≡ k → rank (cond (ltb x n) Query (cond (eqb x 65535) Opens (cond (eqb x 65534) Closes Nothing))) ≡ rank k
-  ranked k e = ap rank e
-
-  kind-opens : kindOf n x ≡ Opens → eqb x 65535 ≡ true
-  unfolding rank
-  kind-opens e = go (ltb x n) (eqb x 65535) (eqb x 65534) (ranked Opens e)
-    where
-      go : (q a c : Bool) → rank (cond q Query (cond a Opens (cond c Closes Nothing))) ≡ 1 → a ≡ true
-      go true a c h = absurd (omega arith)
-      go false true c h = refl
-      go false false true h = absurd (omega arith)
-      go false false false h = absurd (omega arith)
-
-  kind-closes : kindOf n x ≡ Closes → (eqb x 65535 ≡ false) × (eqb x 65534 ≡ true)
-  unfolding rank
-  kind-closes e = go (ltb x n) (eqb x 65535) (eqb x 65534) (ranked Closes e)
-    where
-      go : (q a c : Bool) → rank (cond q Query (cond a Opens (cond c Closes Nothing))) ≡ 2 → (a ≡ false) × (c ≡ true)
-      go true a c h = absurd (omega arith)
-      go false true c h = absurd (omega arith)
-      go false false true h = (refl, refl)
-      go false false false h = absurd (omega arith)
-
-  kind-query : kindOf n x ≡ Query → x < n
-  unfolding rank
-  kind-query e = ltb-true x n (go (ltb x n) (eqb x 65535) (eqb x 65534) (ranked Query e))
-    where
-      go : (q a c : Bool) → rank (cond q Query (cond a Opens (cond c Closes Nothing))) ≡ 0 → q ≡ true
-      go true a c h = refl
-      go false true c h = absurd (omega arith)
-      go false false true h = absurd (omega arith)
-      go false false false h = absurd (omega arith)
-
 module _ {n : ℕ} {held : List ℕ} {x y : ℕ} (q : EventFits n held x y) where
   abbrev After : List ℕ → Type 0
-  After next = (length next ≡ 128) × (isOpen next ≡ after (x, y) (isOpen held))
+  After next = (length next ≡ 128) × (isOpen next ≡ after n (x, y) (isOpen held))
 
-  named-fits : (eqb x 65535 || eqb x 65534) ≡ true → y < 8192
-  named-fits t = let f = fault-fine n (q .m) (isOpen held) (x, y) (q .few) (q .fine) .segment t in omega (arith, q .much)
+  named-fits : changes n (x, y) ≡ true → y < 8192
+  named-fits t = let f = fault-fine n (q .m) (isOpen held) (x, y) (q .fine) .segment t in omega (arith, q .much)
 
   set-opened : kindOf n x ≡ Opens → (next : List ℕ) → bits next ≡ set (bits held) y 1 → After next
+  unfolding isOpening
   set-opened k next e =
-      let o = kind-opens n x k in
-      let t : (eqb x 65535 || eqb x 65534) ≡ true = ap (λ (b : Bool). b || eqb x 65534) o in
-      (stored-length held next y 1 (q .words) e, event-stored held next x y 1 (q .words) t (named-fits t) (sym o) e)
+      let o : opens n (x, y) ≡ true = ap isOpening k in
+      let t : changes n (x, y) ≡ true = ap (λ (b : Bool). b || closes n (x, y)) o in
+      (stored-length held next y 1 (q .words) e, event-stored n held next (x, y) 1 (q .words) t (named-fits t) (sym o) e)
 
   set-closed : kindOf n x ≡ Closes → (next : List ℕ) → bits next ≡ set (bits held) y 0 → After next
+  unfolding isOpening isClosing
   set-closed k next e =
-      let (o, c) = kind-closes n x k in
-      let t : (eqb x 65535 || eqb x 65534) ≡ true = ap₂ _||_ o c in
-      (stored-length held next y 0 (q .words) e, event-stored held next x y 0 (q .words) t (named-fits t) (sym o) e)
+      let o : opens n (x, y) ≡ false = ap isOpening k in
+      let t : changes n (x, y) ≡ true = ap₂ _||_ o (ap isClosing k) in
+      (stored-length held next y 0 (q .words) e, event-stored n held next (x, y) 0 (q .words) t (named-fits t) (sym o) e)
 
   set-asked : kindOf n x ≡ Query → After held
-  set-asked k =
-      let u = kind-query n x k in
-      (q .words, event-stays held x y (ap₂ _||_ (ne-eqb x 65535 (λ z. omega (arith, q .few))) (ne-eqb x 65534 (λ z. omega (arith, q .few)))))
+  unfolding isQuery
+  set-asked k = (q .words, event-stays n held (x, y) (query-keeps (kindOf n x) (ap isQuery k)))
 
   -- whatever the kind: the set that is held then
   pub changed : (next : List ℕ) → ((kindOf n x ≡ Query) × (next ≡ held)) ⊎ (((kindOf n x ≡ Opens) × (bits next ≡ set (bits held) y 1))
-      ⊎ (((kindOf n x ≡ Closes) × (bits next ≡ set (bits held) y 0)) ⊎ (kindOf n x ≡ Nothing))) → After next
+      ⊎ (((kindOf n x ≡ Closes) × (bits next ≡ set (bits held) y 0)) ⊎ (kindOf n x ≡ None))) → After next
   changed next (inl (k, e)) = subst After (sym e) (set-asked k)
   changed next (inr (inl (k, e))) = set-opened k next e
   changed next (inr (inr (inl (k, e)))) = set-closed k next e
-  changed next (inr (inr (inr k))) = absurd (omega (arith, q .fine, nothing-bad n (q .m) (isOpen held) x y k))
+  changed next (inr (inr (inr k))) = absurd (fault-fine n (q .m) (isOpen held) (x, y) (q .fine) .some k)

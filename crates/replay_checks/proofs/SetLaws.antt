@@ -2,7 +2,7 @@
 -- there are.
 -- Assumes nothing.
 use Prim.Native.Nat.{_+_, _-_, _/_, _<_, _≤_, suc, zero, ℕ}
-use mathlib.Core.Bool.{Bool, _&&_, _||_, cond, false, true}
+use mathlib.Core.Bool.{Bool, _&&_, cond, false, true}
 use mathlib.Core.List.{List, [], _++_, _∷_}
 use mathlib.Core.Path.{_∙_, _≡_, ap, ap₂, fun-ext, refl, sym}
 use lib.Dec.{eqb, ltb}
@@ -18,21 +18,21 @@ use Rattle.theory_graph.specs.Lists.{sum}
 use Rattle.theory_timeline.proofs.Acceptance.{sound-fine}
 use Rattle.theory_timeline.proofs.Counting.{count, count-cons, count-split}
 use Rattle.theory_timeline.proofs.TagLaws.{open-next}
-use Rattle.theory_timeline.specs.Events.{after, closes, names, opens}
+use Rattle.theory_timeline.specs.Events.{Event, after, changes, names, opens}
 use Rattle.theory_timeline.specs.Replay.{openAtEnd}
 use Rattle.theory_timeline.specs.Steps.{Sound}
-use Rattle.theory_timeline.specs.Windows.{Timeline, atStart, event, openBefore, size}
+use Rattle.theory_timeline.specs.Windows.{Timeline, atStart, changesAt, event, openBefore, opensAt, size}
 
 -- ---- an event
-module _ (held next : List ℕ) (x y v : ℕ) (l : length held ≡ 128) (n : (eqb x 65535 || eqb x 65534) ≡ true) (u : y < 8192) (b : eqb v 1 ≡ eqb x 65535)
-    (q : bits next ≡ set (bits held) y v) where
-  pub event-stored : isOpen next ≡ after (x, y) (isOpen held)
+module _ (n : ℕ) (held next : List ℕ) (e : Event) (v : ℕ) (l : length held ≡ 128) (c : changes n e ≡ true) (u : e .1 < 8192) (b : eqb v 1 ≡ opens n e)
+    (q : bits next ≡ set (bits held) (e .1) v) where
+  pub event-stored : isOpen next ≡ after n e (isOpen held)
   event-stored =
-      fun-ext (λ k. stored held next y v l u q k ∙ ap (λ c. cond (eqb k y) c (isOpen held k)) b
-      ∙ sym (ap (λ c. cond (c && eqb k y) (eqb x 65535) (isOpen held k)) n))
+      fun-ext (λ k. stored held next (e .1) v l u q k ∙ ap (λ c. cond (eqb k (e .1)) c (isOpen held k)) b
+      ∙ sym (ap (λ c. cond (c && eqb k (e .1)) (opens n e) (isOpen held k)) c))
 
-pub event-stays : (held : List ℕ) (x y : ℕ) → (eqb x 65535 || eqb x 65534) ≡ false → isOpen held ≡ after (x, y) (isOpen held)
-event-stays held x y n = fun-ext (λ k. sym (ap (λ c. cond (c && eqb k y) (eqb x 65535) (isOpen held k)) n))
+pub event-stays : (n : ℕ) (held : List ℕ) (e : Event) → changes n e ≡ false → isOpen held ≡ after n e (isOpen held)
+event-stays n held e c = fun-ext (λ k. sym (ap (λ c. cond (c && eqb k (e .1)) (opens n e) (isOpen held k)) c))
 
 -- ---- at the start
 -- a starting table counts as far as its first m entries
@@ -69,13 +69,13 @@ StartsBelow g = (s : ℕ) → g .start s ≡ true → s < length (g .segments)
 pub open-below : (g : Timeline) → Sound g → StartsBelow g → (i : ℕ) → i ≤ size g → (s : ℕ) → openBefore g i s ≡ true → s < length (g .segments)
 unfolding openBefore
 open-below g o b zero l s h = b s h
-open-below g o b (suc i) l s h = go (names (event g i) s) refl (ap (λ (f : ℕ → Bool). f s) (sym (open-suc ∙ open-next g i (omega arith))) ∙ h) (open-below g o b i (omega arith) s)
+open-below g o b (suc i) l s h = go (names (g .junctions) (event g i) s) refl (ap (λ (f : ℕ → Bool). f s) (sym (open-suc ∙ open-next g i (omega arith))) ∙ h) (open-below g o b i (omega arith) s)
   where
     open-suc : openBefore g (suc i) ≡ openBefore g (i + 1)
     open-suc = ap (openBefore g) (sym (add-one i))
 
-    go : (b : Bool) → names (event g i) s ≡ b → cond b (opens (event g i)) (openBefore g i s) ≡ true → (openBefore g i s ≡ true → s < length (g .segments)) → s < length (g .segments)
-    go true q h f = and-elim (opens (event g i) || closes (event g i)) (eqb s (event g i .1)) q λ u v. let k = sound-fine g o i (omega arith) .segment
+    go : (b : Bool) → names (g .junctions) (event g i) s ≡ b → cond b (opensAt g i) (openBefore g i s) ≡ true → (openBefore g i s ≡ true → s < length (g .segments)) → s < length (g .segments)
+    go true q h f = and-elim (changesAt g i) (eqb s (event g i .1)) q λ u v. let k = sound-fine g o i (omega arith) .segment
         u in omega (arith, eqb-true s (event g i .1) v)
     go false q h f = f h
 

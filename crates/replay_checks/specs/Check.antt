@@ -17,7 +17,7 @@ use Rattle.replay_checks.specs.declared.Checked.{Checked}
 -- ---- events
 -- the fault of event i of a list, over n junctions and m segments, where those of o are open before it
 unfoldable pub faultOf : ℕ → ℕ → SegmentSet → List Event → ℕ → ℕ
-faultOf n m o evs i = eventFault n m (afterAll (take i evs) o) (getD evs i (0, 0))
+faultOf n m o evs i = eventFault n m (afterAll n (take i evs) o) (getD evs i (0, 0))
 
 -- the first event of t that shows a fault
 unfoldable pub eventsFault : ℕ → ℕ → SegmentSet → List Event → ℕ → Refusal
@@ -29,14 +29,13 @@ eventsFault n m o evs t =
 pub record EventFits (n : ℕ) (held : List ℕ) (x y : ℕ) : Type 0 where
   pub words : length held ≡ 128
   pub m : ℕ
-  pub few : n ≤ 4096
   pub much : m ≤ 8192
   pub fine : eventFault n m (isOpen held) (x, y) ≡ 0
 
 -- the first fault, and where there is none the set that is open at the end
 pub record CheckedEvents (n m : ℕ) (o : SegmentSet) (evs : List Event) (t code place : ℕ) (held : List ℕ) : Type 0 where
   pub refusal : (code, place) ≡ eventsFault n m o evs t
-  pub last : code ≡ 0 → isOpen held ≡ afterAll evs o
+  pub last : code ≡ 0 → isOpen held ≡ afterAll n evs o
 
 -- ---- a whole input
 -- what is known where neither a size nor a length is refused
@@ -58,7 +57,7 @@ tablesOf n m t a b start x y = lent n m t a b start x y [] [] []
 pub record CheckedList (n m t p : ℕ) (a b start x y : List ℕ) (r : Checked) : Type 0 where
   pub refusal : (r .code, r .place) ≡ firstFault (shareFaults p ++ listFaults (tablesOf n m t a b start x y))
   pub last : r .code ≡ 0
-      → (held : List ℕ) × (isOpen held ≡ afterAll (pairs (take t x) (take t y)) (atStart (take m start))) × (r .«open» ≡ sum (bits held))
+      → (held : List ℕ) × (isOpen held ≡ afterAll n (pairs (take t x) (take t y)) (atStart (take m start))) × (r .«open» ≡ sum (bits held))
 
 -- the first fault; where there is none, how many segments are open at the end
 pub record CheckedTables (l : Lent) (p : ℕ) (r : Checked) : Type 0 where

@@ -1,6 +1,6 @@
 // The checks of a replay, in document 01's order. They read the tables only.
+use call_kinds::Kind;
 use call_sizes::Fault;
-use theory_timeline::Kind;
 ghost use mathlib.Core.Path.{_≡_};
 ghost use Prim.Native.Nat.{_≤_};
 ghost use lib.ListN.{length, take};
@@ -43,7 +43,7 @@ fn event_fault(n: usize, m: usize, held: &[u64; 128], x: u16, y: usize) -> usize
     requires { ⌜ length (now held) ≡ 128 ⌝ }
     ensures { λ r. ⌜ r ≡ eventFault n m (isOpen (now (held .entry))) (x, y) ⌝ }
 {
-    let kind = theory_timeline::kind_of(x, n);
+    let kind = call_kinds::kind_of(x, n);
     match kind {
         Kind::Query => {
             if y < n {
@@ -71,7 +71,7 @@ fn event_fault(n: usize, m: usize, held: &[u64; 128], x: u16, y: usize) -> usize
             }
             return 7;
         }
-        Kind::Nothing => {
+        Kind::None => {
             return 5;
         }
     }
@@ -79,7 +79,7 @@ fn event_fault(n: usize, m: usize, held: &[u64; 128], x: u16, y: usize) -> usize
 
 // The first fault of the t events, where the segments of `first` are open before them: the open set is handed on from event to event.
 fn check_events(n: usize, m: usize, t: usize, x: &[u16], y: &[u16], first: [u64; 128]) -> Held
-    requires { ⌜ (t ≤ length (now x)) × (t ≤ length (now y)) × (m ≤ 8192) × (n ≤ 4096) ⌝ }
+    requires { ⌜ (t ≤ length (now x)) × (t ≤ length (now y)) × (m ≤ 8192) ⌝ }
     ensures { λ r. ⌜ CheckedEvents n m (isOpen first) (pairs (take t (now (x .entry))) (take t (now (y .entry)))) t (r .code) (r .place) (r .held) ⌝ }
 {
     let mut held = first;
@@ -97,7 +97,7 @@ fn check_events(n: usize, m: usize, t: usize, x: &[u16], y: &[u16], first: [u64;
             };
         }
         // The set is copied where it changes, and not at a query.
-        match theory_timeline::kind_of(kind, n) {
+        match call_kinds::kind_of(kind, n) {
             Kind::Query => {}
             Kind::Opens => {
                 held = call_open_set::opened(held, s);
@@ -105,7 +105,7 @@ fn check_events(n: usize, m: usize, t: usize, x: &[u16], y: &[u16], first: [u64;
             Kind::Closes => {
                 held = call_open_set::closed(held, s);
             }
-            Kind::Nothing => {}
+            Kind::None => {}
         }
         i += 1;
     }

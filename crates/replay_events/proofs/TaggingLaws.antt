@@ -10,22 +10,25 @@ use lib.ListN.{getD, length, length-set, set}
 use lib.Seq.{getD-set-other, getD-set-same}
 use native.Mathlib.Numerals.{add-one}
 use native.Mathlib.Omega.{arith}
-use borrow.Author.Tests.{eq-eqb, eqb-false, eqb-true, ne-eqb, not-false}
+use borrow.Author.Tests.{eq-eqb, eqb-false, eqb-true, ne-eqb}
+use Rattle.call_kinds.proofs.KindLaws.{closing-alone}
+use Rattle.call_kinds.specs.Kinds.{isClosing, isQuery, kindOf}
+use Rattle.call_kinds.specs.declared.Kind.{Kind}
+use Rattle.call_kinds.specs.declared.Kind.the-variants.{Closes, None, Opens, Query}
 use Rattle.replay_roads.specs.Runs.{run}
 use Rattle.theory_graph.proofs.Booleans.{onBool}
-use Rattle.theory_timeline.proofs.Acceptance.{sound-fine, sound-segment}
-use Rattle.theory_timeline.proofs.CountLaws.{count-closes, count-opens, count-query, count-stays, road-open}
+use Rattle.theory_timeline.proofs.Acceptance.{sound-changes, sound-fine, sound-segment}
+use Rattle.theory_timeline.proofs.CountLaws.{count-closes, count-opens, count-unnamed, count-stays, road-open}
+use Rattle.theory_timeline.proofs.EventLaws.{asks-changes}
 use Rattle.theory_timeline.proofs.RoadLaws.{road-most}
-use Rattle.theory_timeline.proofs.TagLaws.{word-change, word-query}
-use Rattle.theory_timeline.specs.Events.{Event, asks, closes, kindOf, opens}
+use Rattle.theory_timeline.proofs.TagLaws.{word-change, word-none}
+use Rattle.theory_timeline.specs.Events.{Event}
 use Rattle.theory_timeline.specs.Roads.{road}
 use Rattle.theory_timeline.specs.Steps.{Sound}
 use Rattle.theory_timeline.specs.Tags.{bit, key, openCount, tag, word}
-use Rattle.theory_timeline.specs.Windows.{Timeline, event, openBefore, size}
-use Rattle.theory_timeline.specs.declared.Kind.{Kind}
-use Rattle.theory_timeline.specs.declared.Kind.the-variants.{Closes, Nothing, Opens, Query}
-use Rattle.replay_events.proofs.KindLaws.{Tells, kind-tells}
-use Rattle.replay_events.specs.Kinds.{isClosing, isQuery, kindAt}
+use Rattle.theory_timeline.specs.Windows.{Timeline, changesAt, closesAt, event, openBefore, opensAt, size}
+use Rattle.replay_events.proofs.KindLaws.{count-kind}
+use Rattle.replay_events.specs.Kinds.{kindAt}
 use Rattle.replay_events.specs.Tagging.{ChangePut, TagPut, TagReady, Tagged, TagsReady, countAfter, countAt, countsBy, tagBy, tagsBy}
 
 -- ---- how far a count goes
@@ -34,7 +37,7 @@ unfolding countAfter
 after-most Query c = omega arith
 after-most Opens c = omega arith
 after-most Closes c = omega arith
-after-most Nothing c = omega arith
+after-most None c = omega arith
 
 module _ (n : ℕ) (x y : List ℕ) (N C : ℕ → ℕ) where
   counts-most : (i r : ℕ) → countsBy n x y N C i r ≤ C r + i
@@ -77,13 +80,6 @@ change-put n x s names counts at w r c d u er ec ed eu r′ c′ d′ er′ ec�
     ap₂ (λ (k v : ℕ). set (set w (counts + k) v) at u) e1 e3 ∙ ap (set (set w (counts + r′) d′) at) (eu ∙ ap₂ (λ (k v : ℕ). tagBy k v d) e1 e2 ∙ ap (tagBy r′ c′) e3)
 
 -- ---- one event more
-closing-names : (k : Kind) → isClosing k ≡ true → isQuery k ≡ false
-unfolding isClosing isQuery
-closing-names Query h = sym h
-closing-names Opens h = refl
-closing-names Closes h = refl
-closing-names Nothing h = refl
-
 pub tagged-none : (n : ℕ) (x y : List ℕ) (names counts : ℕ) (w : List ℕ) → Tagged n x y names counts w w 0
 unfolding countsBy
 tagged-none n x y names counts w = record { long = refl; tags = λ j l. absurd (omega arith); counted = λ r l. refl; else = λ d l h. refl }
@@ -193,14 +189,24 @@ module _ {g : Timeline} {x y : List ℕ} {N C : ℕ → ℕ} (q : Listed g x y N
   n = g .junctions
 
   module _ (i : ℕ) (l : i < size g) where
-    pub told : Tells (kindAt n x i) (opens (event g i)) (closes (event g i))
-    told = subst (λ (e : Event). Tells (kindOf n (e .0)) (opens (event g i)) (closes (event g i))) (q .events i l) (kind-tells g (q .sound) i l)
+    kind-is : kindAt n x i ≡ kindOf n (event g i .0)
+    kind-is = ap (λ (e : Event). kindOf n (e .0)) (sym (q .events i l))
+
+    -- a query names no segment, and every other event does
+    asked-not : isQuery (kindAt n x i) ≡ true → changesAt g i ≡ false
+    asked-not h = asks-changes n (event g i) (sym (ap isQuery kind-is) ∙ h)
+
+    changes-is : isQuery (kindAt n x i) ≡ false → changesAt g i ≡ true
+    changes-is h = sound-changes g (q .sound) i l ∙ ap not (sym (ap isQuery kind-is) ∙ h)
+
+    count-at : (c : ℕ) → countAfter (kindAt n x i) c ≡ cond (opensAt g i) (c + 1) (cond (closesAt g i) (c - 1) c)
+    count-at c = ap (λ (k : Kind). countAfter k c) kind-is ∙ count-kind (kindOf n (event g i .0)) c
 
     second : getD y i 0 ≡ event g i .1
     second = ap (λ (e : Event). e .1) (sym (q .events i l))
 
     pub segment-in : isQuery (kindAt n x i) ≡ false → getD y i 0 < length (g .segments)
-    segment-in h = omega (arith, second, sound-segment g (q .sound) i l (sym (told .query) ∙ h))
+    segment-in h = omega (arith, second, sound-segment g (q .sound) i l (changes-is h))
 
     key-is : isQuery (kindAt n x i) ≡ false → N (getD y i 0) ≡ key g i
     key-is h = q .named (getD y i 0) (segment-in h) ∙ ap (road (g .segments)) second
@@ -217,28 +223,28 @@ module _ {g : Timeline} {x y : List ℕ} {N C : ℕ → ℕ} (q : Listed g x y N
       let ih = counts-are i (omega arith) r k in
       let u : i < size g = omega arith in
       ap (λ (j : ℕ). countsBy n x y N C j r) z ∙ onBool (isQuery (kindAt n x i))
-      (λ h. counts-query n x y N C i r h ∙ ih ∙ sym (count-query g i u (sym (told i u .query) ∙ h) r))
+      (λ h. counts-query n x y N C i r h ∙ ih ∙ sym (count-unnamed g i u (asked-not i u h) r))
       (λ h. onBool (eqb r (key g i))
       (λ t. let e = eqb-true r (key g i) t in
       let f : N (getD y i 0) ≡ r = key-is i u h ∙ sym e in
-      sym (ap (countsBy n x y N C (i + 1)) f) ∙ counts-own n x y N C i h ∙ told i u .count (countAt n x y N C i)
-      ∙ ap (λ (c : ℕ). cond (opens (event g i)) (c + 1) (cond (closes (event g i)) (c - 1) c)) (ap (countsBy n x y N C i) f ∙ ih)
-      ∙ own i u r e (sym (told i u .query) ∙ h))
+      sym (ap (countsBy n x y N C (i + 1)) f) ∙ counts-own n x y N C i h ∙ count-at i u (countAt n x y N C i)
+      ∙ ap (λ (c : ℕ). cond (opensAt g i) (c + 1) (cond (closesAt g i) (c - 1) c)) (ap (countsBy n x y N C i) f ∙ ih)
+      ∙ own i u r e (changes-is i u h))
       (λ t. let e = eqb-false r (key g i) t in
       counts-other n x y N C i r (λ f. e (f ∙ key-is i u h)) ∙ ih ∙ sym (count-stays g i u r e)))
       ∙ ap (λ (j : ℕ). openCount g j r) (sym z)
     where
-      own : (i : ℕ) (u : i < size g) (r : ℕ) → r ≡ key g i → asks (event g i) ≡ false
-          → cond (opens (event g i)) (openCount g i r + 1) (cond (closes (event g i)) (openCount g i r - 1) (openCount g i r)) ≡ openCount g (i + 1) r
+      own : (i : ℕ) (u : i < size g) (r : ℕ) → r ≡ key g i → changesAt g i ≡ true
+          → cond (opensAt g i) (openCount g i r + 1) (cond (closesAt g i) (openCount g i r - 1) (openCount g i r)) ≡ openCount g (i + 1) r
       own i u r e h =
           let s = sound-segment g (q .sound) i u h in
           let f = sound-fine g (q .sound) i u in
-          subst (λ (r : ℕ). cond (opens (event g i)) (openCount g i r + 1) (cond (closes (event g i)) (openCount g i r - 1) (openCount g i r)) ≡ openCount g (i + 1) r) (sym e)
-          (onBool (opens (event g i))
-          (λ o. ap (λ (b : Bool). cond b (openCount g i (key g i) + 1) (cond (closes (event g i)) (openCount g i (key g i) - 1) (openCount g i (key g i)))) o
+          subst (λ (r : ℕ). cond (opensAt g i) (openCount g i r + 1) (cond (closesAt g i) (openCount g i r - 1) (openCount g i r)) ≡ openCount g (i + 1) r) (sym e)
+          (onBool (opensAt g i)
+          (λ o. ap (λ (b : Bool). cond b (openCount g i (key g i) + 1) (cond (closesAt g i) (openCount g i (key g i) - 1) (openCount g i (key g i)))) o
           ∙ sym (count-opens g i u o s (f .fresh o)))
           (λ o.
-          let c : closes (event g i) ≡ true = sym (ap (λ (b : Bool). b || closes (event g i)) o) ∙ not-false (opens (event g i) || closes (event g i)) h in
+          let c : closesAt g i ≡ true = sym (ap (λ (b : Bool). b || closesAt g i) o) ∙ h in
           ap₂ (λ (a b : Bool). cond a (openCount g i (key g i) + 1) (cond b (openCount g i (key g i) - 1) (openCount g i (key g i)))) o c
           ∙ omega (arith, count-closes g i u c o s (f .stale c))))
 
@@ -246,15 +252,14 @@ module _ {g : Timeline} {x y : List ℕ} {N C : ℕ → ℕ} (q : Listed g x y N
     -- where a segment closes, its road has an open one
     pub closing-open : isClosing (kindAt n x i) ≡ true → 0 < countAt n x y N C i
     closing-open h =
-        let c : closes (event g i) ≡ true = sym (told i l .closing) ∙ h in
-        let k = closing-names (kindAt n x i) h in
-        let o : opens (event g i) ≡ false = let e = eqb-true (event g i .0) 65534 c in ne-eqb (event g i .0) 65535 (λ z. omega arith) in
-        let a : asks (event g i) ≡ false = sym (told i l .query) ∙ k in
+        let c : closesAt g i ≡ true = sym (ap isClosing (kind-is i l)) ∙ h in
+        let (k, _) = closing-alone (kindAt n x i) h in
+        let (_, o) = closing-alone (kindOf n (event g i .0)) c in
         omega (
           arith,
           ap (countsBy n x y N C i) (key-is i l k),
           counts-are i (omega arith) (key g i) (key-fits i l k),
-          count-closes g i l c o (sound-segment g (q .sound) i l a) (sound-fine g (q .sound) i l .stale c),
+          count-closes g i l c o (sound-segment g (q .sound) i l (changes-is i l k)) (sound-fine g (q .sound) i l .stale c),
         )
 
     -- the tag of event i
@@ -262,7 +267,7 @@ module _ {g : Timeline} {x y : List ℕ} {N C : ℕ → ℕ} (q : Listed g x y N
     unfolding tagsBy
     tags-are = onBool (isQuery (kindAt n x i))
         (λ h. ap (λ (b : Bool). cond b 0 (tagBy (N (getD y i 0)) (countAt n x y N C i) (countAfter (kindAt n x i) (countAt n x y N C i)))) h
-        ∙ sym (word-query g i 0 (sym (told i l .query) ∙ h)))
+        ∙ sym (word-none g i 0 (asked-not i l h)))
         (λ h.
         let k = key-is i l h in
         let before : countAt n x y N C i ≡ openCount g i (key g i) = ap (countsBy n x y N C i) k ∙ counts-are i (omega arith) (key g i) (key-fits i l h) in
@@ -270,4 +275,4 @@ module _ {g : Timeline} {x y : List ℕ} {N C : ℕ → ℕ} (q : Listed g x y N
         sym (counts-own n x y N C i h) ∙ ap (countsBy n x y N C (i + 1)) k ∙ counts-are (i + 1) (omega arith) (key g i) (key-fits i l h) in
         ap (λ (b : Bool). cond b 0 (tagBy (N (getD y i 0)) (countAt n x y N C i) (countAfter (kindAt n x i) (countAt n x y N C i)))) h
         ∙ ap₂ (λ (r c : ℕ). tagBy r c (countAfter (kindAt n x i) (countAt n x y N C i))) k before ∙ ap (tagBy (key g i) (openCount g i (key g i))) after
-        ∙ sym (word-change g i (sym (told i l .query) ∙ h) .0 ∙ tag-counts g i))
+        ∙ sym (word-change g i (changes-is i l h) .0 ∙ tag-counts g i))

@@ -2,7 +2,7 @@
 -- In order: the tags' names; words one after another; the junctions; the links to the last event and to the next; the whole.
 -- Assumes nothing.
 use Prim.Native.Nat.{_%_, _*_, _+_, _-_, _/_, _<_, _≤_, min, suc, zero, ℕ}
-use mathlib.Core.Bool.{Bool, _&&_, _||_, cond, false, true}
+use mathlib.Core.Bool.{Bool, _&&_, cond, false, not, true}
 use mathlib.Core.List.{List, [], _++_, _∷_}
 use mathlib.Core.Path.{_∙_, _≡_, ap, ap₂, refl, subst, sym}
 use lib.Dec.{eqb, ltb}
@@ -10,7 +10,8 @@ use lib.ListN.{drop, getD, getD-replicate, length, length-drop, length-replicate
 use lib.Seq.{ext-getD, getD-drop, getD-set-other, getD-set-same, getD-take, length-sets, length-take-le, sets, take-all, take-suc, take-take}
 use native.Mathlib.Numerals.{add-one}
 use native.Mathlib.Omega.{arith}
-use borrow.Author.Tests.{eq-eqb, eqb-false, eqb-true, ltb-false, ltb-true, ne-eqb, not-false}
+use borrow.Author.Tests.{eq-eqb, eqb-false, eqb-true, ltb-false, ltb-true, ne-eqb}
+use Rattle.call_kinds.specs.Kinds.{isQuery, kindOf}
 use Rattle.call_sizes.proofs.RefusalLaws.{seek-here, seek-more, seek-past}
 use Rattle.call_sizes.specs.Refusal.{seek}
 use Rattle.theory_graph.proofs.Booleans.{onBool}
@@ -19,23 +20,23 @@ use Rattle.theory_graph.proofs.TableLaws.{pairs-at, pairs-length, sets-append}
 use Rattle.theory_graph.specs.Graph.{Edge}
 use Rattle.theory_graph.specs.Lists.{pairs}
 use Rattle.theory_graph.specs.SmallGraph.{endsIn}
-use Rattle.theory_timeline.proofs.Acceptance.{pairs-equal, pairs-most, sound-segment}
+use Rattle.theory_timeline.proofs.Acceptance.{pairs-equal, pairs-most, sound-changes, sound-segment}
 use Rattle.theory_timeline.proofs.CountLaws.{open-most}
 use Rattle.theory_timeline.proofs.Counting.{bit-most}
 use Rattle.theory_timeline.proofs.RoadLaws.{road-most}
-use Rattle.theory_timeline.proofs.TagLaws.{names-none, tag-says, word-change, word-query, words-at, words-length}
-use Rattle.theory_timeline.specs.Events.{Event, activeOf, asks, closes, ends, kindOf, opens}
+use Rattle.theory_timeline.proofs.TagLaws.{names-none, tag-says, word-change, word-none, words-at, words-length}
+use Rattle.theory_timeline.specs.Events.{Event, activeOf, asks, ends}
 use Rattle.theory_timeline.specs.Roads.{road}
 use Rattle.theory_timeline.specs.Steps.{Sound}
 use Rattle.theory_timeline.specs.Tags.{eventWords, key, keyOf, last, namesKey, next, seekLast, tag, word}
-use Rattle.theory_timeline.specs.Windows.{Timeline, active, during, event, openBefore, roadsBefore, size}
+use Rattle.theory_timeline.specs.Windows.{Timeline, active, changesAt, during, event, openBefore, roadsBefore, size}
+use Rattle.replay_step.proofs.StepLaws.{active-length}
 use Rattle.replay_step.proofs.WordLaws.{map-self, mid-sets}
 use Rattle.replay_step.specs.Area.{EventsIn}
 use Rattle.replay_roads.specs.Counting.{RoadTables, RoadsCounted}
 use Rattle.replay_roads.specs.Runs.{run}
-use Rattle.replay_events.proofs.KindLaws.{ends-word, query-asks}
 use Rattle.replay_events.proofs.TaggingLaws.{Listed, closing-open, counts-are, tags-are}
-use Rattle.replay_events.specs.Kinds.{endsBy, isQuery, junctionsBy, kindAt}
+use Rattle.replay_events.specs.Kinds.{kindAt}
 use Rattle.replay_events.specs.Tagging.{Tagged, TagsReady}
 use Rattle.replay_events.specs.Writing.{CanPlace, CanWriteEvents, EventsWritten, LinkRoom, LinkedEvent, TagsFit, Written}
 use Rattle.replay_events.specs.Writing.{lastBy, listOf, namesTag, nextBy, tagsIn}
@@ -51,19 +52,19 @@ seek-same f h i (suc k) e = ap₂ (λ (b : Bool) (r : ℕ). cond b i r) (e i (om
 
 module _ (g : Timeline) (T : ℕ → ℕ) (h : (j : ℕ) → j < size g → T j ≡ word g 0 j) where
   pub names-tag : (k j : ℕ) → j < size g → namesTag T k j ≡ namesKey g k j
-  names-tag k j l = ap (λ (x : ℕ). ltb 0 x && eqb k (keyOf x)) (h j l) ∙ onBool (asks (event g j))
-      (λ q. ap (λ (x : ℕ). ltb 0 x && eqb k (keyOf x)) (word-query g j 0 q) ∙ sym (names-none g j k q))
+  names-tag k j l = ap (λ (x : ℕ). ltb 0 x && eqb k (keyOf x)) (h j l) ∙ onBool (changesAt g j)
       (λ q. let s = tag-says g j in
       ap (λ (x : ℕ). ltb 0 x && eqb k (keyOf x)) (word-change g j q .0) ∙ ap₂ (λ (b : Bool) (x : ℕ). b && eqb k x) (s .change) (s .named)
-      ∙ sym (ap (λ (b : Bool). b && eqb k (key g j)) (not-false (opens (event g j) || closes (event g j)) q)))
+      ∙ sym (ap (λ (b : Bool). b && eqb k (key g j)) q))
+      (λ q. ap (λ (x : ℕ). ltb 0 x && eqb k (keyOf x)) (word-none g j 0 q) ∙ sym (names-none g j k q))
 
   module _ (j : ℕ) (l : j < size g) where
-    -- a link by the tags: 0 for a query, and for an event that opens or closes by its key
-    by-tag : (A : ℕ → ℕ) (k : ℕ) (v : ℕ) → (asks (event g j) ≡ false → word g k j ≡ v) → (asks (event g j) ≡ false → A (key g j) ≡ v) → cond (ltb 0 (T j)) (A (keyOf (T j))) 0 ≡ word g k j
-    by-tag A k v p q = ap (λ (x : ℕ). cond (ltb 0 x) (A (keyOf x)) 0) (h j l) ∙ onBool (asks (event g j))
-        (λ a. ap (λ (x : ℕ). cond (ltb 0 x) (A (keyOf x)) 0) (word-query g j 0 a) ∙ sym (word-query g j k a))
+    -- a link by the tags: 0 where the event names no segment, and for one that opens or closes by its key
+    by-tag : (A : ℕ → ℕ) (k : ℕ) (v : ℕ) → (changesAt g j ≡ true → word g k j ≡ v) → (changesAt g j ≡ true → A (key g j) ≡ v) → cond (ltb 0 (T j)) (A (keyOf (T j))) 0 ≡ word g k j
+    by-tag A k v p q = ap (λ (x : ℕ). cond (ltb 0 x) (A (keyOf x)) 0) (h j l) ∙ onBool (changesAt g j)
         (λ a. let s = tag-says g j in
         ap (λ (x : ℕ). cond (ltb 0 x) (A (keyOf x)) 0) (word-change g j a .0) ∙ ap₂ (λ (b : Bool) (x : ℕ). cond b (A x) 0) (s .change) (s .named) ∙ q a ∙ sym (p a))
+        (λ a. ap (λ (x : ℕ). cond (ltb 0 x) (A (keyOf x)) 0) (word-none g j 0 a) ∙ sym (word-none g j k a))
 
     pub last-word : lastBy T j ≡ word g 2 j
     unfolding lastBy last
@@ -102,67 +103,55 @@ pub tags-stay : {t k : ℕ} {f : ℕ → ℕ} {a b : ℕ} {w z : List ℕ} → W
 tags-stay {t} q s l i = q .else (2 * t + 3 * i) (λ j a b r. omega arith)
 
 -- ---- the junctions
-junctions-snoc : (n : ℕ) (segs : List Edge) (evs : List Event) (e : Event) → junctionsBy n segs (evs ++ (e ∷ [])) ≡ junctionsBy n segs evs ++ (endsBy n segs e .0 ∷ endsBy n segs e .1 ∷ [])
-unfolding junctionsBy
+junctions-snoc : (n : ℕ) (segs : List Edge) (evs : List Event) (e : Event) → activeOf n segs (evs ++ (e ∷ [])) ≡ activeOf n segs evs ++ (ends n segs e .0 ∷ ends n segs e .1 ∷ [])
+unfolding activeOf
 junctions-snoc n segs [] e = refl
-junctions-snoc n segs (d ∷ evs) e = ap (λ l. endsBy n segs d .0 ∷ endsBy n segs d .1 ∷ l) (junctions-snoc n segs evs e)
-
-junctions-length : (n : ℕ) (segs : List Edge) (evs : List Event) → length (junctionsBy n segs evs) ≡ 2 * length evs
-unfolding junctionsBy
-junctions-length n segs [] = refl
-junctions-length n segs (e ∷ evs) = omega (arith, junctions-length n segs evs)
+junctions-snoc n segs (d ∷ evs) e = ap (λ l. ends n segs d .0 ∷ ends n segs d .1 ∷ l) (junctions-snoc n segs evs e)
 
 -- the junctions of the first i events are written
 pub record Placed (n : ℕ) (a b x y w z : List ℕ) (i : ℕ) : Type 0 where
   pub most : i ≤ length x
-  pub is : z ≡ sets w 0 (junctionsBy n (pairs a b) (take i (pairs x y)))
+  pub is : z ≡ sets w 0 (activeOf n (pairs a b) (take i (pairs x y)))
 
 pub placed-none : (n : ℕ) (a b x y w : List ℕ) → Placed n a b x y w w 0
-unfolding junctionsBy
+unfolding activeOf
 placed-none n a b x y w = record { most = omega arith; is = refl }
 
 pub placed-length : {n : ℕ} {a b x y w z : List ℕ} {i : ℕ} → Placed n a b x y w z i → length z ≡ length w
-placed-length {n} {a} {b} {x} {y} {w} {z} {i} q = ap length (q .is) ∙ length-sets w 0 (junctionsBy n (pairs a b) (take i (pairs x y)))
+placed-length {n} {a} {b} {x} {y} {w} {z} {i} q = ap length (q .is) ∙ length-sets w 0 (activeOf n (pairs a b) (take i (pairs x y)))
 
-junctions-more : (n : ℕ) (segs : List Edge) (x y : List ℕ) (i : ℕ) (w z : List ℕ) → i < length x → length y ≡ length x → z ≡ sets w 0 (junctionsBy n segs (take i (pairs x y)))
-    → set (set z (2 * i) (endsBy n segs (getD x i 0, getD y i 0) .0)) (2 * i + 1) (endsBy n segs (getD x i 0, getD y i 0) .1) ≡ sets w 0 (junctionsBy n segs (take (i + 1) (pairs x y)))
+junctions-more : (n : ℕ) (segs : List Edge) (x y : List ℕ) (i : ℕ) (w z : List ℕ) → i < length x → length y ≡ length x → z ≡ sets w 0 (activeOf n segs (take i (pairs x y)))
+    → set (set z (2 * i) (ends n segs (getD x i 0, getD y i 0) .0)) (2 * i + 1) (ends n segs (getD x i 0, getD y i 0) .1) ≡ sets w 0 (activeOf n segs (take (i + 1) (pairs x y)))
 junctions-more n segs x y i w z l q e =
     let p = pairs-length x y (i + 1) (omega arith) (omega arith) in
     let ev : Event = (getD x i 0, getD y i 0) in
-    let A : List ℕ = junctionsBy n segs (take i (pairs x y)) in
-    let la : 0 + length A ≡ 2 * i = omega (arith, junctions-length n segs (take i (pairs x y)), length-take-le i (pairs x y) (omega arith)) in
+    let A : List ℕ = activeOf n segs (take i (pairs x y)) in
+    let la : 0 + length A ≡ 2 * i = omega (arith, active-length n segs (take i (pairs x y)), length-take-le i (pairs x y) (omega arith)) in
     let s : 2 * i + 1 ≡ suc (2 * i) = omega arith in
     let t : take (i + 1) (pairs x y) ≡ take i (pairs x y) ++ (ev ∷ []) =
     ap (λ k. take k (pairs x y)) (add-one i) ∙ take-suc (pairs x y) i (0, 0) (omega arith) ∙ ap (λ (v : Event). take i (pairs x y) ++ (v ∷ [])) (pairs-at x y i l (omega arith)) in
-    ap₂ (λ (z : List ℕ) (k : ℕ). set (set z (2 * i) (endsBy n segs ev .0)) k (endsBy n segs ev .1)) e s
-    ∙ ap (λ (k : ℕ). sets (sets w 0 A) k (endsBy n segs ev .0 ∷ endsBy n segs ev .1 ∷ [])) (sym la)
-    ∙ sym (sets-append A w 0 (endsBy n segs ev .0 ∷ endsBy n segs ev .1 ∷ []))
-    ∙ ap (sets w 0) (sym (ap (junctionsBy n segs) t ∙ junctions-snoc n segs (take i (pairs x y)) ev))
+    ap₂ (λ (z : List ℕ) (k : ℕ). set (set z (2 * i) (ends n segs ev .0)) k (ends n segs ev .1)) e s
+    ∙ ap (λ (k : ℕ). sets (sets w 0 A) k (ends n segs ev .0 ∷ ends n segs ev .1 ∷ [])) (sym la)
+    ∙ sym (sets-append A w 0 (ends n segs ev .0 ∷ ends n segs ev .1 ∷ []))
+    ∙ ap (sets w 0) (sym (ap (activeOf n segs) t ∙ junctions-snoc n segs (take i (pairs x y)) ev))
 
-junctions-all : (n : ℕ) (segs : List Edge) (x y : List ℕ) (i : ℕ) (w z : List ℕ) → i ≡ length x → z ≡ sets w 0 (junctionsBy n segs (take i (pairs x y)))
-    → z ≡ sets w 0 (junctionsBy n segs (pairs x y))
-junctions-all n segs x y i w z l e = e ∙ ap (λ l. sets w 0 (junctionsBy n segs l)) (take-all i (pairs x y) (pairs-most x y i (omega arith)))
+junctions-all : (n : ℕ) (segs : List Edge) (x y : List ℕ) (i : ℕ) (w z : List ℕ) → i ≡ length x → z ≡ sets w 0 (activeOf n segs (take i (pairs x y)))
+    → z ≡ sets w 0 (activeOf n segs (pairs x y))
+junctions-all n segs x y i w z l e = e ∙ ap (λ l. sets w 0 (activeOf n segs l)) (take-all i (pairs x y) (pairs-most x y i (omega arith)))
 
 pub placed-more : {n : ℕ} {a b x y w z : List ℕ} {i : ℕ} → Placed n a b x y w z i → i < length x → length y ≡ length x → {z′ : List ℕ}
-    → z′ ≡ set (set z (2 * i) (endsBy n (pairs a b) (getD x i 0, getD y i 0) .0)) (2 * i + 1) (endsBy n (pairs a b) (getD x i 0, getD y i 0) .1) → Placed n a b x y w z′ (i + 1)
+    → z′ ≡ set (set z (2 * i) (ends n (pairs a b) (getD x i 0, getD y i 0) .0)) (2 * i + 1) (ends n (pairs a b) (getD x i 0, getD y i 0) .1) → Placed n a b x y w z′ (i + 1)
 placed-more {n} {a} {b} {x} {y} {w} {z} {i} q l e {z′} h = record { most = omega arith; is = h ∙ junctions-more n (pairs a b) x y i w z l e (q .is) }
 
-pub placed-all : {n : ℕ} {a b x y w z : List ℕ} {i : ℕ} → Placed n a b x y w z i → i ≡ length x → z ≡ sets w 0 (junctionsBy n (pairs a b) (pairs x y))
+pub placed-all : {n : ℕ} {a b x y w z : List ℕ} {i : ℕ} → Placed n a b x y w z i → i ≡ length x → z ≡ sets w 0 (activeOf n (pairs a b) (pairs x y))
 placed-all {n} {a} {b} {x} {y} {w} {z} {i} q e = junctions-all n (pairs a b) x y i w z e (q .is)
-
--- of a list without a fault they are its active junctions
-junctions-same : (n : ℕ) (segs : List Edge) (evs : List Event) → ((i : ℕ) → i < length evs → endsBy n segs (getD evs i (0, 0)) ≡ ends segs (getD evs i (0, 0)))
-    → junctionsBy n segs evs ≡ activeOf segs evs
-unfolding junctionsBy activeOf
-junctions-same n segs [] h = refl
-junctions-same n segs (e ∷ evs) h = ap₂ (λ (p : ℕ × ℕ) (l : List ℕ). p .0 ∷ p .1 ∷ l) (h 0 (omega arith)) (junctions-same n segs evs (λ i l. h (suc i) (omega arith)))
 
 -- what is written of one event
 module _ (n : ℕ) (a b : List ℕ) (x y : ℕ) where
-  pub ends-asked : isQuery (kindOf n x) ≡ true → endsBy n (pairs a b) (x, y) ≡ (x, y)
+  pub ends-asked : isQuery (kindOf n x) ≡ true → ends n (pairs a b) (x, y) ≡ (x, y)
   ends-asked h = ap (λ (c : Bool). cond c (x, y) (getD (pairs a b) y (0, 0))) h
 
-  pub ends-named : isQuery (kindOf n x) ≡ false → y < length a → y < length b → endsBy n (pairs a b) (x, y) ≡ (getD a y 0, getD b y 0)
+  pub ends-named : isQuery (kindOf n x) ≡ false → y < length a → y < length b → ends n (pairs a b) (x, y) ≡ (getD a y 0, getD b y 0)
   ends-named h l k = ap (λ (c : Bool). cond c (x, y) (getD (pairs a b) y (0, 0))) h ∙ pairs-at a b y l k
 
 pub ends-put : (w : List ℕ) (i u v : ℕ) (e : Event) → e ≡ (u, v) → set (set w (2 * i) u) (2 * i + 1) v ≡ set (set w (2 * i) (e .0)) (2 * i + 1) (e .1)
@@ -330,9 +319,9 @@ tag-most g j = omega (arith, bit-most (roadsBefore g j (key g j)), bit-most (roa
 
 -- a tag has a key below 8,192
 pub word-most : (g : Timeline) → Sound g → (j : ℕ) → j < size g → word g 0 j ≤ 32768
-word-most g sound j l = onBool (asks (event g j))
-    (λ h. omega (arith, word-query g j 0 h))
+word-most g sound j l = onBool (changesAt g j)
     (λ h. omega (arith, word-change g j h .0, tag-most g j, sound-segment g sound j l h, road-most (g .segments) (event g j .1), sound .segments-few))
+    (λ h. omega (arith, word-none g j 0 h))
 
 pub same-front : (k : ℕ) (w z : List ℕ) → length z ≡ length w → ((d : ℕ) → d < k → getD z d 0 ≡ getD w d 0) → take k z ≡ take k w
 same-front k w z l h = ext-getD 0 (take k z) (take k w) (length-take k z ∙ ap (λ (n : ℕ). min k n) l ∙ sym (length-take k w)) λ i u.
@@ -340,10 +329,10 @@ same-front k w z l h = ext-getD 0 (take k z) (take k w) (length-take k z ∙ ap 
     getD-take k z i 0 b ∙ h i b ∙ sym (getD-take k w i 0 b)
 
 pub word-key : (g : Timeline) → Sound g → (j : ℕ) → j < size g → 0 < word g 0 j → keyOf (word g 0 j) < length (g .segments)
-word-key g sound j l s = onBool (asks (event g j))
-    (λ h. absurd (omega (arith, word-query g j 0 h)))
+word-key g sound j l s = onBool (changesAt g j)
     (λ h. subst (λ (k : ℕ). k < length (g .segments)) (sym (ap keyOf (word-change g j h .0) ∙ tag-says g j .named))
     (omega (arith, sound-segment g sound j l h, road-most (g .segments) (event g j .1))))
+    (λ h. absurd (omega (arith, word-none g j 0 h)))
 
 -- both ends of each segment are junctions
 pub ends-low : (n : ℕ) (a b : List ℕ) → length b ≡ length a → endsIn (λ v. ltb v n) (pairs a b) ≡ true → (s : ℕ) → s < length a → (getD a s 0 < n) × (getD b s 0 < n)
@@ -388,17 +377,17 @@ module _ {n : ℕ} {a b start x y w : List ℕ} (c : CanWriteEvents n a b start 
       }
 
   abbrev J : List ℕ
-  J = junctionsBy n (pairs a b) (pairs x y)
+  J = activeOf n (pairs a b) (pairs x y)
 
   J-length : length J ≡ 2 * t
-  J-length = junctions-length n (pairs a b) (pairs x y) ∙ ap (λ (k : ℕ). 2 * k) size-is
+  J-length = active-length n (pairs a b) (pairs x y) ∙ ap (λ (k : ℕ). 2 * k) size-is
 
   -- an event that is no query names a segment of both tables
   named-in : (i : ℕ) → i < t → isQuery (kindAt n x i) ≡ false → getD y i 0 < m
   named-in i l h =
       let s : i < size g = omega (arith, size-is) in
       let e = event-is i l in
-      let k : asks (event g i) ≡ false = sym (query-asks g (c .sound) i s) ∙ ap (λ (e : Event). isQuery (kindOf n (e .0))) e ∙ h in
+      let k : changesAt g i ≡ true = sound-changes g (c .sound) i s ∙ ap not (ap (λ (e : Event). asks n e) e ∙ h) in
       omega (arith, sound-segment g (c .sound) i s k, ap (λ (e : Event). e .1) e, segments-are)
 
   -- the roads are counted (w₀)
@@ -481,9 +470,7 @@ module _ {n : ℕ} {a b start x y w : List ℕ} (c : CanWriteEvents n a b start 
 
             junctions : J ≡ active g (0, t)
             unfolding active during
-            junctions =
-                junctions-same n (pairs a b) (pairs x y) (λ i l. let s : i < size g = l in ends-word g (c .sound) i s)
-                ∙ ap (activeOf (pairs a b)) (sym (take-all t (pairs x y) (pairs-most x y t (omega arith))))
+            junctions = ap (activeOf n (pairs a b)) (sym (take-all t (pairs x y) (pairs-most x y t (omega arith))))
 
             word-4 : (j k : ℕ) → j < t → k < 3 → getD w₄ (2 * t + 3 * j + k) 0 ≡ word g k j
             word-4 j zero l u =

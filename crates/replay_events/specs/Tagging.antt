@@ -8,17 +8,17 @@ use mathlib.Core.List.{List}
 use mathlib.Core.Path.{_≡_}
 use lib.Dec.{eqb, ltb}
 use lib.ListN.{getD, length, set}
-use Rattle.replay_events.specs.Kinds.{isClosing, isQuery, kindAt}
+use Rattle.call_kinds.specs.Kinds.{isClosing, isQuery, kindOf}
+use Rattle.call_kinds.specs.declared.Kind.{Kind}
+use Rattle.call_kinds.specs.declared.Kind.the-variants.{Closes, None, Opens, Query}
+use Rattle.replay_events.specs.Kinds.{kindAt}
 use Rattle.replay_roads.specs.Runs.{run}
-use Rattle.theory_timeline.specs.Events.{kindOf}
 use Rattle.theory_timeline.specs.Tags.{bit}
-use Rattle.theory_timeline.specs.declared.Kind.{Kind}
-use Rattle.theory_timeline.specs.declared.Kind.the-variants.{Closes, Nothing, Opens, Query}
 
 -- ---- one event
 -- the count of a road after an event of this kind that names one of its segments
 unfoldable pub countAfter : Kind → ℕ → ℕ
-countAfter k c = elim k [ Query ↦ c | Opens ↦ c + 1 | Closes ↦ c - 1 | Nothing ↦ c ]
+countAfter k c = elim k [ Query ↦ c | Opens ↦ c + 1 | Closes ↦ c - 1 | None ↦ c ]
 
 -- the tag of such an event by its road, and by the counts before and after it
 abbrev pub tagBy : ℕ → ℕ → ℕ → ℕ

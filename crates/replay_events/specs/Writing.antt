@@ -8,7 +8,8 @@ use lib.Dec.{eqb, ltb}
 use lib.ListN.{getD, length, set, take}
 use Rattle.call_sizes.specs.Refusal.{seek}
 use Rattle.theory_graph.specs.Lists.{pairs}
-use Rattle.replay_events.specs.Kinds.{isQuery, kindAt}
+use Rattle.call_kinds.specs.Kinds.{isQuery}
+use Rattle.replay_events.specs.Kinds.{kindAt}
 use Rattle.replay_step.specs.Area.{EventsIn}
 use Rattle.theory_timeline.specs.Steps.{Sound}
 use Rattle.theory_timeline.specs.Tags.{keyOf, openCount, seekLast}

@@ -1,39 +1,26 @@
 // What the recursion needs of the events, at the front of the work table: the two junctions of each event, and its three words (theory_timeline's Tags).
-// Here alone the tables of the events are read, and kinds are told by `kind_of`.
+// Here the tables of the events are read for the last time, and kinds are told by call_kinds.
 mod tags;
 
-use theory_timeline::Kind;
 ghost use mathlib.Core.Path.{_≡_};
 ghost use mathlib.Core.Bool.{cond, false};
 ghost use Prim.Native.Nat.{_+_, _*_, _<_, _≤_};
 ghost use lib.ListN.{length, set};
 ghost use lib.Seq.{sets};
 ghost use Rattle.theory_graph.specs.Lists.{pairs};
-ghost use Rattle.theory_timeline.specs.Events.{kindOf};
-ghost use Rattle.replay_events.specs.Kinds.{endsBy, isQuery, junctionsBy, queriesBy};
+ghost use Rattle.call_kinds.specs.Kinds.{isQuery, kindOf};
+ghost use Rattle.theory_timeline.specs.Events.{activeOf, ends};
+ghost use Rattle.replay_events.specs.Kinds.{queriesBy};
 ghost use Rattle.replay_events.specs.Writing.{CanPlace, CanWriteEvents, EventsWritten, LinkRoom, LinkedEvent, TagsFit, Written, lastBy, nextBy, tagsIn};
-
-// Whether an event with this X is a query.
-pub(crate) fn is_query(x: u16, n: usize) -> bool
-    ensures { λ r. ⌜ r ≡ isQuery (kindOf n x) ⌝ }
-{
-    let kind = theory_timeline::kind_of(x, n);
-    match kind {
-        Kind::Query => true,
-        Kind::Opens => false,
-        Kind::Closes => false,
-        Kind::Nothing => false,
-    }
-}
 
 // Writes the two junctions of event i.
 fn put_ends(n: usize, a: &[u16], b: &[u16], x: u16, y: u16, i: usize, work: &mut [u32])
     requires { ⌜ (2 * i + 2 ≤ length (now work)) × (isQuery (kindOf n x) ≡ false → (y < length (now a)) × (y < length (now b))) ⌝ }
     ensures { λ _. ⌜ now (work .exit) ≡
-        set (set (now (work .entry)) (2 * i) (endsBy n (pairs (now (a .entry)) (now (b .entry))) (x, y) .0))
-        (2 * i + 1) (endsBy n (pairs (now (a .entry)) (now (b .entry))) (x, y) .1) ⌝ }
+        set (set (now (work .entry)) (2 * i) (ends n (pairs (now (a .entry)) (now (b .entry))) (x, y) .0))
+        (2 * i + 1) (ends n (pairs (now (a .entry)) (now (b .entry))) (x, y) .1) ⌝ }
 {
-    let asks = is_query(x, n);
+    let asks = call_kinds::is_query(x, n);
     if asks {
         work[2 * i] = x as u32;
         work[2 * i + 1] = y as u32;
@@ -48,7 +35,7 @@ fn put_ends(n: usize, a: &[u16], b: &[u16], x: u16, y: u16, i: usize, work: &mut
 fn put_junctions(n: usize, a: &[u16], b: &[u16], x: &[u16], y: &[u16], work: &mut [u32])
     requires { ⌜ CanPlace n (now a) (now b) (now x) (now y) (now work) ⌝ }
     ensures { λ _. ⌜ now (work .exit) ≡
-        sets (now (work .entry)) 0 (junctionsBy n (pairs (now (a .entry)) (now (b .entry))) (pairs (now (x .entry)) (now (y .entry)))) ⌝ }
+        sets (now (work .entry)) 0 (activeOf n (pairs (now (a .entry)) (now (b .entry))) (pairs (now (x .entry)) (now (y .entry)))) ⌝ }
 {
     let mut i: usize = 0;
     // The junctions of the first i events are written.
@@ -135,7 +122,7 @@ pub fn write_events(
 fn one_if_query(x: u16, n: usize) -> usize
     ensures { λ r. ⌜ r ≡ cond (isQuery (kindOf n x)) 1 0 ⌝ }
 {
-    let asks = is_query(x, n);
+    let asks = call_kinds::is_query(x, n);
     if asks {
         return 1;
     }

@@ -1,13 +1,12 @@
 // The tags of all events, in one pass with a count of open segments for each road.
-use theory_timeline::Kind;
+use call_kinds::Kind;
 ghost use Prim.Native.Nat.{_<_, _≤_};
 ghost use mathlib.Core.Bool.{true};
 ghost use mathlib.Core.Path.{_≡_};
 ghost use lib.Dec.{ltb};
 ghost use lib.ListN.{length};
-ghost use Rattle.replay_events.specs.Kinds.{isClosing};
+ghost use Rattle.call_kinds.specs.Kinds.{isClosing, kindOf};
 ghost use Rattle.replay_events.specs.Tagging.{ChangePut, ChangeReady, TagPut, TagReady, Tagged, TagsReady, countAfter, tagBy};
-ghost use Rattle.theory_timeline.specs.Events.{kindOf};
 ghost use Rattle.theory_timeline.specs.Tags.{bit};
 
 // How many segments of a road are open after an event with this X that names one of them, where c are before.
@@ -15,12 +14,12 @@ pub(crate) fn count_after(x: u16, n: usize, c: usize) -> usize
     requires { ⌜ (c ≤ 12288) × (isClosing (kindOf n x) ≡ true → 0 < c) ⌝ }
     ensures { λ r. ⌜ (r ≡ countAfter (kindOf n x) c) × (r ≤ 12289) ⌝ }
 {
-    let kind = theory_timeline::kind_of(x, n);
+    let kind = call_kinds::kind_of(x, n);
     match kind {
         Kind::Query => c,
         Kind::Opens => c + 1,
         Kind::Closes => c - 1,
-        Kind::Nothing => c,
+        Kind::None => c,
     }
 }
 
@@ -76,7 +75,7 @@ pub(crate) fn put_tag(
     requires { ⌜ TagReady n x s names counts at (now work) ⌝ }
     ensures { λ _. ⌜ TagPut n x s names counts at (now (work .entry)) (now (work .exit)) ⌝ }
 {
-    let asks = crate::is_query(x, n);
+    let asks = call_kinds::is_query(x, n);
     if asks {
         work[at] = 0;
         return;

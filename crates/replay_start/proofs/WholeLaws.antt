@@ -136,7 +136,7 @@ module _ {n t : ℕ} {a b : List ℕ} {counts : ℕ} {v : List ℕ} {g : Timelin
       ∙ ap (λ (l : List ℕ). getD l (3 * j + 0) 0) (q .events .words) ∙ words-at g 0 t j 0 l (omega arith) ∙ ap (word g 0) y
 
   -- ---- its network: the roads that are open at the start and that no event names by its tag
-  named-is : (r : ℕ) → namedRoads (g .segments) (during g (0, t)) r ≡ namedBy (2 * t) 0 t v r
+  named-is : (r : ℕ) → namedRoads (g .junctions) (g .segments) (during g (0, t)) r ≡ namedBy (2 * t) 0 t v r
   named-is r =
       let z : t - 0 ≡ t = omega arith in
       let e = q .all in
@@ -145,9 +145,9 @@ module _ {n t : ℕ} {a b : List ℕ} {counts : ℕ} {v : List ℕ} {g : Timelin
       ∙ any-same _ (namesKey g r) 0 t (λ j a b. names-tag g (tagsFrom (2 * t) v) (λ i u. tags-are i (omega arith)) r j (omega arith)))
 
   -- a road that no event names is open at the end where it is at the start
-  open-is : (r : ℕ) → r < length a → (roadsBefore g 0 r && not (namedRoads (g .segments) (during g (0, t)) r))
+  open-is : (r : ℕ) → r < length a → (roadsBefore g 0 r && not (namedRoads (g .junctions) (g .segments) (during g (0, t)) r))
       ≡ (ltb 0 (getD v (counts + r) 0) && not (namedBy (2 * t) 0 t v r))
-  open-is r l = onBool (namedRoads (g .segments) (during g (0, t)) r)
+  open-is r l = onBool (namedRoads (g .junctions) (g .segments) (during g (0, t)) r)
       (λ h. ap (λ (b : Bool). roadsBefore g 0 r && not b) h ∙ and-false (roadsBefore g 0 r)
       ∙ sym (ap (λ (b : Bool). ltb 0 (getD v (counts + r) 0) && not b) (sym (named-is r) ∙ h) ∙ and-false (ltb 0 (getD v (counts + r) 0))))
       (λ h.
@@ -161,8 +161,8 @@ module _ {n t : ℕ} {a b : List ℕ} {counts : ℕ} {v : List ℕ} {g : Timelin
   network-is : length b ≡ length a → pick (λ r. ltb 0 (getD v (counts + r) 0) && not (namedBy (2 * t) 0 t v r)) 0 (pairs a b) ≡ network g (0, t)
   unfolding network networkOf
   network-is e = sym (
-      ap (pick (λ r. roadsBefore g 0 r && not (namedRoads (g .segments) (during g (0, t)) r)) 0) (q .segments)
-      ∙ pick-same (λ r. roadsBefore g 0 r && not (namedRoads (g .segments) (during g (0, t)) r)) (λ r. ltb 0 (getD v (counts + r) 0) && not (namedBy (2 * t) 0 t v r)) 0
+      ap (pick (λ r. roadsBefore g 0 r && not (namedRoads (g .junctions) (g .segments) (during g (0, t)) r)) 0) (q .segments)
+      ∙ pick-same (λ r. roadsBefore g 0 r && not (namedRoads (g .junctions) (g .segments) (during g (0, t)) r)) (λ r. ltb 0 (getD v (counts + r) 0) && not (namedBy (2 * t) 0 t v r)) 0
       (pairs a b) (λ r l. open-is (0 + r) (omega (arith, pairs-equal a b e))))
 
 -- ---- its small graph

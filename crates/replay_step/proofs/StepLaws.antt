@@ -30,13 +30,13 @@ use Rattle.theory_timeline.proofs.Acceptance.{sound-good, sound-segment}
 use Rattle.theory_timeline.proofs.DemandThree.{named-is}
 use Rattle.theory_timeline.proofs.Networks.{middle, part-small}
 use Rattle.theory_timeline.proofs.RoadLaws.{road-most}
-use Rattle.theory_timeline.proofs.TagLaws.{adds-key, events-added, pick-image, pick-shift, tag-says, word-change, word-query, words-at, words-part}
-use Rattle.theory_timeline.specs.Events.{Event, activeOf, asks, ends}
+use Rattle.theory_timeline.proofs.TagLaws.{adds-key, events-added, pick-image, pick-shift, tag-says, word-change, word-none, words-at, words-part}
+use Rattle.theory_timeline.specs.Events.{Event, activeOf, ends}
 use Rattle.theory_timeline.specs.Steps as Steps
 use Rattle.theory_timeline.specs.Steps.{Sound, added}
 use Rattle.theory_timeline.specs.Tags.{addsEvent, endsAt, entryAt, key, keyOf, pickEvents, word}
 use Rattle.theory_timeline.specs.Windows as Windows
-use Rattle.theory_timeline.specs.Windows.{Timeline, active, during, event, network, size}
+use Rattle.theory_timeline.specs.Windows.{Timeline, active, changesAt, during, event, network, size}
 use Rattle.replay_step.proofs.BesideLaws.{adds-same, beside-same}
 use Rattle.replay_step.proofs.EdgeLaws.{There, area-table, areaEntry}
 use Rattle.replay_step.proofs.WordLaws.{front-get, low-map, mid-less, mid-take, take-less}
@@ -47,53 +47,53 @@ use Rattle.replay_step.specs.declared.Part.{Part}
 use Rattle.replay_step.specs.declared.Window.{Window}
 
 -- ---- the words of a part
-drop-active : (segs : List Edge) (σ : ℕ → ℕ) (k : ℕ) (evs : List Event) → drop (2 * k) (map σ (activeOf segs evs)) ≡ map σ (activeOf segs (drop k evs))
+drop-active : (n : ℕ) (segs : List Edge) (σ : ℕ → ℕ) (k : ℕ) (evs : List Event) → drop (2 * k) (map σ (activeOf n segs evs)) ≡ map σ (activeOf n segs (drop k evs))
 unfolding activeOf
-drop-active segs σ zero evs = refl
-drop-active segs σ (suc k) [] = let q : 2 * suc k ≡ suc (suc (2 * k)) = omega arith in rw q refl
-drop-active segs σ (suc k) (e ∷ evs) = let q : 2 * suc k ≡ suc (suc (2 * k)) = omega arith in rw q (drop-active segs σ k evs)
+drop-active n segs σ zero evs = refl
+drop-active n segs σ (suc k) [] = let q : 2 * suc k ≡ suc (suc (2 * k)) = omega arith in rw q refl
+drop-active n segs σ (suc k) (e ∷ evs) = let q : 2 * suc k ≡ suc (suc (2 * k)) = omega arith in rw q (drop-active n segs σ k evs)
 
-take-active : (segs : List Edge) (σ : ℕ → ℕ) (k : ℕ) (evs : List Event) → take (2 * k) (map σ (activeOf segs evs)) ≡ map σ (activeOf segs (take k evs))
+take-active : (n : ℕ) (segs : List Edge) (σ : ℕ → ℕ) (k : ℕ) (evs : List Event) → take (2 * k) (map σ (activeOf n segs evs)) ≡ map σ (activeOf n segs (take k evs))
 unfolding activeOf
-take-active segs σ zero evs = refl
-take-active segs σ (suc k) [] = let q : 2 * suc k ≡ suc (suc (2 * k)) = omega arith in rw q refl
-take-active segs σ (suc k) (e ∷ evs) =
+take-active n segs σ zero evs = refl
+take-active n segs σ (suc k) [] = let q : 2 * suc k ≡ suc (suc (2 * k)) = omega arith in rw q refl
+take-active n segs σ (suc k) (e ∷ evs) =
     let q : 2 * suc k ≡ suc (suc (2 * k)) = omega arith in
-    rw q (ap (λ l. σ (ends segs e .0) ∷ σ (ends segs e .1) ∷ l) (take-active segs σ k evs))
+    rw q (ap (λ l. σ (ends n segs e .0) ∷ σ (ends n segs e .1) ∷ l) (take-active n segs σ k evs))
 
-pub active-length : (segs : List Edge) (evs : List Event) → length (activeOf segs evs) ≡ 2 * length evs
+pub active-length : (n : ℕ) (segs : List Edge) (evs : List Event) → length (activeOf n segs evs) ≡ 2 * length evs
 unfolding activeOf
-active-length segs [] = refl
-active-length segs (e ∷ evs) = omega (arith, active-length segs evs)
+active-length n segs [] = refl
+active-length n segs (e ∷ evs) = omega (arith, active-length n segs evs)
 
 pub window-length : (g : Timeline) (at n : ℕ) → at + n ≤ size g → length (active g (at, n)) ≡ 2 * n
 unfolding active during
-window-length g at n l = active-length (g .segments) (take n (drop at (g .events))) ∙ rw (length-take, length-drop) (omega arith)
+window-length g at n l = active-length (g .junctions) (g .segments) (take n (drop at (g .events))) ∙ rw (length-take, length-drop) (omega arith)
 
 -- the two nodes of event i
-active-at : (segs : List Edge) (σ : ℕ → ℕ) (evs : List Event) (i : ℕ) → i < length evs
-    → (getD (map σ (activeOf segs evs)) (2 * i) 0 ≡ σ (ends segs (getD evs i (0, 0)) .0)) × (getD (map σ (activeOf segs evs)) (2 * i + 1) 0 ≡ σ (ends segs (getD evs i (0, 0)) .1))
+active-at : (n : ℕ) (segs : List Edge) (σ : ℕ → ℕ) (evs : List Event) (i : ℕ) → i < length evs
+    → (getD (map σ (activeOf n segs evs)) (2 * i) 0 ≡ σ (ends n segs (getD evs i (0, 0)) .0)) × (getD (map σ (activeOf n segs evs)) (2 * i + 1) 0 ≡ σ (ends n segs (getD evs i (0, 0)) .1))
 unfolding activeOf
-active-at segs σ [] i l = absurd (omega arith)
-active-at segs σ (e ∷ evs) zero l = (refl, refl)
-active-at segs σ (e ∷ evs) (suc i) l =
+active-at n segs σ [] i l = absurd (omega arith)
+active-at n segs σ (e ∷ evs) zero l = (refl, refl)
+active-at n segs σ (e ∷ evs) (suc i) l =
     let p : 2 * suc i ≡ suc (suc (2 * i)) = omega arith in
     let q : suc (suc (2 * i)) + 1 ≡ suc (suc (2 * i + 1)) = omega arith in
-    rw (p, q) (active-at segs σ evs i (omega arith))
+    rw (p, q) (active-at n segs σ evs i (omega arith))
 
 event-nodes : (g : Timeline) (σ : ℕ → ℕ) (at n i : ℕ) → at + n ≤ size g → i < n
     → (getD (map σ (active g (at, n))) (2 * i) 0 ≡ σ (endsAt g (at + i) .0)) × (getD (map σ (active g (at, n))) (2 * i + 1) 0 ≡ σ (endsAt g (at + i) .1))
 unfolding active during
 event-nodes g σ at n i l u =
     let e : getD (take n (drop at (g .events))) i (0, 0) ≡ event g (at + i) = getD-take n (drop at (g .events)) i (0, 0) u ∙ getD-drop at (g .events) i (0, 0) in
-    let (a, b) = active-at (g .segments) σ (take n (drop at (g .events))) i (rw (length-take, length-drop) (omega arith)) in
-    (a ∙ ap (λ (e : Event). σ (ends (g .segments) e .0)) e, b ∙ ap (λ (e : Event). σ (ends (g .segments) e .1)) e)
+    let (a, b) = active-at (g .junctions) (g .segments) σ (take n (drop at (g .events))) i (rw (length-take, length-drop) (omega arith)) in
+    (a ∙ ap (λ (e : Event). σ (ends (g .junctions) (g .segments) e .0)) e, b ∙ ap (λ (e : Event). σ (ends (g .junctions) (g .segments) e .1)) e)
 
 part-places : (g : Timeline) (w c : Windows.Window) → Steps.Part w c → (σ : ℕ → ℕ) → take (2 * c .1) (drop (2 * (c .0 - w .0)) (map σ (active g w))) ≡ map σ (active g c)
 unfolding active during
 part-places g w c h σ =
-    ap (take (2 * c .1)) (drop-active (g .segments) σ (c .0 - w .0) (during g w)) ∙ take-active (g .segments) σ (c .1) (drop (c .0 - w .0) (during g w))
-    ∙ ap (λ l. map σ (activeOf (g .segments) l)) (middle g w c h)
+    ap (take (2 * c .1)) (drop-active (g .junctions) (g .segments) σ (c .0 - w .0) (during g w)) ∙ take-active (g .junctions) (g .segments) σ (c .1) (drop (c .0 - w .0) (during g w))
+    ∙ ap (λ l. map σ (activeOf (g .junctions) (g .segments) l)) (middle g w c h)
 
 -- active nodes that are entered, seen through other words
 pub entered-same : {n k : ℕ} {S : List ℕ} {mark act mark′ act′ : ℕ → ℕ} → Entered n S k mark act → ((v : ℕ) → v < n → mark′ v ≡ mark v)
@@ -153,11 +153,11 @@ module _ {w : Window} {p : Part} {v : List ℕ} (st : StepReady w (p .at) (p .ev
       let z : 3 * j ≡ 3 * j + 0 = omega arith in
       sym (getD-take (17 * n) v (2 * n + 3 * j) 0 (omega arith)) ∙ sym (getD-take (3 * n) (drop (2 * n) u) (3 * j) 0 (omega arith) ∙ getD-drop (2 * n) u (3 * j) 0)
       ∙ ap₂ (λ (l : List ℕ) (k : ℕ). getD l k 0) (a .events .words) z ∙ words-at (st .g) (w .at) n j 0 l (omega arith) in
-      rw e (onBool (asks (event (st .g) i))
-      (λ q. rw (word-query (st .g) i 0 q) (omega arith))
+      rw e (onBool (changesAt (st .g) i)
       (λ q.
       rw (word-change (st .g) i q .0, tag-says (st .g) i .named)
-      (omega (arith, sound-segment (st .g) (st .sound) i (omega (arith, st .inside)) q, road-most (st .g .segments) (event (st .g) i .1), st .sound .segments-few))))
+      (omega (arith, sound-segment (st .g) (st .sound) i (omega (arith, st .inside)) q, road-most (st .g .segments) (event (st .g) i .1), st .sound .segments-few)))
+      (λ q. rw (word-none (st .g) i 0 q) (omega arith)))
 
   pub active-need : ActiveReady (p .places) (2 * p .events) s (w .nodes) v
   active-need = record {

@@ -2,7 +2,7 @@
 -- In order: the counts of an area; the windows of a share; what a step and a part need; a window of two parts; a window of one event.
 -- Assumes nothing.
 use Prim.Native.Nat.{_*_, _+_, _-_, _<_, _≤_, suc, zero, ℕ}
-use mathlib.Core.Bool.{Bool, cond, false, true}
+use mathlib.Core.Bool.{Bool, cond, false, not, true}
 use mathlib.Core.List.{List, List·Memᴰ, [], _++_, _∷_, map}
 use mathlib.Core.Path.{_∙_, _≡_, ap, ap₂, refl, subst, sym}
 use lib.Dec.{eqb, ltb}
@@ -25,18 +25,18 @@ use Rattle.theory_names.proofs.NamedSmallCuts.{named-small-carries, named-small
 use Rattle.theory_names.proofs.NamedUniqueness.{named-renumbered-small}
 use Rattle.theory_names.specs.Names.{Entry, Named, Sixteen, hangs, plain}
 use Rattle.theory_names.specs.NamedSmallGraph.{IsNamedSmallGraph, readName}
-use Rattle.theory_timeline.proofs.Acceptance.{sound-good}
+use Rattle.theory_timeline.proofs.Acceptance.{sound-changes, sound-good}
 use Rattle.theory_timeline.proofs.DemandThree.{named-is}
+use Rattle.theory_timeline.proofs.EventLaws.{asks-changes}
 use Rattle.theory_timeline.proofs.Leaves.{alone, alone-name, during-one}
 use Rattle.theory_timeline.proofs.Networks.{network-sixteen}
-use Rattle.theory_timeline.proofs.TagLaws.{tag-says, word-change, word-query, words-at}
+use Rattle.theory_timeline.proofs.TagLaws.{tag-says, word-change, word-none, words-at}
 use Rattle.theory_timeline.proofs.WindowLaws.{large-one, small-one}
 use Rattle.theory_timeline.specs.DemandThree.{Allowed}
-use Rattle.theory_timeline.specs.Events.{asks}
 use Rattle.theory_timeline.specs.Replay.{byte, nameAt}
 use Rattle.theory_timeline.specs.Steps.{Sound}
 use Rattle.theory_timeline.specs.Tags.{eventWords, tag, word}
-use Rattle.theory_timeline.specs.Windows.{Timeline, Window, active, during, event, firstPart, network, openBefore, openGraph, size, small, windowsFrom}
+use Rattle.theory_timeline.specs.Windows.{Timeline, Window, active, asksAt, during, event, firstPart, network, openBefore, openGraph, size, small, windowsFrom}
 use Rattle.replay_step.proofs.EdgeLaws.{area-table, areaEntry}
 use Rattle.replay_step.proofs.StepLaws.{active-length}
 use Rattle.replay_step.proofs.WordLaws.{sets-two}
@@ -50,7 +50,7 @@ most-less k n l p = onBool (ltb k 2) (λ t. let z = ltb-true k 2 t in rw t (omeg
 
 active-short : (g : Timeline) (at n : ℕ) → length (active g (at, n)) ≤ 2 * n
 unfolding active during
-active-short g at n = omega (arith, active-length (g .segments) (take n (drop at (g .events))), length-take n (drop at (g .events)))
+active-short g at n = omega (arith, active-length (g .junctions) (g .segments) (take n (drop at (g .events))), length-take n (drop at (g .events)))
 
 module _ {g : Timeline} {w : W.Window} {v : List ℕ} (a : SmallArea g w v) (some : 0 < w .events) where
   nodes-less : w .nodes + 2 ≤ 4 * w .events
@@ -260,11 +260,11 @@ module _ {w : W.Window} {p : ℕ} {answers names v : List ℕ} (r : WindowReady 
   }
 
 -- the byte of an event that opens or closes, and of a query, by the counts of its area
-byte-change : (g : Timeline) (i : ℕ) → asks (event g i) ≡ false → byte g i ≡ 3
+byte-change : (g : Timeline) (i : ℕ) → asksAt g i ≡ false → byte g i ≡ 3
 unfolding byte
 byte-change g i t = ap (λ b. cond b (answer (plain (openGraph g i)) (event g i .0) (event g i .1)) 3) t
 
-byte-query : (g : Timeline) (i : ℕ) → asks (event g i) ≡ true → byte g i ≡ answer (plain (openGraph g i)) (event g i .0) (event g i .1)
+byte-query : (g : Timeline) (i : ℕ) → asksAt g i ≡ true → byte g i ≡ answer (plain (openGraph g i)) (event g i .0) (event g i .1)
 unfolding byte
 byte-query g i t = ap (λ b. cond b (answer (plain (openGraph g i)) (event g i .0) (event g i .1)) 3) t
 
@@ -322,11 +322,16 @@ module _ {w : W.Window} (v : List ℕ) (one : w .events ≡ 1) (l : 17 ≤ lengt
       sym (getD-take 17 v 2 0 (omega arith)) ∙ sym (getD-take 3 (drop 2 (take 17 v)) 0 0 (omega arith) ∙ getD-drop 2 (take 17 v) 0 0)
       ∙ ap (λ l. getD l 0 0) x ∙ words-at g (w .at) 1 0 0 (omega arith) (omega arith) ∙ ap (word g 0) z
 
-  changed : ¬ (getD v 2 0 ≡ 0) → asks (event g (w .at)) ≡ false
-  changed h = onBool (asks (event g (w .at))) (λ q. absurd (h (first-word ∙ word-query g (w .at) 0 q))) (λ q. q)
+  changed : ¬ (getD v 2 0 ≡ 0) → asksAt g (w .at) ≡ false
+  changed h = onBool (asksAt g (w .at))
+      (λ q. absurd (h (first-word ∙ word-none g (w .at) 0 (asks-changes (g .junctions) (event g (w .at)) q))))
+      (λ q. q)
 
-  asked : getD v 2 0 ≡ 0 → asks (event g (w .at)) ≡ true
-  asked z = onBool (asks (event g (w .at))) (λ q. q) (λ q. let t = ltb-true 0 (tag g (w .at)) (tag-says g (w .at) .change) in absurd (omega (arith, first-word, word-change g (w .at) q .0)))
+  asked : getD v 2 0 ≡ 0 → asksAt g (w .at) ≡ true
+  asked z = onBool (asksAt g (w .at)) (λ q. q) (λ q.
+      let t = ltb-true 0 (tag g (w .at)) (tag-says g (w .at) .change) in
+      let c = sound-changes g sound (w .at) (omega arith) ∙ ap not q in
+      absurd (omega (arith, first-word, word-change g (w .at) c .0)))
 
   some : 0 < w .events
   some = omega arith
@@ -350,7 +355,7 @@ module _ {w : W.Window} (v : List ℕ) (one : w .events ≡ 1) (l : 17 ≤ lengt
       (λ t. let z = eqb-true (getD v 2 0) 0 t in
       byte-asked (getD v 2 0) (w .nodes) (w .edges) z
       ∙ sym (byte-query g (w .at) (asked z)
-      ∙ alone (g .segments) (event g (w .at)) (openBefore g (w .at)) (asked z) (during g (span w)) alone-here (w .nodes) H _ (a .σ) (graph a some sound enough .1)
+      ∙ alone (g .junctions) (g .segments) (event g (w .at)) (openBefore g (w .at)) (asked z) (during g (span w)) alone-here (w .nodes) H _ (a .σ) (graph a some sound enough .1)
       ∙ ap (λ b. cond (eqb (w .nodes) 1) 2 (cond b 0 1)) (none-is H (w .edges) count)))
       (λ t. let h = eqb-false (getD v 2 0) 0 t in sym (byte-3 (getD v 2 0) (w .nodes) (w .edges) h) ∙ sym (byte-change g (w .at) (changed h)))
 
@@ -367,12 +372,12 @@ module _ {w : W.Window} (v : List ℕ) (one : w .events ≡ 1) (l : 17 ≤ lengt
       (λ t.
       let (z, k) = byte-one (getD v 2 0) (w .nodes) (w .edges) (eqb-true (byteBy (getD v 2 0) (w .nodes) (w .edges)) 1 t) in
       ap (λ b. cond b (getD v 13 0) 65535) t ∙ sym (edge-name k)
-      ∙ sym (alone-name (g .segments) (event g (w .at)) (openBefore g (w .at)) (asked z) (during g (span w)) alone-here (w .nodes) H _ (a .σ) (graph a some sound enough .1))
+      ∙ sym (alone-name (g .junctions) (g .segments) (event g (w .at)) (openBefore g (w .at)) (asked z) (during g (span w)) alone-here (w .nodes) H _ (a .σ) (graph a some sound enough .1))
       ∙ sym (ap (λ b. cond b (hangs (openGraph g (w .at)) (event g (w .at) .0) (event g (w .at) .1)) 65535) (asked z)))
       (λ t.
       let n = eqb-false (byteBy (getD v 2 0) (w .nodes) (w .edges)) 1 t in
       ap (λ b. cond b (getD v 13 0) 65535) t
-      ∙ sym (onBool (asks (event g (w .at)))
+      ∙ sym (onBool (asksAt g (w .at))
       (λ q. ap (λ b. cond b (hangs (openGraph g (w .at)) (event g (w .at) .0) (event g (w .at) .1)) 65535) q
       ∙ hangs-none (openGraph g (w .at)) (event g (w .at) .0) (event g (w .at) .1)
       (λ e. n (byte-is ∙ ap (λ b. cond b (answer (plain (openGraph g (w .at))) (event g (w .at) .0) (event g (w .at) .1)) 3) q ∙ e)))

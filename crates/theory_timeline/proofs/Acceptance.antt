@@ -10,7 +10,7 @@ use mathlib.Core.Path.{_∙_, _≡_, ap, ap₂, refl, subst, sym}
 use lib.Dec.{eqb, leb, ltb}
 use lib.ListN.{drop, getD, length, take}
 use native.Mathlib.Omega.{arith}
-use borrow.Author.Tests.{eqb-false, eqb-true, le-ltb, leb-false, lt-ltb, ltb-false, ltb-true, ne-eqb, not-false, not-true}
+use borrow.Author.Tests.{eqb-false, eqb-true, le-ltb, leb-false, lt-ltb, ltb-false, ltb-true, not-false, not-true}
 use Rattle.theory_graph.proofs.Booleans.{and-elim, contradict, onBool}
 use Rattle.theory_graph.proofs.Ends.{endsIn-all, endsIn-at}
 use Rattle.theory_graph.proofs.TableLaws.{pairs-length}
@@ -18,39 +18,38 @@ use Rattle.theory_graph.specs.Graph.{Edge, NodeSet}
 use Rattle.theory_graph.specs.Lists.{pairs}
 use Rattle.theory_graph.specs.SmallGraph.{endsIn}
 use Rattle.theory_names.specs.Names.{plain}
+use Rattle.call_kinds.proofs.KindLaws.{closes-some, opens-some, query-junction, query-some, some-changes}
+use Rattle.call_kinds.specs.Kinds.{isClosing, isOpening, isQuery, kindOf}
+use Rattle.call_kinds.specs.declared.Kind.{Kind}
+use Rattle.call_kinds.specs.declared.Kind.the-variants.{Closes, None, Opens, Query}
 use Rattle.call_sizes.proofs.RefusalLaws.{Numbered, Silent, fault-silent, numbered-append, seek-found, seek-none}
 use Rattle.call_sizes.proofs.RefusalLaws.{short-long, short-numbered, silent-left, silent-right, sizes-numbered, skip-silent}
 use Rattle.call_sizes.specs.Refusal.{Refusal, Row, firstFault, badEnds, badStart}
 use Rattle.call_sizes.specs.Sizes.{sizeFaults}
 use Rattle.theory_timeline.specs.DemandThree.{Allowed}
-use Rattle.theory_timeline.specs.Events.{Event, SegmentSet, activeOf, asks, closes, ends, opens, pick}
+use Rattle.theory_timeline.specs.Events.{Event, SegmentSet, activeOf, asks, changes, closes, ends, opens, pick}
 use Rattle.theory_timeline.specs.Replay.{Faultless, Lent, eventFault, fault, faultAt, faults, given, listFaults, required, shareFaults, shortTables, tableLengths}
 use Rattle.theory_timeline.specs.Steps.{Sound}
-use Rattle.theory_timeline.specs.Windows.{Timeline, Window, active, during, event, openBefore, size}
-use Rattle.theory_timeline.specs.declared.Kind.{Kind}
-use Rattle.theory_timeline.specs.declared.Kind.the-variants.{Closes, Nothing, Opens, Query}
+use Rattle.theory_timeline.specs.Windows.{Timeline, Window, active, asksAt, changesAt, during, event, openBefore, size}
 
 -- ---- an event without a fault, of n junctions and m segments, where the segments of o are open
 pub record Fine (n m : ℕ) (o : SegmentSet) (e : Event) : Type 0 where
-  pub query : asks e ≡ true → (e .0 < n) × (e .1 < n)
-  pub segment : (opens e || closes e) ≡ true → e .1 < m
-  pub fresh : opens e ≡ true → o (e .1) ≡ false
-  pub stale : closes e ≡ true → o (e .1) ≡ true
+  pub some : ¬ (kindOf n (e .0) ≡ None)
+  pub query : asks n e ≡ true → (e .0 < n) × (e .1 < n)
+  pub segment : changes n e ≡ true → e .1 < m
+  pub fresh : opens n e ≡ true → o (e .1) ≡ false
+  pub stale : closes n e ≡ true → o (e .1) ≡ true
 
-below-cond : (b : Bool) (c : ℕ) → cond b 0 (suc c) ≡ 0 → b ≡ true
-below-cond true c h = refl
-below-cond false c h = absurd (omega arith)
-
-pub fault-fine : (n m : ℕ) (o : SegmentSet) (e : Event) → n ≤ 4096 → eventFault n m o e ≡ 0 → Fine n m o e
-unfolding eventFault
-fault-fine n m o e few h = go (ltb (e .0) n) (eqb (e .0) 65535) (eqb (e .0) 65534) refl refl refl h
+pub fault-fine : (n m : ℕ) (o : SegmentSet) (e : Event) → eventFault n m o e ≡ 0 → Fine n m o e
+unfolding eventFault isQuery isOpening isClosing
+fault-fine n m o e h = go (kindOf n (e .0)) refl h
   where
     value : Kind → ℕ
     value k = elim k [
       | Query ↦ cond (ltb (e .1) n) 0 5
       | Opens ↦ cond (ltb (e .1) m) (cond (o (e .1)) 6 0) 5
       | Closes ↦ cond (ltb (e .1) m) (cond (o (e .1)) 0 7) 5
-      | Nothing ↦ 5
+      | None ↦ 5
     ]
 
     first : (b : Bool) (c : ℕ) → cond b c 5 ≡ 0 → (b ≡ true) × (c ≡ 0)
@@ -65,34 +64,42 @@ fault-fine n m o e few h = go (ltb (e .0) n) (eqb (e .0) 65535) (eqb (e .0) 6553
     opened true h = refl
     opened false h = absurd (omega arith)
 
-    go : (q a c : Bool) → ltb (e .0) n ≡ q → eqb (e .0) 65535 ≡ a → eqb (e .0) 65534 ≡ c → value (cond q Query (cond a Opens (cond c Closes Nothing))) ≡ 0 → Fine n m o e
-    go true a c eq ea ec h =
-        let lo = ltb-true (e .0) n eq in
-        let na : eqb (e .0) 65535 ≡ false = ne-eqb (e .0) 65535 (λ x. omega arith) in
-        let nc : eqb (e .0) 65534 ≡ false = ne-eqb (e .0) 65534 (λ x. omega arith) in
+    changing : Kind → Bool
+    changing k = isOpening k || isClosing k
+
+    go : (k : Kind) → kindOf n (e .0) ≡ k → value k ≡ 0 → Fine n m o e
+    go Query q h =
+        let (l, _) = first (ltb (e .1) n) 0 h in
         record {
-          query = λ _. (lo, ltb-true (e .1) n (below-cond (ltb (e .1) n) 4 h));
-          segment = λ s. contradict s (ap₂ _||_ na nc);
-          fresh = λ s. contradict s na;
-          stale = λ s. contradict s nc;
+          some = λ z. query-some (sym q ∙ z);
+          query = λ _. (query-junction n (e .0) q, ltb-true (e .1) n l);
+          segment = λ s. contradict s (ap changing q);
+          fresh = λ s. contradict s (ap isOpening q);
+          stale = λ s. contradict s (ap isClosing q);
         }
-    go false true c eq ea ec h =
+    go Opens q h =
         let (l, f) = first (ltb (e .1) m) (cond (o (e .1)) 6 0) h in
         record {
-          query = λ s. contradict s (ap (λ (b : Bool). not (b || eqb (e .0) 65534)) ea);
+          some = λ z. opens-some (sym q ∙ z);
+          query = λ s. contradict s (ap isQuery q);
           segment = λ _. ltb-true (e .1) m l;
           fresh = λ _. closed (o (e .1)) f;
-          stale = λ s. absurd (omega (arith, eqb-true (e .0) 65535 ea, eqb-true (e .0) 65534 s));
+          stale = λ s. contradict s (ap isClosing q);
         }
-    go false false true eq ea ec h =
+    go Closes q h =
         let (l, f) = first (ltb (e .1) m) (cond (o (e .1)) 0 7) h in
         record {
-          query = λ s. contradict s (ap₂ (λ (a b : Bool). not (a || b)) ea ec);
+          some = λ z. closes-some (sym q ∙ z);
+          query = λ s. contradict s (ap isQuery q);
           segment = λ _. ltb-true (e .1) m l;
-          fresh = λ s. contradict s ea;
+          fresh = λ s. contradict s (ap isOpening q);
           stale = λ _. opened (o (e .1)) f;
         }
-    go false false false eq ea ec h = absurd (omega arith)
+    go None q h = absurd (omega arith)
+
+-- it is a query, or it opens or closes
+pub fine-changes : {n m : ℕ} {o : SegmentSet} {e : Event} → Fine n m o e → changes n e ≡ not (asks n e)
+fine-changes {n} {e = e} f = some-changes (kindOf n (e .0)) (f .some)
 
 -- ---- two parallel arrays
 pub pairs-most : (x y : List ℕ) (i : ℕ) → length x ≤ i → length (pairs x y) ≤ i
@@ -146,20 +153,21 @@ mem-at e (x ∷ l) (List·Memᴰ·head p) = (0, omega arith, sym p)
 mem-at e (x ∷ l) (List·Memᴰ·tail m) = let (i, h, q) = mem-at e l m in (suc i, omega arith, q)
 
 -- an active junction is one of the two of an event of the list
-active-from : (segs : List Edge) (l : List Event) (a : ℕ) → List·Memᴰ a (activeOf segs l) → (e : Event) × List·Memᴰ e l × ((a ≡ ends segs e .0) ⊎ (a ≡ ends segs e .1))
+active-from : (n : ℕ) (segs : List Edge) (l : List Event) (a : ℕ) → List·Memᴰ a (activeOf n segs l)
+    → (e : Event) × List·Memᴰ e l × ((a ≡ ends n segs e .0) ⊎ (a ≡ ends n segs e .1))
 unfolding activeOf
-active-from segs [] a m = absurd (elim m [ ])
-active-from segs (e ∷ l) a (List·Memᴰ·head p) = (e, List·Memᴰ·head refl, inl p)
-active-from segs (e ∷ l) a (List·Memᴰ·tail (List·Memᴰ·head p)) = (e, List·Memᴰ·head refl, inr p)
-active-from segs (e ∷ l) a (List·Memᴰ·tail (List·Memᴰ·tail m)) = let (f, n, q) = active-from segs l a m in (f, List·Memᴰ·tail n, q)
+active-from n segs [] a m = absurd (elim m [ ])
+active-from n segs (e ∷ l) a (List·Memᴰ·head p) = (e, List·Memᴰ·head refl, inl p)
+active-from n segs (e ∷ l) a (List·Memᴰ·tail (List·Memᴰ·head p)) = (e, List·Memᴰ·head refl, inr p)
+active-from n segs (e ∷ l) a (List·Memᴰ·tail (List·Memᴰ·tail m)) = let (f, k, q) = active-from n segs l a m in (f, List·Memᴰ·tail k, q)
 
 -- the two junctions of an event without a fault
-pub fine-ends : (n : ℕ) (segs : List Edge) (o : SegmentSet) (e : Event) → endsIn (λ v. ltb v n) segs ≡ true → Fine n (length segs) o e → (ends segs e .0 < n) × (ends segs e .1 < n)
-fine-ends n segs o e s f = go (opens e || closes e) refl
+pub fine-ends : (n : ℕ) (segs : List Edge) (o : SegmentSet) (e : Event) → endsIn (λ v. ltb v n) segs ≡ true → Fine n (length segs) o e → (ends n segs e .0 < n) × (ends n segs e .1 < n)
+fine-ends n segs o e s f = go (asks n e) refl
   where
-    go : (b : Bool) → (opens e || closes e) ≡ b → ((cond b (getD segs (e .1) (0, 0)) e) .0 < n) × ((cond b (getD segs (e .1) (0, 0)) e) .1 < n)
-    go true p = let (x, y) = endsIn-at (λ v. ltb v n) segs (e .1) (f .segment p) s in (ltb-true _ n x, ltb-true _ n y)
-    go false p = f .query (ap not p)
+    go : (b : Bool) → asks n e ≡ b → ((cond b e (getD segs (e .1) (0, 0))) .0 < n) × ((cond b e (getD segs (e .1) (0, 0))) .1 < n)
+    go true p = f .query p
+    go false p = let (x, y) = endsIn-at (λ v. ltb v n) segs (e .1) (f .segment (fine-changes f ∙ ap not p)) s in (ltb-true _ n x, ltb-true _ n y)
 
 pub fine-good : (g : Timeline) → endsIn (λ v. ltb v (g .junctions)) (g .segments) ≡ true
     → ((i : ℕ) → i < size g → Fine (g .junctions) (length (g .segments)) (openBefore g i) (event g i)) → Good g
@@ -168,25 +176,29 @@ fine-good g s f =
     record {
       segments = s;
       active = λ w a m.
-          let (e, n, q) = active-from (g .segments) (during g w) a m in
+          let (e, n, q) = active-from (g .junctions) (g .segments) (during g w) a m in
           let (i, l, p) = mem-at e (g .events) (mem-drop (w .0) e (g .events) (mem-take (w .1) e (drop (w .0) (g .events)) n)) in
-          either (event g i) (f i l) (subst (λ (e : Event). (a ≡ ends (g .segments) e .0) ⊎ (a ≡ ends (g .segments) e .1)) (sym p) q);
+          either (event g i) (f i l) (subst (λ (e : Event). (a ≡ ends (g .junctions) (g .segments) e .0) ⊎ (a ≡ ends (g .junctions) (g .segments) e .1)) (sym p) q);
     }
   where
-    either : {a : ℕ} {o : SegmentSet} (e : Event) → Fine (g .junctions) (length (g .segments)) o e → (a ≡ ends (g .segments) e .0) ⊎ (a ≡ ends (g .segments) e .1) → a < g .junctions
+    either : {a : ℕ} {o : SegmentSet} (e : Event) → Fine (g .junctions) (length (g .segments)) o e → (a ≡ ends (g .junctions) (g .segments) e .0) ⊎ (a ≡ ends (g .junctions) (g .segments) e .1) → a < g .junctions
     either {o} e f (inl q) = let (x, y) = fine-ends (g .junctions) (g .segments) o e s f in omega arith
     either {o} e f (inr q) = let (x, y) = fine-ends (g .junctions) (g .segments) o e s f in omega arith
 
 -- ---- a list without a fault
 pub sound-fine : (g : Timeline) → Sound g → (i : ℕ) → i < size g → Fine (g .junctions) (length (g .segments)) (openBefore g i) (event g i)
-sound-fine g s i l = fault-fine (g .junctions) (length (g .segments)) (openBefore g i) (event g i) (s .few) (s .events i l)
+sound-fine g s i l = fault-fine (g .junctions) (length (g .segments)) (openBefore g i) (event g i) (s .events i l)
 
 pub sound-good : (g : Timeline) → Sound g → Good g
 sound-good g s = fine-good g (s .ends) (sound-fine g s)
 
 -- an event that opens or closes names a segment
-pub sound-segment : (g : Timeline) → Sound g → (i : ℕ) → i < size g → asks (event g i) ≡ false → event g i .1 < length (g .segments)
-sound-segment g s i l h = sound-fine g s i l .segment (not-false (opens (event g i) || closes (event g i)) h)
+pub sound-segment : (g : Timeline) → Sound g → (i : ℕ) → i < size g → changesAt g i ≡ true → event g i .1 < length (g .segments)
+sound-segment g s i l h = sound-fine g s i l .segment h
+
+-- and every other event is a query
+pub sound-changes : (g : Timeline) → Sound g → (i : ℕ) → i < size g → changesAt g i ≡ not (asksAt g i)
+sound-changes g s i l = fine-changes (sound-fine g s i l)
 
 -- ---- what an accepted replay was lent
 pub record Accepted (l : Lent) (p : ℕ) : Type 0 where
@@ -274,7 +286,7 @@ module _ (l : Lent) (p : ℕ) (a : Accepted l p) where
 
   pub accepted-fine : (i : ℕ) → i < l .t → Fine (l .n) (l .m) (openBefore (given l) i) (event (given l) i)
   unfolding faultAt
-  accepted-fine i h = fault-fine (l .n) (l .m) (openBefore (given l) i) (event (given l) i) (a .n-fits) (a .events-fine i h)
+  accepted-fine i h = fault-fine (l .n) (l .m) (openBefore (given l) i) (event (given l) i) (a .events-fine i h)
 
   pub accepted-good : Good (given l)
   unfolding given

@@ -11,10 +11,11 @@ use Rattle.theory_timeline.specs.Roads.{road}
 use Rattle.theory_timeline.specs.Windows as W
 use Rattle.theory_timeline.specs.Replay as R
 use Rattle.theory_timeline.specs.Program as P
+use Rattle.call_kinds.specs.Kinds as K
 use Rattle.theory_contraction.specs.Contraction as C
 
 pub cases : AllHold table
-unfolding rep joined removals twoEdge answer without parts kept third linked keptClasses number contract numbered pieces activeOf road openRoads networkOf W.openBefore W.windowsFrom
+unfolding K.isQuery K.isOpening K.isClosing K.kindOf rep joined removals twoEdge answer without parts kept third linked keptClasses number contract numbered pieces activeOf road openRoads networkOf W.openBefore W.windowsFrom
     W.windows W.during W.network W.active W.small W.smallNamed W.stands W.kept hangs classNode contractNamed R.byte R.bytes R.nameAt R.namesAt R.queries R.openAtEnd R.given R.eventFault R.faultAt R.listFaults R.faults R.fault R.done
     R.refused R.replay P.inputFaults P.inputFault P.inputLent P.spell P.decimal P.queryLine P.queryLines P.totalsLine P.refusedLine P.printed P.outputWith P.output
     C.edges C.namedEdges C.entries C.faults C.fault C.done C.refused C.contraction

@@ -8,15 +8,15 @@ use mathlib.Core.Path.{_∙_, _≡_, ap, ap₂, refl, sym}
 use lib.Dec.{eqb, ltb}
 use lib.ListN.{length}
 use native.Mathlib.Omega.{arith}
-use borrow.Author.Tests.{eq-eqb, eqb-false, eqb-true, ne-eqb, not-true}
+use borrow.Author.Tests.{eq-eqb, eqb-false, eqb-true, ne-eqb}
 use Rattle.theory_graph.proofs.Booleans.{onBool}
 use Rattle.theory_graph.specs.Graph.{Edge}
 use Rattle.theory_timeline.proofs.Counting.{any-count, count-more, count-most, count-same}
 use Rattle.theory_timeline.proofs.TagLaws.{open-next}
-use Rattle.theory_timeline.specs.Events.{SegmentSet, asks, closes, openRoads, opens}
+use Rattle.theory_timeline.specs.Events.{SegmentSet, openRoads}
 use Rattle.theory_timeline.specs.Roads.{road}
 use Rattle.theory_timeline.specs.Tags.{key, openCount, openSegments}
-use Rattle.theory_timeline.specs.Windows.{Timeline, event, openBefore, size}
+use Rattle.theory_timeline.specs.Windows.{Timeline, changesAt, closesAt, event, openBefore, opensAt, size}
 
 -- ---- roads
 -- a road is open where the count of its open segments is not 0
@@ -40,16 +40,16 @@ module _ (g : Timeline) where
     s = event g i .1
 
     -- what an event that names segment s makes of the segments of road r
-    at-named : (r : ℕ) → (opens (event g i) || closes (event g i)) ≡ true → (openBefore g (i + 1) s && eqb r (key g i)) ≡ (opens (event g i) && eqb r (key g i))
+    at-named : (r : ℕ) → changesAt g i ≡ true → (openBefore g (i + 1) s && eqb r (key g i)) ≡ (opensAt g i && eqb r (key g i))
     at-named r c =
         ap (λ (o : SegmentSet). o s && eqb r (key g i)) (open-next g i l)
-        ∙ ap₂ (λ a b. cond (a && b) (opens (event g i)) (openBefore g i s) && eqb r (key g i)) c (eq-eqb s s refl)
+        ∙ ap₂ (λ a b. cond (a && b) (opensAt g i) (openBefore g i s) && eqb r (key g i)) c (eq-eqb s s refl)
 
     at-others : (r u : ℕ) → ¬ (u ≡ s) → ofRoad (i + 1) r u ≡ ofRoad i r u
     at-others r u n =
         ap (λ (o : SegmentSet). o u && eqb r (road (g .segments) u)) (open-next g i l)
-        ∙ ap (λ b. cond ((opens (event g i) || closes (event g i)) && b) (opens (event g i)) (openBefore g i u) && eqb r (road (g .segments) u)) (ne-eqb u s n)
-        ∙ ap (λ b. cond b (opens (event g i)) (openBefore g i u) && eqb r (road (g .segments) u)) (and-false (opens (event g i) || closes (event g i)))
+        ∙ ap (λ b. cond (changesAt g i && b) (opensAt g i) (openBefore g i u) && eqb r (road (g .segments) u)) (ne-eqb u s n)
+        ∙ ap (λ b. cond b (opensAt g i) (openBefore g i u) && eqb r (road (g .segments) u)) (and-false (changesAt g i))
 
     at-other-road : (r u : ℕ) → eqb r (key g i) ≡ false → ofRoad (i + 1) r u ≡ ofRoad i r u
     at-other-road r u n = onBool (eqb u s)
@@ -63,16 +63,16 @@ module _ (g : Timeline) where
     count-stays r n = count-same (ofRoad i r) (ofRoad (i + 1) r) 0 (length (g .segments)) (λ u k. at-other-road r u (ne-eqb r (key g i) n))
 
     -- an opening makes its road's one more
-    pub count-opens : opens (event g i) ≡ true → s < length (g .segments) → openBefore g i s ≡ false → openCount g (i + 1) (key g i) ≡ openCount g i (key g i) + 1
+    pub count-opens : opensAt g i ≡ true → s < length (g .segments) → openBefore g i s ≡ false → openCount g (i + 1) (key g i) ≡ openCount g i (key g i) + 1
     unfolding openSegments
     count-opens o k c =
         count-more (ofRoad i (key g i)) (ofRoad (i + 1) (key g i)) s 0 (length (g .segments)) (omega arith) (omega arith)
         (ap (λ b. b && eqb (key g i) (key g i)) c)
-        (at-named (key g i) (ap (λ b. b || closes (event g i)) o) ∙ ap₂ _&&_ o (eq-eqb (key g i) (key g i) refl))
+        (at-named (key g i) (ap (λ b. b || closesAt g i) o) ∙ ap₂ _&&_ o (eq-eqb (key g i) (key g i) refl))
         (λ u n. at-others (key g i) u n)
 
     -- and a closing one less
-    pub count-closes : closes (event g i) ≡ true → opens (event g i) ≡ false → s < length (g .segments) → openBefore g i s ≡ true
+    pub count-closes : closesAt g i ≡ true → opensAt g i ≡ false → s < length (g .segments) → openBefore g i s ≡ true
         → openCount g i (key g i) ≡ openCount g (i + 1) (key g i) + 1
     unfolding openSegments
     count-closes o f k c =
@@ -81,10 +81,10 @@ module _ (g : Timeline) where
         (ap₂ _&&_ c (eq-eqb (key g i) (key g i) refl))
         (λ u n. sym (at-others (key g i) u n))
 
-  -- a query changes none
-  pub count-query : (i : ℕ) → i < size g → asks (event g i) ≡ true → (r : ℕ) → openCount g (i + 1) r ≡ openCount g i r
+  -- an event that names no segment changes none
+  pub count-unnamed : (i : ℕ) → i < size g → changesAt g i ≡ false → (r : ℕ) → openCount g (i + 1) r ≡ openCount g i r
   unfolding openSegments
-  count-query i l a r =
+  count-unnamed i l a r =
       count-same (ofRoad i r) (ofRoad (i + 1) r) 0 (length (g .segments)) λ u k.
       ap (λ (o : SegmentSet). o u && eqb r (road (g .segments) u)) (open-next g i l)
-      ∙ ap (λ b. cond (b && eqb u (event g i .1)) (opens (event g i)) (openBefore g i u) && eqb r (road (g .segments) u)) (not-true (opens (event g i) || closes (event g i)) a)
+      ∙ ap (λ b. cond (b && eqb u (event g i .1)) (opensAt g i) (openBefore g i u) && eqb r (road (g .segments) u)) a

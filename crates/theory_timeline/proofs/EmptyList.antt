@@ -8,13 +8,13 @@ use Rattle.theory_graph.specs.Lists.{filter, range, sum}
 use Rattle.theory_timeline.proofs.Acceptance.{events-length, segments-length}
 use Rattle.theory_timeline.proofs.DemandThree.{replay-done}
 use Rattle.theory_timeline.proofs.WindowLaws.{windows-none}
-use Rattle.theory_timeline.specs.Events.{SegmentSet, asks}
+use Rattle.theory_timeline.specs.Events.{SegmentSet}
 use Rattle.theory_timeline.specs.Replay.{Lent, Outcome, done, given, openAtEnd, queries, replay}
-use Rattle.theory_timeline.specs.Windows.{Timeline, Window, atStart, event, kept, openBefore, size, small, windows}
+use Rattle.theory_timeline.specs.Windows.{Timeline, Window, asksAt, atStart, kept, openBefore, size, small, windows}
 
 none-queries : (g : Timeline) → size g ≡ 0 → queries g ≡ 0
 unfolding queries
-none-queries g e = ap (λ (n : ℕ). length (filter (λ i. asks (event g i)) (range 0 n))) e
+none-queries g e = ap (λ (n : ℕ). length (filter (asksAt g) (range 0 n))) e
 
 none-open : (g : Timeline) → size g ≡ 0 → openAtEnd g ≡ length (filter (g .start) (range 0 (length (g .segments))))
 unfolding openAtEnd openBefore

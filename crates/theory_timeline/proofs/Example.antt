@@ -18,6 +18,7 @@ use Rattle.theory_timeline.specs.Roads.{Apart, road, roadAnswer, sameEnd
 use Rattle.theory_timeline.specs.Replay.{Lent, given, replay}
 use Rattle.theory_timeline.specs.Windows.{active, network, small, stands, windows}
 use Rattle.theory_timeline.specs.declared.ReplayReply.the-variants.{Done}
+use Rattle.call_kinds.specs.Kinds as K
 use Rattle.theory_timeline.specs.Windows as W
 use Rattle.theory_timeline.specs.Replay as R
 
@@ -40,7 +41,7 @@ abbrev both : Demand3 triangle triangle 8 12 (replay triangle 8) (replay triangl
 both = demand-3 triangle triangle 8 12 (omega arith, omega arith) (omega arith, omega arith) (replay triangle 8) (replay triangle 12) refl refl
 
 accepted : (replay triangle 8) .code ≡ 0
-unfolding rep joined removals twoEdge answer without parts kept third linked keptClasses number contract activeOf road openRoads networkOf W.openBefore W.windowsFrom W.windows
+unfolding K.isQuery K.isOpening K.isClosing K.kindOf rep joined removals twoEdge answer without parts kept third linked keptClasses number contract activeOf road openRoads networkOf W.openBefore W.windowsFrom W.windows
     W.during W.network W.active W.small W.smallNamed W.stands W.kept hangs classNode contractNamed R.byte R.bytes R.nameAt R.namesAt R.queries R.openAtEnd R.given R.eventFault R.faultAt R.listFaults R.faults R.fault R.done R.refused R.replay
 accepted = refl
 
@@ -51,7 +52,7 @@ window = List·Memᴰ·tail (List·Memᴰ·tail (List·Memᴰ·tail (List·Mem�
 
 -- the network of this window has the roads 0-1 and 1-2
 roads : plain (network (given triangle) (2, 3)) ≡ (0, 1) ∷ (1, 2) ∷ []
-unfolding road openRoads networkOf W.openBefore W.during W.network R.given
+unfolding K.isOpening K.isClosing K.kindOf road openRoads networkOf W.openBefore W.during W.network R.given
 roads = refl
 
 fresh : (e : Edge) → List·Memᴰ e (plain (network (given triangle) (2, 3))) → Apart e ((2, 0) ∷ [])
@@ -64,7 +65,7 @@ fresh e m f (List·Memᴰ·head q) = ap (sameEnds e) q ∙ of (subst (λ (E : Li
 -- the road 2-0, which this network does not have, makes the same answers in the network and in the small graph
 pub example : roadAnswer (plain (network (given triangle) (2, 3)) ++ (2, 0) ∷ []) 0 2
     ≡ answer ((small (given triangle) (2, 3)) .edges ++ image (stands (given triangle) (2, 3)) ((2, 0) ∷ [])) (stands (given triangle) (2, 3) 0) (stands (given triangle) (2, 3) 2)
-unfolding W.active W.during R.given activeOf
+unfolding K.isQuery K.isOpening K.isClosing K.kindOf W.active W.during R.given activeOf
 example =
     (both .faithful accepted (2, 3) window) .answers ((2, 0) ∷ []) among (record { different = (λ f m. absurd (elim m [ ]), tt); fresh = fresh }) 0 2
     (List·Memᴰ·head refl) (List·Memᴰ·tail (List·Memᴰ·head refl))
@@ -107,12 +108,12 @@ twelve = record {
 }
 
 eight-promised : Promised eight
-unfolding rep joined removals twoEdge answer without parts kept third linked keptClasses number contract activeOf road openRoads networkOf W.openBefore W.windowsFrom W.windows
+unfolding K.isQuery K.isOpening K.isClosing K.kindOf rep joined removals twoEdge answer without parts kept third linked keptClasses number contract activeOf road openRoads networkOf W.openBefore W.windowsFrom W.windows
     W.during W.network W.active W.small W.smallNamed W.stands W.kept hangs classNode contractNamed R.byte R.bytes R.nameAt R.namesAt R.queries R.openAtEnd R.given R.eventFault R.faultAt R.listFaults R.faults R.fault R.done R.refused R.replay
 eight-promised = refl
 
 twelve-promised : Promised twelve
-unfolding rep joined removals twoEdge answer without parts kept third linked keptClasses number contract activeOf road openRoads networkOf W.openBefore W.windowsFrom W.windows
+unfolding K.isQuery K.isOpening K.isClosing K.kindOf rep joined removals twoEdge answer without parts kept third linked keptClasses number contract activeOf road openRoads networkOf W.openBefore W.windowsFrom W.windows
     W.during W.network W.active W.small W.smallNamed W.stands W.kept hangs classNode contractNamed R.byte R.bytes R.nameAt R.namesAt R.queries R.openAtEnd R.given R.eventFault R.faultAt R.listFaults R.faults R.fault R.done R.refused R.replay
 twelve-promised = refl
 

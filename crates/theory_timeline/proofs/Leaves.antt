@@ -8,9 +8,8 @@ use lib.Dec.{eqb}
 use lib.ListN.{getD, take}
 use lib.Seq.{drop-cons, getD-take}
 use native.Mathlib.Omega.{arith}
-use borrow.Author.Tests.{not-true}
 use Rattle.theory_graph.proofs.Booleans.{onBool}
-use Rattle.theory_graph.specs.Graph.{Edge, answer, joined, twoEdge}
+use Rattle.theory_graph.specs.Graph.{Edge, answer}
 use Rattle.theory_graph.specs.Lists.{range}
 use Rattle.theory_graph.specs.SmallGraph.{readOff}
 use Rattle.theory_names.proofs.NamedContraction.{contract-plain}
@@ -19,24 +18,24 @@ use Rattle.theory_names.specs.Names.{Named, hangs, plain}
 use Rattle.theory_names.specs.NamedSmallGraph.{IsNamedSmallGraph, readName}
 use Rattle.theory_timeline.proofs.Acceptance.{Good, accepted-good, events-length}
 use Rattle.theory_timeline.proofs.DemandThree.{answers-first, named-is, names-first, replay-done}
-use Rattle.theory_timeline.proofs.EventLaws.{pick-ext}
+use Rattle.theory_timeline.proofs.EventLaws.{asks-changes, pick-ext}
 use Rattle.theory_timeline.proofs.WindowLaws.{windows-leaf}
 use Rattle.theory_timeline.specs.DemandTwo.{Demand2}
-use Rattle.theory_timeline.specs.Events.{Event, SegmentSet, activeOf, asks, closes, ends, namedRoads, networkOf, openRoads, opens, pick}
+use Rattle.theory_timeline.specs.Events.{Event, SegmentSet, activeOf, asks, changes, ends, namedRoads, networkOf, openRoads, pick}
 use Rattle.theory_timeline.specs.Replay.{Lent, Outcome, byte, bytes, given, nameAt, namesAt, replay}
 use Rattle.theory_timeline.specs.Roads.{road}
-use Rattle.theory_timeline.specs.Windows.{Timeline, active, during, event, network, openBefore, openGraph, size, small, smallNamed}
+use Rattle.theory_timeline.specs.Windows.{Timeline, active, asksAt, during, event, network, openBefore, openGraph, size, small, smallNamed}
 
 -- a query by itself: its network is all that is open
-query-network : (segs : List Edge) (q : Event) (o : SegmentSet) → (opens q || closes q) ≡ false → networkOf segs (q ∷ []) o ≡ pick (openRoads segs o) 0 segs
+query-network : (n : ℕ) (segs : List Edge) (q : Event) (o : SegmentSet) → changes n q ≡ false → networkOf n segs (q ∷ []) o ≡ pick (openRoads segs o) 0 segs
 unfolding networkOf
-query-network segs q o n = pick-ext (λ r. openRoads segs o r && not (namedRoads segs (q ∷ []) r)) (openRoads segs o) same 0 segs
+query-network n segs q o h = pick-ext (λ r. openRoads segs o r && not (namedRoads n segs (q ∷ []) r)) (openRoads segs o) same 0 segs
   where
-    same : (r : ℕ) → (openRoads segs o r && not (((opens q || closes q) && eqb r (road segs (q .1))) || false)) ≡ openRoads segs o r
+    same : (r : ℕ) → (openRoads segs o r && not ((changes n q && eqb r (road segs (q .1))) || false)) ≡ openRoads segs o r
     same r = go (openRoads segs o r) (eqb r (road segs (q .1)))
       where
-        go : (a c : Bool) → (a && not (((opens q || closes q) && c) || false)) ≡ a
-        go true c = ap (λ b. not ((b && c) || false)) n
+        go : (a c : Bool) → (a && not ((changes n q && c) || false)) ≡ a
+        go true c = ap (λ b. not ((b && c) || false)) h
         go false c = refl
 
 -- ---- a window of one event
@@ -45,17 +44,17 @@ unfolding during
 during-one g i l = ap (take 1) (drop-cons (g .events) i (0, 0) l)
 
 -- a query by itself, with the segments of o open: its answer and its name are read off a small graph of its window
-module _ (segs : List Edge) (q : Event) (o : SegmentSet) (a : asks q ≡ true) (k : List Event) (e : k ≡ q ∷ []) (h : ℕ) (H : Named) (ρ σ : ℕ → ℕ)
-    (s : IsNamedSmallGraph (networkOf segs k o) (activeOf segs k) h H ρ σ) where
+module _ (n : ℕ) (segs : List Edge) (q : Event) (o : SegmentSet) (a : asks n q ≡ true) (k : List Event) (e : k ≡ q ∷ []) (h : ℕ) (H : Named) (ρ σ : ℕ → ℕ)
+    (s : IsNamedSmallGraph (networkOf n segs k o) (activeOf n segs k) h H ρ σ) where
   small-graph : IsNamedSmallGraph (pick (openRoads segs o) 0 segs) (q .0 ∷ q .1 ∷ []) h H ρ σ
   unfolding activeOf
   small-graph =
-      let b : (opens q || closes q) ≡ false = not-true (opens q || closes q) a in
-      let t : IsNamedSmallGraph (networkOf segs (q ∷ []) o) (activeOf segs (q ∷ [])) h H ρ σ =
-      subst (λ (k : List Event). IsNamedSmallGraph (networkOf segs k o) (activeOf segs k) h H ρ σ) e s in
-      let f : ends segs q ≡ q = ap (λ (c : Bool). cond c (getD segs (q .1) (0, 0)) q) b in
-      subst (λ (G : Named). IsNamedSmallGraph G (q .0 ∷ q .1 ∷ []) h H ρ σ) (query-network segs q o b)
-      (subst (λ (v : Event). IsNamedSmallGraph (networkOf segs (q ∷ []) o) (v .0 ∷ v .1 ∷ []) h H ρ σ) f t)
+      let b = asks-changes n q a in
+      let t : IsNamedSmallGraph (networkOf n segs (q ∷ []) o) (activeOf n segs (q ∷ [])) h H ρ σ =
+      subst (λ (k : List Event). IsNamedSmallGraph (networkOf n segs k o) (activeOf n segs k) h H ρ σ) e s in
+      let f : ends n segs q ≡ q = ap (λ (c : Bool). cond c q (getD segs (q .1) (0, 0))) a in
+      subst (λ (G : Named). IsNamedSmallGraph G (q .0 ∷ q .1 ∷ []) h H ρ σ) (query-network n segs q o b)
+      (subst (λ (v : Event). IsNamedSmallGraph (networkOf n segs (q ∷ []) o) (v .0 ∷ v .1 ∷ []) h H ρ σ) f t)
 
   pub alone : answer (plain (pick (openRoads segs o) 0 segs)) (q .0) (q .1) ≡ readOff h (plain H)
   alone = named-answer-read (pick (openRoads segs o) 0 segs) (q .0) (q .1) h H ρ σ small-graph
@@ -64,27 +63,16 @@ module _ (segs : List Edge) (q : Event) (o : SegmentSet) (a : asks q ≡ true) (
   alone-name = hangs-read (pick (openRoads segs o) 0 segs) (q .0) (q .1) h H ρ σ small-graph
 
 -- at a query's own window
-module _ (g : Timeline) (good : Good g) (i : ℕ) (l : i < size g) (a : asks (event g i) ≡ true) where
+module _ (g : Timeline) (good : Good g) (i : ℕ) (l : i < size g) (a : asksAt g i ≡ true) where
   pub leaf : answer (plain (openGraph g i)) (event g i .0) (event g i .1) ≡ readOff ((small g (i, 1)) .nodes) ((small g (i, 1)) .edges)
   unfolding network active small smallNamed
   leaf =
-      alone (g .segments) (event g i) (openBefore g i) a (during g (i, 1)) (during-one g i l) ((small g (i, 1)) .nodes) (smallNamed g (i, 1)) _ _ (named-is g good (i, 1))
+      alone (g .junctions) (g .segments) (event g i) (openBefore g i) a (during g (i, 1)) (during-one g i l) ((small g (i, 1)) .nodes) (smallNamed g (i, 1)) _ _ (named-is g good (i, 1))
       ∙ ap (readOff ((small g (i, 1)) .nodes)) (contract-plain (g .junctions) (network g (i, 1)) (active g (i, 1)))
 
   pub leaf-name : hangs (openGraph g i) (event g i .0) (event g i .1) ≡ readName (smallNamed g (i, 1))
   unfolding network active
-  leaf-name = alone-name (g .segments) (event g i) (openBefore g i) a (during g (i, 1)) (during-one g i l) ((small g (i, 1)) .nodes) (smallNamed g (i, 1)) _ _ (named-is g good (i, 1))
-
--- a byte is 3 just where its event is no query
-pub byte-asks : (g : Timeline) (i : ℕ) → not (eqb (byte g i) 3) ≡ asks (event g i)
-unfolding byte answer
-byte-asks g i = go (asks (event g i)) (joined (plain (openGraph g i)) (event g i .0) (event g i .1)) (twoEdge (plain (openGraph g i)) (event g i .0) (event g i .1))
-  where
-    go : (a j t : Bool) → not (eqb (cond a (cond j (cond t 2 1) 0) 3) 3) ≡ a
-    go true true true = refl
-    go true true false = refl
-    go true false t = refl
-    go false j t = refl
+  leaf-name = alone-name (g .junctions) (g .segments) (event g i) (openBefore g i) a (during g (i, 1)) (during-one g i l) ((small g (i, 1)) .nodes) (smallNamed g (i, 1)) _ _ (named-is g good (i, 1))
 
 pub map-from : (f : ℕ → ℕ) (k j i : ℕ) → i < k → getD (map f (range j k)) i 0 ≡ f (j + i)
 map-from f zero j i l = absurd (omega arith)
@@ -119,7 +107,7 @@ demand-2 l p r e h =
     at f i u = let e : 0 + i ≡ i = omega arith in map-from f (size (given l)) 0 i u ∙ ap f e
 
     -- what is the same at a query, and one number at every other event
-    at-query : (i : ℕ) → i < size (given l) → (c : ℕ) {x y : ℕ} → (asks (event (given l) i) ≡ true → x ≡ y) → cond (asks (event (given l) i)) x c ≡ cond (asks (event (given l) i)) y c
-    at-query i u c {x} {y} k = onBool (asks (event (given l) i))
-        (λ q. ap (λ (b : ℕ). cond (asks (event (given l) i)) b c) (k q))
+    at-query : (i : ℕ) → i < size (given l) → (c : ℕ) {x y : ℕ} → (asksAt (given l) i ≡ true → x ≡ y) → cond (asksAt (given l) i) x c ≡ cond (asksAt (given l) i) y c
+    at-query i u c {x} {y} k = onBool (asksAt (given l) i)
+        (λ q. ap (λ (b : ℕ). cond (asksAt (given l) i) b c) (k q))
         (λ q. ap (λ (b : Bool). cond b x c) q ∙ sym (ap (λ (b : Bool). cond b y c) q))

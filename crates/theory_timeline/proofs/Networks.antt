@@ -32,25 +32,25 @@ use Rattle.theory_timeline.specs.Steps.{Made, Part, added, down, top}
 use Rattle.theory_timeline.specs.Windows.{Timeline, Window, active, during, firstPart, network, openBefore, size}
 
 -- ---- a window pre ++ (mid ++ post), and its part mid
-module _ (segs : List Edge) (pre mid post : List Event) (o : SegmentSet) where
+module _ (n : ℕ) (segs : List Edge) (pre mid post : List Event) (o : SegmentSet) where
   abbrev whole : List Event
   whole = pre ++ (mid ++ post)
 
   abbrev before : SegmentSet
-  before = openRoads segs (afterAll pre o)
+  before = openRoads segs (afterAll n pre o)
 
   abbrev naming : List Event → SegmentSet
-  naming = namedRoads segs
+  naming = namedRoads n segs
 
   -- the roads that are added
   unfoldable pub addedOf : Named
   addedOf = pick (λ r. before r && (naming whole r && not (naming mid r))) 0 segs
 
-  pub networkOf-part : SameEntries (networkOf segs whole o ++ addedOf) (networkOf segs mid (afterAll pre o))
+  pub networkOf-part : SameEntries (networkOf n segs whole o ++ addedOf) (networkOf n segs mid (afterAll n pre o))
   unfolding networkOf addedOf
   networkOf-part = record {
     weights = λ φ U.
-        weigh-append φ U (networkOf segs whole o) addedOf
+        weigh-append φ U (networkOf n segs whole o) addedOf
         ∙ sym (pick-sum φ U (λ r. before r && not (naming mid r)) (λ r. openRoads segs o r && not (naming whole r)) (λ r. before r && (naming whole r && not (naming mid r))) one 0 segs);
   }
     where
@@ -60,21 +60,21 @@ module _ (segs : List Edge) (pre mid post : List Event) (o : SegmentSet) where
           onBool (naming whole r)
           (λ w. inr (ap (λ b. openRoads segs o r && not b) w ∙ and-false (openRoads segs o r), ap (λ b. before r && (b && not (naming mid r))) w))
           (λ w.
-          let (np, q) = or-neither (naming pre r) (naming (mid ++ post) r) (sym (named-roads-append segs pre (mid ++ post) r) ∙ w) in
-          let (nm, _) = or-neither (naming mid r) (naming post r) (sym (named-roads-append segs mid post r) ∙ q) in
-          inl (ap₂ (λ a b. a && not b) (sym (roads-stay segs pre o r np)) (w ∙ sym nm), ap (λ b. before r && (b && not (naming mid r))) w ∙ and-false (before r)))
+          let (np, q) = or-neither (naming pre r) (naming (mid ++ post) r) (sym (named-roads-append n segs pre (mid ++ post) r) ∙ w) in
+          let (nm, _) = or-neither (naming mid r) (naming post r) (sym (named-roads-append n segs mid post r) ∙ q) in
+          inl (ap₂ (λ a b. a && not b) (sym (roads-stay n segs pre o r np)) (w ∙ sym nm), ap (λ b. before r && (b && not (naming mid r))) w ∙ and-false (before r)))
 
   -- both ends of an added road are active: it has the ends of the segment that is named
-  pub addedOf-within : endsIn (member (activeOf segs whole)) (plain addedOf) ≡ true
+  pub addedOf-within : endsIn (member (activeOf n segs whole)) (plain addedOf) ≡ true
   unfolding addedOf
   addedOf-within =
-      pick-within (member (activeOf segs whole)) (λ r. before r && (naming whole r && not (naming mid r))) (λ k. getD segs k (0, 0)) 0 segs (λ k. ap (λ n. getD segs n (0, 0)) (plus k)) λ r t.
+      pick-within (member (activeOf n segs whole)) (λ r. before r && (naming whole r && not (naming mid r))) (λ k. getD segs k (0, 0)) 0 segs (λ k. ap (λ k. getD segs k (0, 0)) (plus k)) λ r t.
       and-elim (before r) (naming whole r && not (naming mid r)) t λ a b. and-elim (naming whole r) (not (naming mid r)) b λ w u.
-      let (s, n, e) = road-named segs whole r w in
-      let (p, q) = active-named segs whole s n in
-      ends-in (member (activeOf segs whole)) (getD segs r (0, 0)) (getD segs s (0, 0))
+      let (s, m, e) = road-named n segs whole r w in
+      let (p, q) = active-named n segs whole s m in
+      ends-in (member (activeOf n segs whole)) (getD segs r (0, 0)) (getD segs s (0, 0))
       (subst (λ (k : ℕ). sameEnds (getD segs k (0, 0)) (getD segs s (0, 0)) ≡ true) (sym e) (ends-sym (getD segs s (0, 0)) (getD segs (road segs s) (0, 0)) (road-same segs s)))
-      (mem-member _ (activeOf segs whole) p, mem-member _ (activeOf segs whole) q)
+      (mem-member _ (activeOf n segs whole) p, mem-member _ (activeOf n segs whole) q)
     where
       plus : (k : ℕ) → k ≡ 0 + k
       plus k = omega arith
@@ -91,9 +91,9 @@ drop-take zero r l = let e : 0 + r ≡ r = omega arith in ap (λ (n : ℕ). take
 drop-take (suc k) r [] = ap (drop (suc k)) (take-nil (suc k + r)) ∙ sym (take-nil r)
 drop-take (suc k) r (x ∷ l) = let e : suc k + r ≡ suc (k + r) = omega arith in ap (λ (n : ℕ). drop (suc k) (take n (x ∷ l))) e ∙ drop-take k r l
 
-pub after-append : (a b : List Event) (o : SegmentSet) → afterAll b (afterAll a o) ≡ afterAll (a ++ b) o
-after-append [] b o = refl
-after-append (e ∷ a) b o = after-append a b (after e o)
+pub after-append : (n : ℕ) (a b : List Event) (o : SegmentSet) → afterAll n b (afterAll n a o) ≡ afterAll n (a ++ b) o
+after-append n [] b o = refl
+after-append n (e ∷ a) b o = after-append n a b (after n e o)
 
 -- ---- the events before a part, in it, and behind it
 module _ (g : Timeline) (w c : Window) (h : Part w c) where
@@ -126,38 +126,38 @@ module _ (g : Timeline) (w c : Window) (h : Part w c) where
       ∙ ap (λ (l : List Event). pre ++ l) (take-append-drop (c .1) (drop k (take (w .1) (drop (w .0) (g .events)))))
       ∙ take-append-drop k (take (w .1) (drop (w .0) (g .events)))
 
-  pub opened : afterAll pre (openBefore g (w .0)) ≡ openBefore g (c .0)
+  pub opened : afterAll (g .junctions) pre (openBefore g (w .0)) ≡ openBefore g (c .0)
   unfolding openBefore
   opened =
       let a = h .after in
       let b = h .before in
       let f : w .0 + k ≡ c .0 = omega arith in
       let i : k ≤ w .1 = omega arith in
-      after-append (take (w .0) (g .events)) pre (g .start)
-      ∙ ap (λ (l : List Event). afterAll l (g .start))
+      after-append (g .junctions) (take (w .0) (g .events)) pre (g .start)
+      ∙ ap (λ (l : List Event). afterAll (g .junctions) l (g .start))
       (ap (λ (l : List Event). take (w .0) (g .events) ++ l) (take-take k (w .1) (drop (w .0) (g .events)) i) ∙ sym (take-add (w .0) k (g .events)) ∙ ap (λ (n : ℕ). take n (g .events)) f)
 
   -- ---- the laws of a part
   -- the roads that are open, that the events l name, and that the part does not
   abbrev moreThan : List Event → SegmentSet → Named
-  moreThan l o = pick (λ r. openRoads (g .segments) o r && (namedRoads (g .segments) l r && not (namedRoads (g .segments) (during g c) r))) 0 (g .segments)
+  moreThan l o = pick (λ r. openRoads (g .segments) o r && (namedRoads (g .junctions) (g .segments) l r && not (namedRoads (g .junctions) (g .segments) (during g c) r))) 0 (g .segments)
 
   pub network-part : SameEntries (network g w ++ added g w c) (network g c)
   unfolding network added addedOf
   network-part =
-      subst₂ (λ (l : List Event) (o : SegmentSet). SameEntries (networkOf (g .segments) l (openBefore g (w .0)) ++ moreThan l o) (networkOf (g .segments) (during g c) o))
-      split opened (networkOf-part (g .segments) pre (during g c) post (openBefore g (w .0)))
+      subst₂ (λ (l : List Event) (o : SegmentSet). SameEntries (networkOf (g .junctions) (g .segments) l (openBefore g (w .0)) ++ moreThan l o) (networkOf (g .junctions) (g .segments) (during g c) o))
+      split opened (networkOf-part (g .junctions) (g .segments) pre (during g c) post (openBefore g (w .0)))
 
   pub added-active : endsIn (member (active g w)) (plain (added g w c)) ≡ true
   unfolding active added addedOf
   added-active =
-      subst₂ (λ (l : List Event) (o : SegmentSet). endsIn (member (activeOf (g .segments) l)) (plain (moreThan l o)) ≡ true)
-      split opened (addedOf-within (g .segments) pre (during g c) post (openBefore g (w .0)))
+      subst₂ (λ (l : List Event) (o : SegmentSet). endsIn (member (activeOf (g .junctions) (g .segments) l)) (plain (moreThan l o)) ≡ true)
+      split opened (addedOf-within (g .junctions) (g .segments) pre (during g c) post (openBefore g (w .0)))
 
   pub active-part : (v : ℕ) → List·Memᴰ v (active g c) → List·Memᴰ v (active g w)
   unfolding active
   active-part v m =
-      subst (λ (l : List Event). List·Memᴰ v (activeOf (g .segments) l)) split (active-right (g .segments) pre (during g c ++ post) v (active-left (g .segments) (during g c) post v m))
+      subst (λ (l : List Event). List·Memᴰ v (activeOf (g .junctions) (g .segments) l)) split (active-right (g .junctions) (g .segments) pre (during g c ++ post) v (active-left (g .junctions) (g .segments) (during g c) post v m))
 
   -- the step: where a graph carries the window's network, a small graph of it with the added roads is one of the part's network
   pub part-small : (n : ℕ) (H : Named) (ρ σ : ℕ → ℕ) → NamedCarries (network g w) (active g w) n H ρ σ
@@ -170,11 +170,11 @@ module _ (g : Timeline) (w c : Window) (h : Part w c) where
 module _ (g : Timeline) (w : Window) where
   -- the roads of its network
   abbrev pub around : SegmentSet
-  around r = openRoads (g .segments) (openBefore g (w .0)) r && not (namedRoads (g .segments) (during g w) r)
+  around r = openRoads (g .segments) (openBefore g (w .0)) r && not (namedRoads (g .junctions) (g .segments) (during g w) r)
 
-  pub around-name : (r : ℕ) → around r ≡ true → (road (g .segments) r ≡ r) × (namedRoads (g .segments) (during g w) r ≡ false)
-  around-name r h = and-elim (openRoads (g .segments) (openBefore g (w .0)) r) (not (namedRoads (g .segments) (during g w) r)) h λ p q.
-      (open-name (g .segments) (openBefore g (w .0)) r p .0, not-true (namedRoads (g .segments) (during g w) r) q)
+  pub around-name : (r : ℕ) → around r ≡ true → (road (g .segments) r ≡ r) × (namedRoads (g .junctions) (g .segments) (during g w) r ≡ false)
+  around-name r h = and-elim (openRoads (g .segments) (openBefore g (w .0)) r) (not (namedRoads (g .junctions) (g .segments) (during g w) r)) h λ p q.
+      (open-name (g .segments) (openBefore g (w .0)) r p .0, not-true (namedRoads (g .junctions) (g .segments) (during g w) r) q)
 
   pub network-different : DifferentRoads (plain (network g w))
   unfolding network networkOf
@@ -186,9 +186,9 @@ module _ (g : Timeline) (w : Window) where
   network-sixteen l e m = let (s, k, _, q) = pick-mem around 0 (g .segments) e m in omega (arith, ap (λ (e : Entry). e .1) q)
 
 -- the whole list's network: the roads that are open at the start and that no event names
-pub network-start : (g : Timeline) → network g (0, size g) ≡ networkOf (g .segments) (g .events) (g .start)
+pub network-start : (g : Timeline) → network g (0, size g) ≡ networkOf (g .junctions) (g .segments) (g .events) (g .start)
 unfolding network during openBefore
-network-start g = ap (λ (l : List Event). networkOf (g .segments) l (g .start)) (take-length (g .events))
+network-start g = ap (λ (l : List Event). networkOf (g .junctions) (g .segments) l (g .start)) (take-length (g .events))
 
 -- ---- down the windows
 pub made-small : {g : Timeline} {w : Window} {n : ℕ} {H : Named} {σ : ℕ → ℕ} → Made g w n H σ → (ρ : ℕ → ℕ) × IsNamedSmallGraph (network g w) (active g w) n H ρ σ

@@ -10,16 +10,16 @@ use lib.ListN.{drop, length, length-drop, length-replicate, replicate, take}
 use lib.Seq.{length-take-le}
 use native.Mathlib.Omega.{arith}
 use borrow.Author.Tests.{eqb-true, ltb-false, not-false}
+use Rattle.call_kinds.specs.Kinds.{kindOf}
+use Rattle.call_kinds.specs.declared.Kind.{Kind}
+use Rattle.call_kinds.specs.declared.Kind.the-variants.{Closes, None, Opens, Query}
 use Rattle.call_sizes.proofs.RefusalLaws.{Silent, fault-silent, short-long}
 use Rattle.call_sizes.specs.Refusal.{Row, firstFault}
 use Rattle.call_sizes.specs.Sizes.{sizeFaults}
 use Rattle.theory_graph.proofs.Booleans.{contradict}
-use Rattle.theory_timeline.specs.Events.{kindOf}
 use Rattle.theory_timeline.specs.Program.{eventsOf, inputFault, inputFaults, inputLength, inputLent, junctionsOf, segmentsOf, words16}
 use Rattle.theory_timeline.specs.Replay.{Lent, Outcome, done, eventFault, fault, faultAt, faults, given, listFaults, refused, replay, required, shareFaults, shortTables, tableLengths}
 use Rattle.theory_timeline.specs.Windows.{event, openBefore}
-use Rattle.theory_timeline.specs.declared.Kind.{Kind}
-use Rattle.theory_timeline.specs.declared.Kind.the-variants.{Closes, Nothing, Opens, Query}
 
 -- the numbers of an input
 pub words16-length : (bs : List ℕ) (k : ℕ) → length bs ≡ 2 * k → length (words16 bs) ≡ k
@@ -79,7 +79,7 @@ event-other l i =
     go (kindOf (l .n) (e .0)) (ltb (e .1) (l .n)) (ltb (e .1) (l .m)) (openBefore (given l) i (e .1))
   where
     value : Kind → Bool → Bool → Bool → ℕ
-    value k a b c = elim k [ Query ↦ cond a 0 5 | Opens ↦ cond b (cond c 6 0) 5 | Closes ↦ cond b (cond c 0 7) 5 | Nothing ↦ 5 ]
+    value k a b c = elim k [ Query ↦ cond a 0 5 | Opens ↦ cond b (cond c 6 0) 5 | Closes ↦ cond b (cond c 0 7) 5 | None ↦ 5 ]
 
     go : (k : Kind) (a b c : Bool) → ¬ (value k a b c ≡ 2)
     go Query true b c e = omega arith
@@ -90,7 +90,7 @@ event-other l i =
     go Closes a true true e = omega arith
     go Closes a true false e = omega arith
     go Closes a false c e = omega arith
-    go Nothing a b c e = omega arith
+    go None a b c e = omega arith
 
 -- ---- the program
 module _ (work bytes : List ℕ) (enough : length work ≡ 16384) (h : inputFault bytes .0 ≡ 0) where

@@ -11,7 +11,7 @@ use lib.ListN.{drop, getD, length, take}
 use lib.Seq.{drop-cons, take-add, take-suc}
 use native.Mathlib.Numerals.{add-one}
 use native.Mathlib.Omega.{arith}
-use borrow.Author.Tests.{eq-eqb, eqb-false, eqb-true, le-ltb, leb-false, leb-true, lt-ltb, ltb-false, ltb-true, ne-eqb, not-false, not-true}
+use borrow.Author.Tests.{eq-eqb, eqb-false, eqb-true, le-ltb, leb-false, leb-true, lt-ltb, ltb-false, ltb-true, ne-eqb}
 use Rattle.call_sizes.proofs.RefusalLaws.{seek-before, seek-found}
 use Rattle.call_sizes.specs.Refusal.{seek}
 use Rattle.theory_graph.proofs.Booleans.{and-elim, contradict, onBool}
@@ -23,13 +23,13 @@ use Rattle.theory_names.proofs.NamedCuts.{weigh-append}
 use Rattle.theory_names.specs.Names.{Entry, Named, weigh}
 use Rattle.theory_names.specs.NamedSmallGraph.{imageNamed}
 use Rattle.theory_timeline.proofs.Counting.{bit-most}
-use Rattle.theory_timeline.proofs.EventLaws.{pick-ext, pick-sum, roads-stay}
+use Rattle.theory_timeline.proofs.EventLaws.{changes-asks, pick-ext, pick-sum, roads-stay}
 use Rattle.theory_timeline.proofs.Networks.{after-append}
 use Rattle.theory_timeline.proofs.RoadLaws.{ends-cross, road-most, road-same}
-use Rattle.theory_timeline.specs.Events.{Event, SegmentSet, after, afterAll, asks, closes, namedRoads, openRoads, opens, pick}
+use Rattle.theory_timeline.specs.Events.{Event, SegmentSet, after, afterAll, namedRoads, openRoads, pick}
 use Rattle.theory_timeline.specs.Steps.{Part, added}
 use Rattle.theory_timeline.specs.Tags.{adds, addsEvent, bit, endsAt, entryAt, eventWords, isOpenAfter, key, keyOf, last, namesKey, next, pickEvents, seekLast, tag, wasOpen, word}
-use Rattle.theory_timeline.specs.Windows.{Timeline, Window, during, event, openBefore, roadsBefore, size}
+use Rattle.theory_timeline.specs.Windows.{Timeline, Window, changesAt, during, event, openBefore, roadsBefore, size}
 
 -- ---- seeking
 module _ (f : ℕ → Bool) where
@@ -88,23 +88,23 @@ module _ (g : Timeline) (i : ℕ) where
   unfolding tag
   tag-says = says _ (key g i) (roadsBefore g i (key g i)) (roadsBefore g (i + 1) (key g i)) refl
 
-  -- the words of a query, and of an event that opens or closes
-  pub word-query : (k : ℕ) → asks (event g i) ≡ true → word g k i ≡ 0
+  -- the words of an event that names no segment, and of one that opens or closes
+  pub word-none : (k : ℕ) → changesAt g i ≡ false → word g k i ≡ 0
   unfolding word
-  word-query zero h = ap (λ (b : Bool). cond b 0 (tag g i)) h
-  word-query (suc zero) h = ap (λ (b : Bool). cond b 0 (next g i)) h
-  word-query (suc (suc k)) h = ap (λ (b : Bool). cond b 0 (last g i)) h
+  word-none zero h = ap (λ (b : Bool). cond b (tag g i) 0) h
+  word-none (suc zero) h = ap (λ (b : Bool). cond b (next g i) 0) h
+  word-none (suc (suc k)) h = ap (λ (b : Bool). cond b (last g i) 0) h
 
-  pub word-change : asks (event g i) ≡ false → (word g 0 i ≡ tag g i) × (word g 1 i ≡ next g i) × (word g 2 i ≡ last g i)
+  pub word-change : changesAt g i ≡ true → (word g 0 i ≡ tag g i) × (word g 1 i ≡ next g i) × (word g 2 i ≡ last g i)
   unfolding word
-  word-change h = (ap (λ (b : Bool). cond b 0 (tag g i)) h, ap (λ (b : Bool). cond b 0 (next g i)) h, ap (λ (b : Bool). cond b 0 (last g i)) h)
+  word-change h = (ap (λ (b : Bool). cond b (tag g i) 0) h, ap (λ (b : Bool). cond b (next g i) 0) h, ap (λ (b : Bool). cond b (last g i) 0) h)
 
-  -- an event that adds its key is no query, and its tag has the key
+  -- an event that adds its key names a segment, and its tag has the key
   pub adds-key : (w c : Window) → addsEvent g w c i ≡ true → keyOf (word g 0 i) ≡ key g i
   unfolding adds
-  adds-key w c h = onBool (asks (event g i))
-      (λ q. and-elim (ltb 0 (word g 0 i)) _ h (λ t _. contradict t (ap (ltb 0) (word-query 0 q))))
+  adds-key w c h = onBool (changesAt g i)
       (λ q. ap keyOf (word-change q .0) ∙ tag-says .named)
+      (λ q. and-elim (ltb 0 (word g 0 i)) _ h (λ t _. contradict t (ap (ltb 0) (word-none 0 q))))
 
   -- no event between i and its next names its key, and the next does; likewise before it
   next-low : i + 1 ≤ next g i
@@ -150,13 +150,13 @@ module _ (g : Timeline) where
   abbrev pub namesIn : ℕ → ℕ → SegmentSet
   namesIn a n r = any (namesKey g r) (range a n)
 
-  named-range : (a n r : ℕ) → a + n ≤ size g → namedRoads (g .segments) (take n (drop a (g .events))) r ≡ namesIn a n r
+  named-range : (a n r : ℕ) → a + n ≤ size g → namedRoads (g .junctions) (g .segments) (take n (drop a (g .events))) r ≡ namesIn a n r
   named-range a zero r l = refl
   named-range a (suc n) r l =
-      ap (λ (e : List Event). namedRoads (g .segments) (take (suc n) e) r) (drop-cons (g .events) a (0, 0) (omega arith))
+      ap (λ (e : List Event). namedRoads (g .junctions) (g .segments) (take (suc n) e) r) (drop-cons (g .events) a (0, 0) (omega arith))
       ∙ ap (λ b. namesKey g r a || b) (named-range (suc a) n r (omega arith))
 
-  pub named-during : (w : Window) (r : ℕ) → w .0 + w .1 ≤ size g → namedRoads (g .segments) (during g w) r ≡ namesIn (w .0) (w .1) r
+  pub named-during : (w : Window) (r : ℕ) → w .0 + w .1 ≤ size g → namedRoads (g .junctions) (g .segments) (during g w) r ≡ namesIn (w .0) (w .1) r
   unfolding during
   named-during w r l = named-range (w .0) (w .1) r l
 
@@ -165,8 +165,8 @@ module _ (g : Timeline) where
   unfolding openBefore
   quiet a n r l h =
       ap (λ (o : SegmentSet). openRoads (g .segments) o r)
-      (ap (λ (e : List Event). afterAll e (g .start)) (take-add a n (g .events)) ∙ sym (after-append (take a (g .events)) (take n (drop a (g .events))) (g .start)))
-      ∙ roads-stay (g .segments) (take n (drop a (g .events))) (afterAll (take a (g .events)) (g .start)) r (named-range a n r l ∙ h)
+      (ap (λ (e : List Event). afterAll (g .junctions) e (g .start)) (take-add a n (g .events)) ∙ sym (after-append (g .junctions) (take a (g .events)) (take n (drop a (g .events))) (g .start)))
+      ∙ roads-stay (g .junctions) (g .segments) (take n (drop a (g .events))) (afterAll (g .junctions) (take a (g .events)) (g .start)) r (named-range a n r l ∙ h)
 
   -- from event a to event b
   pub quiet-to : (a b r : ℕ) → a ≤ b → b ≤ size g → ((j : ℕ) → a ≤ j → j < b → namesKey g r j ≡ false) → roadsBefore g b r ≡ roadsBefore g a r
@@ -175,21 +175,21 @@ module _ (g : Timeline) where
       ap (λ (j : ℕ). roadsBefore g j r) (sym z) ∙ quiet a (b - a) r (omega arith) (any-none (namesKey g r) a (b - a) (λ j p q. h j p (omega arith)))
 
   -- after one event more
-  pub open-next : (i : ℕ) → i < size g → openBefore g (i + 1) ≡ after (event g i) (openBefore g i)
+  pub open-next : (i : ℕ) → i < size g → openBefore g (i + 1) ≡ after (g .junctions) (event g i) (openBefore g i)
   unfolding openBefore
   open-next i l =
-      ap (λ (l : List Event). afterAll l (g .start)) (ap (λ k. take k (g .events)) (add-one i) ∙ take-suc (g .events) i (0, 0) l)
-      ∙ sym (after-append (take i (g .events)) (event g i ∷ []) (g .start))
+      ap (λ (l : List Event). afterAll (g .junctions) l (g .start)) (ap (λ k. take k (g .events)) (add-one i) ∙ take-suc (g .events) i (0, 0) l)
+      ∙ sym (after-append (g .junctions) (take i (g .events)) (event g i ∷ []) (g .start))
 
   -- an event that opens or closes names its own key, and no other
-  pub names-own : (i : ℕ) → asks (event g i) ≡ false → namesKey g (key g i) i ≡ true
-  names-own i h = ap₂ _&&_ (not-false (opens (event g i) || closes (event g i)) h) (eq-eqb (key g i) (key g i) refl)
+  pub names-own : (i : ℕ) → changesAt g i ≡ true → namesKey g (key g i) i ≡ true
+  names-own i h = ap₂ _&&_ h (eq-eqb (key g i) (key g i) refl)
 
   pub names-other : (i r : ℕ) → (r ≡ key g i → ⊥) → namesKey g r i ≡ false
-  names-other i r n = ap (λ b. (opens (event g i) || closes (event g i)) && b) (ne-eqb r (key g i) n) ∙ and-false (opens (event g i) || closes (event g i))
+  names-other i r n = ap (λ b. changesAt g i && b) (ne-eqb r (key g i) n) ∙ and-false (changesAt g i)
 
-  pub names-none : (i r : ℕ) → asks (event g i) ≡ true → namesKey g r i ≡ false
-  names-none i r h = ap (λ b. b && eqb r (key g i)) (not-true (opens (event g i) || closes (event g i)) h)
+  pub names-none : (i r : ℕ) → changesAt g i ≡ false → namesKey g r i ≡ false
+  names-none i r h = ap (λ b. b && eqb r (key g i)) h
 
 -- ---- one key alone
 pick-none : (φ : ℕ → ℕ) (U t : NodeSet) (i : ℕ) (es : List Edge) → ((k : ℕ) → k < length es → t (i + k) ≡ false) → weigh φ U (pick t i es) ≡ 0
@@ -262,7 +262,7 @@ named-snoc g a k r =
     let e : suc k ≡ k + 1 = omega arith in
     ap (λ (n : ℕ). namesIn g a n r) e ∙ any-add (namesKey g r) a k 1 ∙ ap (λ (x : Bool). namesIn g a k r || x) (or-false (namesKey g r (a + k)))
 
-module _ (g : Timeline) (w c : Window) (h : Part w c) (fit : w .0 + w .1 ≤ size g) (fine : (i : ℕ) → i < size g → asks (event g i) ≡ false → event g i .1 < length (g .segments)) where
+module _ (g : Timeline) (w c : Window) (h : Part w c) (fit : w .0 + w .1 ≤ size g) (fine : (i : ℕ) → i < size g → changesAt g i ≡ true → event g i .1 < length (g .segments)) where
   abbrev segs : List Edge
   segs = g .segments
 
@@ -273,11 +273,11 @@ module _ (g : Timeline) (w c : Window) (h : Part w c) (fit : w .0 + w .1 ≤ siz
   f = addsEvent g w c
 
   -- event i by its words
-  query-not : (i : ℕ) → asks (event g i) ≡ true → f i ≡ false
+  named-not : (i : ℕ) → changesAt g i ≡ false → f i ≡ false
   unfolding adds
-  query-not i q = ap (λ (t : ℕ). ltb 0 t && cond (ltb i (c .0)) (leb (c .0 + c .1) (word g 1 i) && isOpenAfter t) (leb (word g 2 i) (w .0) && wasOpen t)) (word-query g i 0 q)
+  named-not i q = ap (λ (t : ℕ). ltb 0 t && cond (ltb i (c .0)) (leb (c .0 + c .1) (word g 1 i) && isOpenAfter t) (leb (word g 2 i) (w .0) && wasOpen t)) (word-none g i 0 q)
 
-  front-adds : (i : ℕ) → asks (event g i) ≡ false → i < c .0 → f i ≡ (leb (c .0 + c .1) (next g i) && roadsBefore g (i + 1) (key g i))
+  front-adds : (i : ℕ) → changesAt g i ≡ true → i < c .0 → f i ≡ (leb (c .0 + c .1) (next g i) && roadsBefore g (i + 1) (key g i))
   unfolding adds
   front-adds i q l =
       let (a, b, _) = word-change g i q in
@@ -286,7 +286,7 @@ module _ (g : Timeline) (w c : Window) (h : Part w c) (fit : w .0 + w .1 ≤ siz
       ∙ ap₂ (λ (t x : ℕ). ltb 0 t && (leb (c .0 + c .1) x && isOpenAfter t)) a b
       ∙ ap₂ (λ (t u : Bool). t && (leb (c .0 + c .1) (next g i) && u)) (s .change) (s .is)
 
-  back-adds : (i : ℕ) → asks (event g i) ≡ false → c .0 ≤ i → f i ≡ (leb (last g i) (w .0) && roadsBefore g i (key g i))
+  back-adds : (i : ℕ) → changesAt g i ≡ true → c .0 ≤ i → f i ≡ (leb (last g i) (w .0) && roadsBefore g i (key g i))
   unfolding adds
   back-adds i q l =
       let (a, _, b) = word-change g i q in
@@ -296,22 +296,22 @@ module _ (g : Timeline) (w c : Window) (h : Part w c) (fit : w .0 + w .1 ≤ siz
       ∙ ap₂ (λ (t u : Bool). t && (leb (last g i) (w .0) && u)) (s .change) (s .was)
 
   -- the edge of an event that opens or closes
-  edge-is : (U : NodeSet) (i : ℕ) → asks (event g i) ≡ false
+  edge-is : (U : NodeSet) (i : ℕ) → changesAt g i ≡ true
       → crosses (U (endsAt g i .0)) (U (endsAt g i .1)) ≡ crosses (U (getD segs (key g i) (0, 0) .0)) (U (getD segs (key g i) (0, 0) .1))
   edge-is U i q = ap (λ (e : Edge). crosses (U (e .0)) (U (e .1)))
-      (ap (λ (b : Bool). cond b (getD segs (event g i .1) (0, 0)) (event g i)) (not-false (opens (event g i) || closes (event g i)) q))
+      (ap (λ (b : Bool). cond b (event g i) (getD segs (event g i .1) (0, 0))) (changes-asks (g .junctions) (event g i) q))
       ∙ ends-cross U (getD segs (event g i .1) (0, 0)) (getD segs (key g i) (0, 0)) (road-same segs (event g i .1))
 
   -- one event: the set with it and the set without it differ at most in its key
   module _ (φ : ℕ → ℕ) (U : NodeSet) (i : ℕ) (li : i < size g) (t s : SegmentSet) where
-    one-event : (asks (event g i) ≡ true → (r : ℕ) → t r ≡ s r) → ((r : ℕ) → (r ≡ key g i → ⊥) → t r ≡ s r)
-        → (asks (event g i) ≡ false → ((f i ≡ true) × (t (key g i) ≡ true) × (s (key g i) ≡ false)) ⊎ ((f i ≡ false) × (t (key g i) ≡ s (key g i))))
+    one-event : (changesAt g i ≡ false → (r : ℕ) → t r ≡ s r) → ((r : ℕ) → (r ≡ key g i → ⊥) → t r ≡ s r)
+        → (changesAt g i ≡ true → ((f i ≡ true) × (t (key g i) ≡ true) × (s (key g i) ≡ false)) ⊎ ((f i ≡ false) × (t (key g i) ≡ s (key g i))))
         → weigh φ U (pick t 0 segs) ≡ weigh φ U (pickEvents f (entryAt g) i 1) + weigh φ U (pick s 0 segs)
-    one-event none same own = onBool (asks (event g i))
-        (λ q. ap (weigh φ U) (pick-ext t s (none q) 0 segs) ∙ sym (ap (λ (b : Bool). weigh φ U (cond b (entryAt g i ∷ []) []) + weigh φ U (pick s 0 segs)) (query-not i q) ∙ omega arith))
+    one-event none same own = onBool (changesAt g i)
         (λ q. go q (own q))
+        (λ q. ap (weigh φ U) (pick-ext t s (none q) 0 segs) ∙ sym (ap (λ (b : Bool). weigh φ U (cond b (entryAt g i ∷ []) []) + weigh φ U (pick s 0 segs)) (named-not i q) ∙ omega arith))
       where
-        go : asks (event g i) ≡ false → ((f i ≡ true) × (t (key g i) ≡ true) × (s (key g i) ≡ false)) ⊎ ((f i ≡ false) × (t (key g i) ≡ s (key g i)))
+        go : changesAt g i ≡ true → ((f i ≡ true) × (t (key g i) ≡ true) × (s (key g i) ≡ false)) ⊎ ((f i ≡ false) × (t (key g i) ≡ s (key g i)))
             → weigh φ U (pick t 0 segs) ≡ weigh φ U (pickEvents f (entryAt g) i 1) + weigh φ U (pick s 0 segs)
         go q (inl (a, b, d)) =
             let one = one-more φ U segs t s (key g i) same (omega (arith, fine i li q, road-most segs (event g i .1))) b d in
@@ -325,7 +325,7 @@ module _ (g : Timeline) (w c : Window) (h : Part w c) (fit : w .0 + w .1 ≤ siz
   abbrev ahead : ℕ → ℕ → SegmentSet
   ahead i k = keys O (namesIn g i k) (namesIn g (c .0) (c .1))
 
-  front-own : (i k : ℕ) → w .0 ≤ i → i + suc k ≡ c .0 → asks (event g i) ≡ false
+  front-own : (i k : ℕ) → w .0 ≤ i → i + suc k ≡ c .0 → changesAt g i ≡ true
       → ((f i ≡ true) × (ahead i (suc k) (key g i) ≡ true) × (ahead (suc i) k (key g i) ≡ false)) ⊎ ((f i ≡ false) × (ahead i (suc k) (key g i) ≡ ahead (suc i) k (key g i)))
   front-own i k lo e q =
       let b = h .before in
@@ -382,7 +382,7 @@ module _ (g : Timeline) (w c : Window) (h : Part w c) (fit : w .0 + w .1 ≤ siz
   abbrev behind : ℕ → SegmentSet
   behind k = keys O (namesIn g (c .0 + c .1) k) (namesIn g (w .0) (c .0 + c .1 - w .0))
 
-  back-own : (k : ℕ) → c .0 + c .1 + k < w .0 + w .1 → asks (event g (c .0 + c .1 + k)) ≡ false
+  back-own : (k : ℕ) → c .0 + c .1 + k < w .0 + w .1 → changesAt g (c .0 + c .1 + k) ≡ true
       → ((f (c .0 + c .1 + k) ≡ true) × (behind (suc k) (key g (c .0 + c .1 + k)) ≡ true) × (behind k (key g (c .0 + c .1 + k)) ≡ false))
       ⊎ ((f (c .0 + c .1 + k) ≡ false) × (behind (suc k) (key g (c .0 + c .1 + k)) ≡ behind k (key g (c .0 + c .1 + k))))
   back-own k l q =
@@ -450,7 +450,7 @@ module _ (g : Timeline) (w c : Window) (h : Part w c) (fit : w .0 + w .1 ≤ siz
       let b = h .before in
       let one = front-weigh φ U (c .0 - w .0) (w .0) (omega arith) (omega arith) in
       let two = back-weigh φ U (w .0 + w .1 - (c .0 + c .1)) (omega arith) in
-      let sum = pick-sum φ U (keys O (namedRoads segs (during g w)) (namedRoads segs (during g c))) (ahead (w .0) (c .0 - w .0)) (behind (w .0 + w .1 - (c .0 + c .1))) both 0 segs in
+      let sum = pick-sum φ U (keys O (namedRoads (g .junctions) segs (during g w)) (namedRoads (g .junctions) segs (during g c))) (ahead (w .0) (c .0 - w .0)) (behind (w .0 + w .1 - (c .0 + c .1))) both 0 segs in
       omega arith
     where
       x : ℕ
@@ -459,16 +459,16 @@ module _ (g : Timeline) (w c : Window) (h : Part w c) (fit : w .0 + w .1 ≤ siz
       y : ℕ
       y = w .0 + w .1 - (c .0 + c .1)
 
-      both : (r : ℕ) → ((ahead (w .0) (c .0 - w .0) r ≡ keys O (namedRoads segs (during g w)) (namedRoads segs (during g c)) r) × (behind (w .0 + w .1 - (c .0 + c .1)) r ≡ false))
-          ⊎ ((ahead (w .0) (c .0 - w .0) r ≡ false) × (behind (w .0 + w .1 - (c .0 + c .1)) r ≡ keys O (namedRoads segs (during g w)) (namedRoads segs (during g c)) r))
+      both : (r : ℕ) → ((ahead (w .0) (c .0 - w .0) r ≡ keys O (namedRoads (g .junctions) segs (during g w)) (namedRoads (g .junctions) segs (during g c)) r) × (behind (w .0 + w .1 - (c .0 + c .1)) r ≡ false))
+          ⊎ ((ahead (w .0) (c .0 - w .0) r ≡ false) × (behind (w .0 + w .1 - (c .0 + c .1)) r ≡ keys O (namedRoads (g .junctions) segs (during g w)) (namedRoads (g .junctions) segs (during g c)) r))
       both r =
           let a = h .after in
           let b = h .before in
           let e1 : w .1 ≡ x + (c .1 + y) = omega arith in
           let e2 : w .0 + x ≡ c .0 = omega arith in
           let e3 : c .0 + c .1 - w .0 ≡ x + c .1 = omega arith in
-          let nc : namedRoads segs (during g c) r ≡ namesIn g (c .0) (c .1) r = named-during g c r (omega arith) in
-          let nw : namedRoads segs (during g w) r ≡ (namesIn g (w .0) x r || (namesIn g (c .0) (c .1) r || namesIn g (c .0 + c .1) y r)) =
+          let nc : namedRoads (g .junctions) segs (during g c) r ≡ namesIn g (c .0) (c .1) r = named-during g c r (omega arith) in
+          let nw : namedRoads (g .junctions) segs (during g w) r ≡ (namesIn g (w .0) x r || (namesIn g (c .0) (c .1) r || namesIn g (c .0 + c .1) y r)) =
           named-during g w r fit ∙ ap (λ (n : ℕ). namesIn g (w .0) n r) e1 ∙ any-add (namesKey g r) (w .0) x (c .1 + y)
           ∙ ap (λ (z : Bool). namesIn g (w .0) x r || z) (ap (λ (n : ℕ). namesIn g n (c .1 + y) r) e2 ∙ any-add (namesKey g r) (c .0) (c .1) y) in
           let nb : namesIn g (w .0) (c .0 + c .1 - w .0) r ≡ (namesIn g (w .0) x r || namesIn g (c .0) (c .1) r) =

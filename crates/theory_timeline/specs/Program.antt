@@ -5,10 +5,9 @@ use mathlib.Core.Bool.{false, not, true}
 use mathlib.Core.List.{List, [], _++_, _∷_}
 use lib.Dec.{eqb, ltb}
 use lib.ListN.{drop, getD, length, replicate, take}
+use Rattle.call_kinds.specs.Kinds.{isQuery, kindOf}
 use Rattle.call_sizes.specs.Refusal.{Refusal, Row, firstFault, row}
-use Rattle.theory_timeline.specs.Events.{Event, asks}
-use Rattle.theory_timeline.specs.Replay.{Lent, Outcome, given, replay}
-use Rattle.theory_timeline.specs.Windows.{event}
+use Rattle.theory_timeline.specs.Replay.{Lent, Outcome, replay}
 
 -- ---- the input
 -- bytes as 16-bit little-endian numbers
@@ -81,12 +80,12 @@ decimal n = spell 20 n []
 unfoldable pub queryLine : ℕ → ℕ → List ℕ
 queryLine i answer = decimal i ++ (32 ∷ (decimal answer ++ (10 ∷ [])))
 
--- one line for each query of the first n events from i on: the event's place and its answer
-unfoldable pub queryLines : (ℕ → Event) → (ℕ → ℕ) → ℕ → ℕ → List ℕ
-queryLines event answers i zero = []
-queryLines event answers i (suc n) =
-    let rest : List ℕ = queryLines event answers (suc i) n in
-    elim (asks (event i)) [ true ↦ queryLine i (answers i) ++ rest | false ↦ rest ]
+-- one line for each query of the k events from i on, by the table X: the event's place and its answer
+unfoldable pub queryLines : ℕ → List ℕ → List ℕ → ℕ → ℕ → List ℕ
+queryLines n x answers i zero = []
+queryLines n x answers i (suc k) =
+    let rest : List ℕ = queryLines n x answers (suc i) k in
+    elim (isQuery (kindOf n (getD x i 0))) [ true ↦ queryLine i (getD answers i 0) ++ rest | false ↦ rest ]
 
 -- "asks q open o kept k"
 unfoldable pub totalsLine : ℕ → ℕ → ℕ → List ℕ
@@ -99,19 +98,25 @@ totalsLine q o k =
 unfoldable pub refusedLine : ℕ → ℕ → List ℕ
 refusedLine c i = 114 ∷ 101 ∷ 102 ∷ 117 ∷ 115 ∷ 101 ∷ 100 ∷ 32 ∷ (decimal c ++ (32 ∷ 97 ∷ 116 ∷ 32 ∷ (decimal i ++ (10 ∷ []))))
 
--- what is printed of a replay
-unfoldable pub printed : Lent → Outcome → List ℕ
-printed l r =
+-- what is printed of the replay of t events over n junctions, with the table X
+unfoldable pub printed : ℕ → ℕ → List ℕ → Outcome → List ℕ
+printed n t x r =
     elim (r .accepted) [
-      | true ↦ queryLines (event (given l)) (λ i. getD (r .answers) i 0) 0 (l .t) ++ totalsLine (r .queries) (r .opened) (r .kept)
+      | true ↦ queryLines n x (r .answers) 0 t ++ totalsLine (r .queries) (r .opened) (r .kept)
       | false ↦ refusedLine (r .code) (r .place)
     ]
+
+-- what is printed of the replay of an input, with a given work table and share
+abbrev pub printedInput : List ℕ → List ℕ → ℕ → List ℕ
+printedInput work bytes p =
+    let l : Lent = inputLent work bytes in
+    printed (l .n) (l .t) (l .x) (replay l p)
 
 -- the bytes written for the bytes read, with a given work table
 unfoldable pub outputWith : List ℕ → List ℕ → List ℕ
 outputWith work bytes =
     elim (eqb (inputFault bytes .0) 0) [
-      | true ↦ printed (inputLent work bytes) (replay (inputLent work bytes) (shareOf (words16 bytes)))
+      | true ↦ printedInput work bytes (shareOf (words16 bytes))
       | false ↦ refusedLine (inputFault bytes .0) (inputFault bytes .1)
     ]
 

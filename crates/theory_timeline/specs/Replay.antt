@@ -10,30 +10,31 @@ use lib.ListN.{length, replicate, take}
 use Rattle.theory_graph.specs.Graph.{answer}
 use Rattle.theory_graph.specs.Lists.{filter, over, pairs, range}
 use Rattle.theory_names.specs.Names.{hangs, plain}
+use Rattle.call_kinds.specs.Kinds.{kindOf}
+use Rattle.call_kinds.specs.declared.Kind.the-variants.{Closes, None, Opens, Query}
 use Rattle.call_sizes.specs.Refusal.{Refusal, Row, firstFault, row, seek, shortRows, badEnds, badStart}
 use Rattle.call_sizes.specs.Sizes.{sizeFaults}
-use Rattle.theory_timeline.specs.Events.{Event, SegmentSet, asks, kindOf}
-use Rattle.theory_timeline.specs.Windows.{Timeline, atStart, event, kept, openBefore, openGraph, size}
-use Rattle.theory_timeline.specs.declared.Kind.the-variants.{Closes, Nothing, Opens, Query}
+use Rattle.theory_timeline.specs.Events.{Event, SegmentSet}
+use Rattle.theory_timeline.specs.Windows.{Timeline, asksAt, atStart, event, kept, openBefore, openGraph, size}
 
 -- ---- what a replay finds
 -- the answer byte of event i: 3 where it opens or closes, else the answer over the roads open before it, each of them one edge
 unfoldable pub byte : Timeline → ℕ → ℕ
-byte g i = cond (asks (event g i)) (answer (plain (openGraph g i)) (event g i .0) (event g i .1)) 3
+byte g i = cond (asksAt g i) (answer (plain (openGraph g i)) (event g i .0) (event g i .1)) 3
 
 unfoldable pub bytes : Timeline → List ℕ
 bytes g = map (byte g) (range 0 (size g))
 
 -- the name that event i gets: "at a query with answer 1, the smallest name of an open road whose loss parts the two junctions; at every other event 65,535"
 unfoldable pub nameAt : Timeline → ℕ → ℕ
-nameAt g i = cond (asks (event g i)) (hangs (openGraph g i) (event g i .0) (event g i .1)) 65535
+nameAt g i = cond (asksAt g i) (hangs (openGraph g i) (event g i .0) (event g i .1)) 65535
 
 unfoldable pub namesAt : Timeline → List ℕ
 namesAt g = map (nameAt g) (range 0 (size g))
 
 -- the queries, and the segments open at the end
 unfoldable pub queries : Timeline → ℕ
-queries g = length (filter (λ i. asks (event g i)) (range 0 (size g)))
+queries g = length (filter (asksAt g) (range 0 (size g)))
 
 unfoldable pub openAtEnd : Timeline → ℕ
 openAtEnd g = length (filter (openBefore g (size g)) (range 0 (length (g .segments))))
@@ -72,7 +73,7 @@ eventFault n m o e = elim (kindOf n (e .0)) [
   | Query ↦ cond (ltb (e .1) n) 0 5
   | Opens ↦ cond (ltb (e .1) m) (cond (o (e .1)) 6 0) 5
   | Closes ↦ cond (ltb (e .1) m) (cond (o (e .1)) 0 7) 5
-  | Nothing ↦ 5
+  | None ↦ 5
 ]
 
 -- the fault of event i

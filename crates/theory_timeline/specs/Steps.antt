@@ -9,7 +9,7 @@ use lib.ListN.{length}
 use Rattle.theory_graph.specs.SmallGraph.{endsIn}
 use Rattle.theory_names.specs.Names.{Named}
 use Rattle.theory_names.specs.NamedSmallGraph.{IsNamedSmallGraph, imageNamed}
-use Rattle.theory_timeline.specs.Events.{after, namedRoads}
+use Rattle.theory_timeline.specs.Events.{namedRoads}
 use Rattle.theory_timeline.specs.Replay.{eventFault}
 use Rattle.theory_timeline.specs.Windows.{Timeline, Window, active, during, edgesOf, event, network, openBefore, roadsBefore, size}
 
@@ -27,7 +27,7 @@ pub record Part (w c : Window) : Type 0 where
 
 -- the roads that w names a segment of, c does not, and that are open before c: one edge each, with its name
 unfoldable pub added : Timeline → Window → Window → Named
-added g w c = edgesOf g (λ r. roadsBefore g (c .0) r && (namedRoads (g .segments) (during g w) r && not (namedRoads (g .segments) (during g c) r)))
+added g w c = edgesOf g (λ r. roadsBefore g (c .0) r && (namedRoads (g .junctions) (g .segments) (during g w) r && not (namedRoads (g .junctions) (g .segments) (during g c) r)))
 
 -- A graph of n nodes with the named edges H, in which junction a stands at σ a, is made for a window:
 -- for the whole list out of its network, for a part out of the graph above it and the added roads.

@@ -11,9 +11,9 @@ use Rattle.call_sizes.specs.Refusal.{seek}
 use Rattle.theory_graph.specs.Graph.{Edge}
 use Rattle.theory_graph.specs.Lists.{filter, range}
 use Rattle.theory_names.specs.Names.{Entry, Named}
-use Rattle.theory_timeline.specs.Events.{SegmentSet, asks, ends, namesRoad}
+use Rattle.theory_timeline.specs.Events.{SegmentSet, ends, namesRoad}
 use Rattle.theory_timeline.specs.Roads.{road}
-use Rattle.theory_timeline.specs.Windows.{Timeline, Window, event, openBefore, roadsBefore, size}
+use Rattle.theory_timeline.specs.Windows.{Timeline, Window, changesAt, event, openBefore, roadsBefore, size}
 
 -- ---- the words of an event
 -- the key that an event names: the road of its segment
@@ -22,7 +22,7 @@ key g i = road (g .segments) (event g i .1)
 
 -- event i opens or closes a segment of the road k
 abbrev pub namesKey : Timeline → ℕ → ℕ → Bool
-namesKey g k i = namesRoad (g .segments) (event g i) k
+namesKey g k i = namesRoad (g .junctions) (g .segments) (event g i) k
 
 -- how many segments of road r are open, where the segments of o are; the road is open where this is not 0. And before event i of a list.
 unfoldable pub openSegments : List Edge → SegmentSet → ℕ → ℕ
@@ -51,11 +51,11 @@ seekLast f (suc k) = cond (f k) (suc k) (seekLast f k)
 unfoldable pub last : Timeline → ℕ → ℕ
 last g i = seekLast (namesKey g (key g i)) i
 
--- the words of event i: 0 for a query
+-- the words of event i: 0 where it names no segment
 unfoldable pub word : Timeline → ℕ → ℕ → ℕ
-word g zero i = cond (asks (event g i)) 0 (tag g i)
-word g (suc zero) i = cond (asks (event g i)) 0 (next g i)
-word g (suc (suc k)) i = cond (asks (event g i)) 0 (last g i)
+word g zero i = cond (changesAt g i) (tag g i) 0
+word g (suc zero) i = cond (changesAt g i) (next g i) 0
+word g (suc (suc k)) i = cond (changesAt g i) (last g i) 0
 
 -- those of the n events from i on
 unfoldable pub eventWords : Timeline → ℕ → ℕ → List ℕ
@@ -89,7 +89,7 @@ pickEvents f E i (suc n) = cond (f i) (E i ∷ pickEvents f E (suc i) n) (pickEv
 
 -- the two junctions of event i
 abbrev pub endsAt : Timeline → ℕ → Edge
-endsAt g i = ends (g .segments) (event g i)
+endsAt g i = ends (g .junctions) (g .segments) (event g i)
 
 -- the edge between them, with the key of event i as its name
 abbrev pub entryAt : Timeline → ℕ → Entry

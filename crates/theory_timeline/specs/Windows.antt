@@ -1,7 +1,7 @@
 -- Document 01, "Windows": the windows of a share, each window's network, active junctions and small graph, and kept.
 -- Assumes nothing: these are definitions.
 use Prim.Native.Nat.{_*_, _+_, _-_, _/_, max, suc, zero, ℕ}
-use mathlib.Core.Bool.{false, true}
+use mathlib.Core.Bool.{Bool, false, true}
 use mathlib.Core.List.{List, [], _++_, _∷_, map}
 use lib.Dec.{eqb, ltb}
 use lib.ListN.{drop, getD, length, take}
@@ -10,7 +10,7 @@ use Rattle.theory_graph.specs.Graph.{Edge}
 use Rattle.theory_graph.specs.Lists.{sum}
 use Rattle.theory_names.specs.Names.{Entry, Named, contractNamed, plain}
 use Rattle.theory_timeline.specs.Roads.{road}
-use Rattle.theory_timeline.specs.Events.{Event, SegmentSet, activeOf, afterAll, networkOf, openRoads, pick}
+use Rattle.theory_timeline.specs.Events.{Event, SegmentSet, activeOf, afterAll, asks, changes, closes, networkOf, openRoads, opens, pick}
 
 -- a network, the segments open at the start, and the list of events
 pub record Timeline : Type 0 where
@@ -25,13 +25,26 @@ size g = length (g .events)
 abbrev pub event : Timeline → ℕ → Event
 event g i = getD (g .events) i (0, 0)
 
+-- event i is a query; it opens or closes a segment; it does either
+abbrev pub asksAt : Timeline → ℕ → Bool
+asksAt g i = asks (g .junctions) (event g i)
+
+abbrev pub opensAt : Timeline → ℕ → Bool
+opensAt g i = opens (g .junctions) (event g i)
+
+abbrev pub closesAt : Timeline → ℕ → Bool
+closesAt g i = closes (g .junctions) (event g i)
+
+abbrev pub changesAt : Timeline → ℕ → Bool
+changesAt g i = changes (g .junctions) (event g i)
+
 -- the segments open at the start, by the starting table: "1 for open at the start and 0 for closed"
 abbrev pub atStart : List ℕ → SegmentSet
 atStart start s = eqb (getD start s 0) 1
 
 -- the segments open before event i
 unfoldable pub openBefore : Timeline → ℕ → SegmentSet
-openBefore g i = afterAll (take i (g .events)) (g .start)
+openBefore g i = afterAll (g .junctions) (take i (g .events)) (g .start)
 
 -- the edges of a set of segments, or of roads by their names, each with its number as its name
 abbrev pub edgesOf : Timeline → SegmentSet → Named
@@ -77,10 +90,10 @@ during g w = take (w .1) (drop (w .0) (g .events))
 
 -- its network, and its active junctions
 unfoldable pub network : Timeline → Window → Named
-network g w = networkOf (g .segments) (during g w) (openBefore g (w .0))
+network g w = networkOf (g .junctions) (g .segments) (during g w) (openBefore g (w .0))
 
 unfoldable pub active : Timeline → Window → List ℕ
-active g w = activeOf (g .segments) (during g w)
+active g w = activeOf (g .junctions) (g .segments) (during g w)
 
 -- its small graph, and the node at which a junction stands in it
 unfoldable pub small : Timeline → Window → Contracted

@@ -42,7 +42,7 @@ loop-again c =
     let start = at-loop .before .before .before in
     let fault = at-event-fault .event-fault in
     let fits = event-fits (at-loop .loop .inv) (omega arith) (start .pre) (fault .result) (fault .ensures) (omega arith) in
-    let kind = sym (at-kind .kind-of .ensures) in
+    let kind = sym (at-kind .kind-of .ensures .0) in
     let (long, is) = changed fits (c .match .held) (⊎-elim
     (λ w. inl (kind ∙ w .1 .given .1, w .2))
     (⊎-elim (λ w. inr (inl (kind ∙ w .1 .given .1, ap bits (w .3) ∙ w .2 .ensures)))

@@ -2,7 +2,7 @@
 use mathlib.Core.Path.{_∙_, sym}
 use borrow.Author.Needs.{needs}
 use Rattle.call_open_set.specs.OpenSet.{isOpen}
-use Rattle.replay_checks.proofs.CheckLaws.{closes-bad, closes-closed, closes-fine, nothing-bad, opens-bad, opens-fine, opens-open, query-bad, query-fine}
+use Rattle.replay_checks.proofs.CheckLaws.{closes-bad, closes-closed, closes-fine, none-bad, opens-bad, opens-fine, opens-open, query-bad, query-fine}
 use Rattle.replay_checks.proofs.event_fault.Statement.{statement}
 use Rattle.replay_checks.proofs.event_fault.Tie as tie
 
@@ -11,21 +11,21 @@ returns c =
     let at-kind-of = c .before .before .before in
     let start = at-kind-of .before in
     let a = start .args in
-    query-fine (a .n) (a .m) (isOpen (a .held .now)) (a .x) (a .y) (sym (at-kind-of .kind-of .ensures) ∙ c .before .enum-told .given .1) (c .if1 .taken)
+    query-fine (a .n) (a .m) (isOpen (a .held .now)) (a .x) (a .y) (sym (at-kind-of .kind-of .ensures .0) ∙ c .before .enum-told .given .1) (c .if1 .taken)
 
 returns-2 : tie.Need-returns-2
 returns-2 c =
     let at-kind-of = c .before .before .before in
     let start = at-kind-of .before in
     let a = start .args in
-    query-bad (a .n) (a .m) (isOpen (a .held .now)) (a .x) (a .y) (sym (at-kind-of .kind-of .ensures) ∙ c .before .enum-told .given .1) (c .if1 .left)
+    query-bad (a .n) (a .m) (isOpen (a .held .now)) (a .x) (a .y) (sym (at-kind-of .kind-of .ensures .0) ∙ c .before .enum-told .given .1) (c .if1 .left)
 
 returns-3 : tie.Need-returns-3
 returns-3 c =
     let at-kind-of = c .before .before .before in
     let start = at-kind-of .before in
     let a = start .args in
-    opens-bad (a .n) (a .m) (isOpen (a .held .now)) (a .x) (a .y) (sym (at-kind-of .kind-of .ensures) ∙ c .before .enum-told2 .given .1) (c .if2 .taken)
+    opens-bad (a .n) (a .m) (isOpen (a .held .now)) (a .x) (a .y) (sym (at-kind-of .kind-of .ensures .0) ∙ c .before .enum-told2 .given .1) (c .if2 .taken)
 
 contains-requires : tie.Need-contains-requires
 contains-requires c κs =
@@ -39,7 +39,7 @@ returns-4 c =
     let at-kind-of = at-enum-told2 .before .before in
     let start = at-kind-of .before in
     let a = start .args in
-    opens-open (a .n) (a .m) (isOpen (a .held .now)) (a .x) (a .y) (sym (at-kind-of .kind-of .ensures) ∙ at-enum-told2 .enum-told2 .given .1)
+    opens-open (a .n) (a .m) (isOpen (a .held .now)) (a .x) (a .y) (sym (at-kind-of .kind-of .ensures .0) ∙ at-enum-told2 .enum-told2 .given .1)
     (at-if2 .if2 .left) (sym (c .before .contains .ensures) ∙ c .if3 .taken)
 
 returns-5 : tie.Need-returns-5
@@ -49,7 +49,7 @@ returns-5 c =
     let at-kind-of = at-enum-told2 .before .before in
     let start = at-kind-of .before in
     let a = start .args in
-    opens-fine (a .n) (a .m) (isOpen (a .held .now)) (a .x) (a .y) (sym (at-kind-of .kind-of .ensures) ∙ at-enum-told2 .enum-told2 .given .1)
+    opens-fine (a .n) (a .m) (isOpen (a .held .now)) (a .x) (a .y) (sym (at-kind-of .kind-of .ensures .0) ∙ at-enum-told2 .enum-told2 .given .1)
     (at-if2 .if2 .left) (sym (c .before .contains .ensures) ∙ c .if3 .left)
 
 returns-6 : tie.Need-returns-6
@@ -57,7 +57,7 @@ returns-6 c =
     let at-kind-of = c .before .before .before in
     let start = at-kind-of .before in
     let a = start .args in
-    closes-bad (a .n) (a .m) (isOpen (a .held .now)) (a .x) (a .y) (sym (at-kind-of .kind-of .ensures) ∙ c .before .enum-told3 .given .1) (c .if4 .taken)
+    closes-bad (a .n) (a .m) (isOpen (a .held .now)) (a .x) (a .y) (sym (at-kind-of .kind-of .ensures .0) ∙ c .before .enum-told3 .given .1) (c .if4 .taken)
 
 contains-requires-2 : tie.Need-contains-requires-2
 contains-requires-2 c κs =
@@ -71,7 +71,7 @@ returns-7 c =
     let at-kind-of = at-enum-told3 .before .before in
     let start = at-kind-of .before in
     let a = start .args in
-    closes-fine (a .n) (a .m) (isOpen (a .held .now)) (a .x) (a .y) (sym (at-kind-of .kind-of .ensures) ∙ at-enum-told3 .enum-told3 .given .1)
+    closes-fine (a .n) (a .m) (isOpen (a .held .now)) (a .x) (a .y) (sym (at-kind-of .kind-of .ensures .0) ∙ at-enum-told3 .enum-told3 .given .1)
     (at-if4 .if4 .left) (sym (c .before .contains2 .ensures) ∙ c .if5 .taken)
 
 returns-8 : tie.Need-returns-8
@@ -81,7 +81,7 @@ returns-8 c =
     let at-kind-of = at-enum-told3 .before .before in
     let start = at-kind-of .before in
     let a = start .args in
-    closes-closed (a .n) (a .m) (isOpen (a .held .now)) (a .x) (a .y) (sym (at-kind-of .kind-of .ensures) ∙ at-enum-told3 .enum-told3 .given .1)
+    closes-closed (a .n) (a .m) (isOpen (a .held .now)) (a .x) (a .y) (sym (at-kind-of .kind-of .ensures .0) ∙ at-enum-told3 .enum-told3 .given .1)
     (at-if4 .if4 .left) (sym (c .before .contains2 .ensures) ∙ c .if5 .left)
 
 returns-9 : tie.Need-returns-9
@@ -89,7 +89,7 @@ returns-9 c =
     let at-kind-of = c .before .before in
     let start = at-kind-of .before in
     let a = start .args in
-    nothing-bad (a .n) (a .m) (isOpen (a .held .now)) (a .x) (a .y) (sym (at-kind-of .kind-of .ensures) ∙ c .enum-told4 .given .1)
+    none-bad (a .n) (a .m) (isOpen (a .held .now)) (a .x) (a .y) (sym (at-kind-of .kind-of .ensures .0) ∙ c .enum-told4 .given .1)
 
 pub event-fault-spec : {M : Type 1} → statement M
 event-fault-spec =

@@ -4,10 +4,10 @@ use Prim.Native.Nat.{_-_, _≤_}
 use mathlib.Core.Path.{_≡_}
 use lib.ListN.{getD}
 use native.Mathlib.Omega.{arith}
-use Rattle.theory_timeline.specs.Events.{kindOf}
+use Rattle.call_kinds.specs.Kinds.{isQuery, kindOf}
 use Rattle.replay_events.proofs.KindLaws.{queries-more, queries-most, queries-none}
 use Rattle.theory_timeline.proofs.Counting.{bit-most}
-use Rattle.replay_events.specs.Kinds.{isQuery, queriesBy}
+use Rattle.replay_events.specs.Kinds.{queriesBy}
 use Rattle.replay_events.proofs.count_queries.Statement.{statement}
 use Rattle.replay_events.proofs.count_queries.Tie as tie
 
