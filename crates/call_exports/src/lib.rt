@@ -11,6 +11,7 @@ ghost use Rattle.theory_contraction.specs.Contraction as contracting;
 ghost use Rattle.theory_contraction.specs.Contraction.{contraction};
 ghost use Rattle.call_answers.specs.Reader.{firstOrNone};
 ghost use Rattle.call_check_number.specs.CheckNumber.{numberOfFirst};
+ghost use Rattle.call_kinds.specs.Kinds.{kindNumber, kindOf};
 ghost use Rattle.call_sizes.specs.Sizes.{checkSizes};
 ghost use Rattle.theory_timeline.specs.Call as replaying;
 ghost use Rattle.theory_timeline.specs.Replay.{replay};
@@ -93,7 +94,16 @@ pub struct LumReplayReply {
 pub extern "C" fn lum_version() -> u32
     ensures { λ r. ⌜ r ≡ version ⌝ }
 {
-    7
+    8
+}
+
+// The kind of an event, by its number.
+#[no_mangle]
+pub extern "C" fn lum_kind_of(x: u16, n: usize) -> u32
+    ensures { λ r. ⌜ r ≡ kindNumber (kindOf n x) ⌝ }
+{
+    let kind = call_kinds::kind_of(x, n);
+    call_kinds::kind_number(kind)
 }
 
 // The sizes' check.

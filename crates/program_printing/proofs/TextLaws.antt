@@ -1,20 +1,21 @@
--- Laws of the program's text: texts written one after the other, numbers in base ten, the lines of the answers.
+-- Laws of the program's text: texts written one after the other, numbers in base ten, the lines of the queries.
 -- Assumes nothing.
 use Prim.Native.Nat.{_%_, _+_, _/_, _<_, _^_, _≤_, suc, zero, ℕ}
-use mathlib.Core.Bool.{Bool, false, not, true}
+use mathlib.Core.Bool.{Bool, false, true}
 use mathlib.Core.List.{List, [], _++_, _∷_, append-assoc, append-nil}
 use mathlib.Core.Path.{_∙_, _≡_, ap, ap₂, refl, subst, sym}
-use lib.Dec.{eqb, ltb}
+use lib.Dec.{ltb}
 use lib.ListN.{getD, length, length-append, set, take}
 use lib.Seq.{length-sets, length-take-le, sets, take-suc}
 use native.Mathlib.Nat.{pow-suc}
 use native.Mathlib.Numerals.{add-one}
 use native.Mathlib.Omega.{arith}
-use borrow.Author.Tests.{eq-eqb, le-ltb, lt-ltb, ltb-false, ltb-true, ne-eqb}
+use borrow.Author.Tests.{le-ltb, lt-ltb, ltb-false, ltb-true}
 use Rattle.theory_graph.proofs.Booleans.{onBool}
 use Rattle.theory_graph.proofs.TableLaws.{sets-append}
-use Rattle.program_printing.specs.Printing.{Wrote, answerLines}
-use Rattle.theory_timeline.specs.Program.{decimal, queryLine, spell}
+use Rattle.call_kinds.specs.Kinds.{isQuery, kindOf}
+use Rattle.program_printing.specs.Printing.{Wrote}
+use Rattle.theory_timeline.specs.Program.{decimal, queryLine, queryLines, spell}
 
 -- one byte more of a text
 pub sets-more : (a t : List ℕ) (at i : ℕ) → i < length t → set (sets a at (take i t)) (at + i) (getD t i 0) ≡ sets a at (take (i + 1) t)
@@ -91,42 +92,43 @@ decimal-more n l h =
     spell-more 19 n [] l ∙ spell-rest 19 (n / 10) ((48 + n % 10) ∷ [])
     ∙ ap (λ (x : List ℕ). x ++ ((48 + n % 10) ∷ [])) (spell-room 18 (n / 10) [] (omega arith))
 
--- ---- the lines of the answers
-pub lines-snoc : (bytes : List ℕ) (i n : ℕ) → answerLines bytes i (n + 1) ≡ answerLines bytes i n ++ answerLines bytes (i + n) 1
-unfolding answerLines
-lines-snoc bytes i zero = let e : i + 0 ≡ i = omega arith in ap (λ (k : ℕ). answerLines bytes k 1) (sym e)
-lines-snoc bytes i (suc n) =
-    let e : suc n + 1 ≡ suc (n + 1) = omega arith in
-    let f : suc i + n ≡ i + suc n = omega arith in
-    ap (answerLines bytes i) e
-    ∙ step (not (eqb (getD bytes i 0) 3)) (lines-snoc bytes (suc i) n ∙ ap (λ (k : ℕ). answerLines bytes (suc i) n ++ answerLines bytes k 1) f)
-  where
-    step : (b : Bool) → answerLines bytes (suc i) (n + 1) ≡ answerLines bytes (suc i) n ++ answerLines bytes (i + suc n) 1
-        → elim b as (λ x. List ℕ) [ true ↦ queryLine i (getD bytes i 0) ++ answerLines bytes (suc i) (n + 1) | false ↦ answerLines bytes (suc i) (n + 1) ]
-        ≡ (elim b as (λ x. List ℕ) [ true ↦ queryLine i (getD bytes i 0) ++ answerLines bytes (suc i) n | false ↦ answerLines bytes (suc i) n ])
-        ++ answerLines bytes (i + suc n) 1
-    step true h =
-        ap (λ (l : List ℕ). queryLine i (getD bytes i 0) ++ l) h
-        ∙ sym (append-assoc (queryLine i (getD bytes i 0)) (answerLines bytes (suc i) n) (answerLines bytes (i + suc n) 1))
-    step false h = h
+-- ---- the lines of the queries
+module _ (n : ℕ) (x answers : List ℕ) where
+  abbrev lines : ℕ → ℕ → List ℕ
+  lines = queryLines n x answers
 
-pub lines-zero : (bytes : List ℕ) → answerLines bytes 0 0 ≡ []
-unfolding answerLines
-lines-zero bytes = refl
+  -- the line of event i in front of others, where it is a query
+  abbrev inFront : ℕ → Bool → List ℕ → List ℕ
+  inFront i b rest = elim b as (λ x. List ℕ) [ true ↦ queryLine i (getD answers i 0) ++ rest | false ↦ rest ]
 
-pub from-zero : (bytes : List ℕ) (i : ℕ) → answerLines bytes i 1 ≡ answerLines bytes (0 + i) 1
-from-zero bytes i = let e : i ≡ 0 + i = omega arith in ap (λ (k : ℕ). answerLines bytes k 1) e
+  pub lines-snoc : (i k : ℕ) → lines i (k + 1) ≡ lines i k ++ lines (i + k) 1
+  unfolding queryLines
+  lines-snoc i zero = let e : i + 0 ≡ i = omega arith in ap (λ (j : ℕ). lines j 1) (sym e)
+  lines-snoc i (suc k) =
+      let e : suc k + 1 ≡ suc (k + 1) = omega arith in
+      let f : suc i + k ≡ i + suc k = omega arith in
+      ap (lines i) e
+      ∙ step (isQuery (kindOf n (getD x i 0))) (lines-snoc (suc i) k ∙ ap (λ (j : ℕ). lines (suc i) k ++ lines j 1) f)
+    where
+      step : (b : Bool) → lines (suc i) (k + 1) ≡ lines (suc i) k ++ lines (i + suc k) 1
+          → inFront i b (lines (suc i) (k + 1)) ≡ inFront i b (lines (suc i) k) ++ lines (i + suc k) 1
+      step true h = ap (λ (l : List ℕ). queryLine i (getD answers i 0) ++ l) h ∙ sym (append-assoc (queryLine i (getD answers i 0)) (lines (suc i) k) (lines (i + suc k) 1))
+      step false h = h
 
-lines-one : (bytes : List ℕ) (i : ℕ) {b : Bool} → eqb (getD bytes i 0) 3 ≡ b
-    → answerLines bytes i 1 ≡ elim (not b) as (λ x. List ℕ) [ true ↦ queryLine i (getD bytes i 0) ++ [] | false ↦ [] ]
-unfolding answerLines
-lines-one bytes i h = ap (λ (b : Bool). elim (not b) as (λ x. List ℕ) [ true ↦ queryLine i (getD bytes i 0) ++ [] | false ↦ [] ]) h
+  pub lines-zero : lines 0 0 ≡ []
+  unfolding queryLines
+  lines-zero = refl
 
-pub lines-answer : (bytes : List ℕ) (i : ℕ) → ¬ (getD bytes i 0 ≡ 3) → answerLines bytes i 1 ≡ queryLine i (getD bytes i 0)
-lines-answer bytes i h = lines-one bytes i (ne-eqb (getD bytes i 0) 3 h) ∙ append-nil (queryLine i (getD bytes i 0))
+  pub from-zero : (i : ℕ) → lines i 1 ≡ lines (0 + i) 1
+  from-zero i = let e : i ≡ 0 + i = omega arith in ap (λ (j : ℕ). lines j 1) e
 
-pub lines-none : (bytes : List ℕ) (i : ℕ) → getD bytes i 0 ≡ 3 → answerLines bytes i 1 ≡ []
-lines-none bytes i h = lines-one bytes i (eq-eqb (getD bytes i 0) 3 h)
+  pub lines-query : (i : ℕ) → isQuery (kindOf n (getD x i 0)) ≡ true → lines i 1 ≡ queryLine i (getD answers i 0)
+  unfolding queryLines
+  lines-query i h = ap (λ (b : Bool). inFront i b []) h ∙ append-nil (queryLine i (getD answers i 0))
+
+  pub lines-none : (i : ℕ) → isQuery (kindOf n (getD x i 0)) ≡ false → lines i 1 ≡ []
+  unfolding queryLines
+  lines-none i h = ap (λ (b : Bool). inFront i b []) h
 
 -- ---- where a text ends
 pub number-end : (n : ℕ) {at r : ℕ} {a b : List ℕ} → Wrote at (decimal n) a b r → (r ≤ at + 20) × (length b ≡ length a)

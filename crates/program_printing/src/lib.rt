@@ -1,8 +1,8 @@
 // The output: numbers in base ten, one line for each query, the totals, or the refusal. Each function writes its text at `at` and answers where the next goes.
 ghost use Prim.Native.Nat.{_+_, _*_, _<_, _≤_};
 ghost use lib.ListN.{length};
-ghost use Rattle.theory_timeline.specs.Program.{decimal, queryLine, totalsLine, refusedLine};
-ghost use Rattle.program_printing.specs.Printing.{Wrote, answerLines};
+ghost use Rattle.theory_timeline.specs.Program.{decimal, queryLine, queryLines, totalsLine, refusedLine};
+ghost use Rattle.program_printing.specs.Printing.{Wrote};
 
 // Writes a text.
 fn put_text(out: &mut [u8], at: usize, text: &[u8]) -> usize
@@ -68,27 +68,29 @@ pub fn put_refused(out: &mut [u8], at: usize, code: usize, place: usize) -> usiz
     put_text(out, d, b"\n")
 }
 
-// Writes the line of event i, where its byte is an answer: 3 says that it opens or closes.
-fn put_event(out: &mut [u8], at: usize, i: usize, answers: &[u8]) -> usize
-    requires { ⌜ (at + 42 ≤ length (now out)) × (i < length (now answers)) ⌝ }
-    ensures { λ r. ⌜ Wrote at (answerLines (now (answers .entry)) i 1) (now (out .entry)) (now (out .exit)) r × (r ≤ at + 42) ⌝ }
+// Writes the line of event i, where it is a query.
+fn put_event(out: &mut [u8], at: usize, i: usize, n: usize, x: &[u16], answers: &[u8]) -> usize
+    requires { ⌜ (at + 42 ≤ length (now out)) × (i < length (now x)) × (i < length (now answers)) ⌝ }
+    ensures { λ r. ⌜ Wrote at (queryLines n (now (x .entry)) (now (answers .entry)) i 1) (now (out .entry)) (now (out .exit)) r × (r ≤ at + 42) ⌝ }
 {
-    if answers[i] == 3 {
-        return at;
+    let asks = call_kinds::is_query(x[i], n);
+    if asks {
+        return put_query(out, at, i, answers[i]);
     }
-    put_query(out, at, i, answers[i])
+    at
 }
 
-// Internal: writes the lines of the first t events.
-pub fn put_queries(out: &mut [u8], t: usize, answers: &[u8]) -> usize
-    requires { ⌜ (42 * t ≤ length (now out)) × (t ≤ 32) × (t ≤ length (now answers)) ⌝ }
-    ensures { λ r. ⌜ Wrote 0 (answerLines (now (answers .entry)) 0 t) (now (out .entry)) (now (out .exit)) r × (r ≤ 42 * t) ⌝ }
+// Internal: writes the lines of the queries among the events, which have these X, over n junctions.
+pub fn put_queries(out: &mut [u8], n: usize, x: &[u16], answers: &[u8]) -> usize
+    requires { ⌜ (42 * length (now x) ≤ length (now out)) × (length (now x) ≤ 32) × (length (now x) ≤ length (now answers)) ⌝ }
+    ensures { λ r. ⌜ Wrote 0 (queryLines n (now (x .entry)) (now (answers .entry)) 0 (length (now (x .entry)))) (now (out .entry)) (now (out .exit)) r
+        × (r ≤ 42 * length (now (x .entry))) ⌝ }
 {
     let mut at: usize = 0;
     let mut i: usize = 0;
     // The lines of the first i events are written.
-    while i < t {
-        at = put_event(out, at, i, answers);
+    while i < x.len() {
+        at = put_event(out, at, i, n, x, answers);
         i += 1;
     }
     at

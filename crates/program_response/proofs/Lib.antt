@@ -1,2 +1,1 @@
-pub mod PrintLaws
 pub mod ResponseLaws

@@ -12,17 +12,20 @@ use borrow.Author.Tests.{eqb-true, ltb-false, ltb-true}
 use Rattle.theory_graph.proofs.Booleans.{onBool}
 use Rattle.program_reading.proofs.ReadingLaws.{filled-take, many-events, many-junctions, many-segments, other-length, word-at}
 use Rattle.program_printing.proofs.TextLaws.{decimal-most}
-use Rattle.program_printing.specs.Printing.{printedOf}
 use Rattle.program_reading.specs.Reading.{Filled, HeaderOutcome, Read, checkInput, headerOutcome}
 use Rattle.program_reading.specs.declared.Header.the-variants.{Refused, Sizes}
 use Rattle.theory_timeline.proofs.ProgramLaws.{input-within, words16-length}
 use Rattle.theory_timeline.specs.Call.{lent, outcome}
 use Rattle.theory_timeline.specs.Program.{decimal, eventsOf, inputFault, inputLength, inputLent, junctionsOf}
-use Rattle.theory_timeline.specs.Program.{outputWith, printed, refusedLine, segmentsOf, shareOf, totalsLine, words16}
+use Rattle.theory_timeline.specs.Program.{outputWith, printed, printedInput, refusedLine, segmentsOf, shareOf, totalsLine, words16}
 use Rattle.theory_timeline.specs.Replay.{Lent, Outcome, replay}
 use Rattle.theory_timeline.specs.declared.ReplayReply.{ReplayReply}
-use Rattle.program_response.proofs.PrintLaws.{outcome-work, replay-printed}
+use Rattle.theory_timeline.specs.declared.ReplayReply.the-variants as reply
 use Rattle.program_response.specs.Response.{workAfter}
+
+-- the filled part of a table
+pub part-length : {ws : List ℕ} {i k : ℕ} {a b : List ℕ} → Filled ws i k a b → k ≤ length a → length (take k b) ≡ k
+part-length {k = k} {b = b} f l = length-take-le k b (omega (arith, f .same))
 
 -- ---- the header
 module _ (I : List ℕ) where
@@ -47,9 +50,9 @@ module _ (I : List ℕ) where
     header-share : p ≡ shareOf (words16 I)
     header-share = rw accepts at (ap (λ (o : HeaderOutcome). o .p) e)
 
-    pub output-accepted : (work : List ℕ) → printed (inputLent work I) (replay (inputLent work I) p) ≡ outputWith work I
+    pub output-accepted : (work : List ℕ) → printedInput work I p ≡ outputWith work I
     unfolding outputWith
-    output-accepted work = rw (outputWith, accepts) (ap (λ (q : ℕ). printed (inputLent work I) (replay (inputLent work I) q)) header-share)
+    output-accepted work = rw (outputWith, accepts) (ap (printedInput work I) header-share)
 
     pub work-accepted : (work : List ℕ) {left : List ℕ} → left ≡ (replay (inputLent work I) p) .work → left ≡ workAfter work I
     unfolding workAfter
@@ -87,16 +90,21 @@ module _ (I : List ℕ) where
         (replicate 32 0) (replicate 32 0) work)
 
 -- ---- the reply
+outcome-work : (r : ReplayReply) (answers names work : List ℕ) → (outcome r answers names work) .work ≡ work
+outcome-work (reply.Done t) answers names work = refl
+outcome-work (reply.Refused c i) answers names work = refl
+
 -- to what an input lends: its print, and the work table
 pub replied : (I : List ℕ) {n m t : ℕ} (r : Read n m t I) (p : ℕ) (work : List ℕ) {a b start x y : List ℕ}
     → a ≡ take m (drop 4 (words16 I)) → b ≡ take m (drop (4 + m) (words16 I)) → start ≡ take m (drop (4 + 2 * m) (words16 I))
     → x ≡ take t (drop (4 + 3 * m) (words16 I)) → y ≡ take t (drop (4 + 3 * m + t) (words16 I))
     → (reply : ReplayReply) (answers names left : List ℕ) → outcome reply answers names left ≡ replay (lent n m t a b start x y (replicate 32 0) (replicate 32 0) work) p
-    → (printedOf t (outcome reply answers names left) ≡ printed (inputLent work I) (replay (inputLent work I) p)) × (left ≡ (replay (inputLent work I) p) .work)
+    → length x ≡ t → (printed n (length x) x (outcome reply answers names left) ≡ printedInput work I p) × (left ≡ (replay (inputLent work I) p) .work)
 unfolding inputLent
-replied I {n} {m} {t} r p work ea eb es ex ey reply answers names left e =
-    let f = e ∙ ap (λ (l : Lent). replay l p) (lent-input I r work ea eb es ex ey) in (
-      ap₂ printedOf (r .events) f ∙ replay-printed (inputLent work I) p,
+replied I {n} {m} {t} r p work {x = x} ea eb es ex ey reply answers names left e lx =
+    let l = lent-input I r work ea eb es ex ey in
+    let f = e ∙ ap (λ (l : Lent). replay l p) l in (
+      ap₂ (λ (k : ℕ) (o : Outcome). printed n k x o) lx e ∙ ap (λ (l : Lent). printed (l .n) (l .t) (l .x) (replay l p)) l,
       sym (outcome-work reply answers names left) ∙ ap (λ (o : Outcome). o .work) f,
     )
 

@@ -4,25 +4,27 @@ ghost use mathlib.Core.List.{List};
 ghost use Prim.Native.Nat.{ℕ, _≤_};
 ghost use lib.ListN.{length};
 ghost use Rattle.theory_timeline.specs.Call.{outcome};
-ghost use Rattle.theory_timeline.specs.Program.{inputLent, printed};
+ghost use Rattle.theory_timeline.specs.Program.{inputLent, printed, printedInput};
 ghost use Rattle.theory_timeline.specs.Replay.{replay};
-ghost use Rattle.program_printing.specs.Printing.{Wrote, printedOf};
+ghost use Rattle.program_printing.specs.Printing.{Wrote};
 ghost use Rattle.program_reading.specs.Reading.{Read};
 
-// Prints a reply to t events.
+// Prints a reply to events with these X, over n junctions.
 pub(crate) fn put_reply(
     out: &mut [u8],
-    t: usize,
+    n: usize,
+    x: &[u16],
     answers: &[u8],
     reply: theory_timeline::ReplayReply,
 ) -> usize
-    requires { ⌜ (2048 ≤ length (now out)) × (t ≤ 32) × (t ≤ length (now answers)) ⌝ }
-    ensures { λ r. ⌜ ((names work : List ℕ) → Wrote 0 (printedOf t (outcome reply (now (answers .entry)) names work)) (now (out .entry)) (now (out .exit)) r)
+    requires { ⌜ (2048 ≤ length (now out)) × (length (now x) ≤ 32) × (length (now x) ≤ length (now answers)) ⌝ }
+    ensures { λ r. ⌜ ((names work : List ℕ)
+        → Wrote 0 (printed n (length (now (x .entry))) (now (x .entry)) (outcome reply (now (answers .entry)) names work)) (now (out .entry)) (now (out .exit)) r)
         × (r ≤ 2048) ⌝ }
 {
     match reply {
         theory_timeline::ReplayReply::Done(totals) => {
-            let at = program_printing::put_queries(out, t, answers);
+            let at = program_printing::put_queries(out, n, x, answers);
             return program_printing::put_totals(out, at, totals.queries, totals.open, totals.kept);
         }
         theory_timeline::ReplayReply::Refused(code, place) => {
@@ -42,8 +44,7 @@ pub(crate) fn replay_input(
     out: &mut [u8],
 ) -> usize
     requires { ⌜ Read n m t (now input) × (2048 ≤ length (now out)) ⌝ }
-    ensures { λ r. ⌜ Wrote 0 (printed (inputLent (now (work .entry)) (now (input .entry))) (replay (inputLent (now (work .entry)) (now (input .entry))) p))
-        (now (out .entry)) (now (out .exit)) r × (r ≤ 2048) ⌝ }
+    ensures { λ r. ⌜ Wrote 0 (printedInput (now (work .entry)) (now (input .entry)) p) (now (out .entry)) (now (out .exit)) r × (r ≤ 2048) ⌝ }
     ensures { λ r. ⌜ now (work .exit) ≡ (replay (inputLent (now (work .entry)) (now (input .entry))) p) .work ⌝ }
 {
     let mut a = [0u16; 64];
@@ -73,5 +74,5 @@ pub(crate) fn replay_input(
         &mut names,
         work,
     );
-    put_reply(out, t, &answers, reply)
+    put_reply(out, n, &x[..t], &answers, reply)
 }

@@ -1,36 +1,39 @@
 use mathlib.Core.Path.{ap, sym}
+use lib.ListN.{length}
 use native.Mathlib.Omega.{arith}
 use borrow.Author.Needs.{needs}
 use Rattle.theory_timeline.specs.Call.{outcome}
 use Rattle.theory_timeline.specs.declared.ReplayReply.{ReplayReply}
 use Rattle.program_printing.proofs.TextLaws.{wrote-as, wrote-then}
-use Rattle.program_printing.specs.Printing.{printedOf}
+use Rattle.theory_timeline.specs.Program.{printed}
 use Rattle.program_response.proofs.ResponseLaws.{refused-most, totals-most}
 use Rattle.program_response.proofs.response.put_reply.Statement.{statement}
 use Rattle.program_response.proofs.response.put_reply.Tie as tie
 
 returns : tie.Need-returns
+unfolding printed
 returns c =
     let at-totals = c .before .before in
     let at-queries = at-totals .before .before .before .before in
     let at-reply = at-queries .before .before .before in
-    let a = at-reply .before .before .before .before .args in
+    let a = at-reply .before .before .before .before .before .args in
     let totals = at-reply .reply .given .0 .0 in
     let w = at-queries .put-queries .ensures in (
       λ names work.
-          wrote-as (ap (λ (k : ReplayReply). printedOf (a .t) (outcome k (a .answers .now) names work)) (sym (at-reply .reply .given .1)))
+          wrote-as (ap (λ (k : ReplayReply). printed (a .n) (length (a .x .now)) (a .x .now) (outcome k (a .answers .now) names work)) (sym (at-reply .reply .given .1)))
           (wrote-then _ _ (w .0) (at-totals .put-totals .ensures)),
       omega (arith, at-totals .put-totals .ensures .next, w .1, totals-most (totals .queries) (totals .«open») (totals .kept)),
     )
 
 returns-2 : tie.Need-returns-2
+unfolding printed
 returns-2 c =
     let at-refused = c .before .before in
     let at-reply = at-refused .before .before .before in
-    let a = at-reply .before .before .before .before .args in
+    let a = at-reply .before .before .before .before .before .args in
     let refusal = at-reply .reply2 .given .0 in (
       λ names work.
-          wrote-as (ap (λ (k : ReplayReply). printedOf (a .t) (outcome k (a .answers .now) names work)) (sym (at-reply .reply2 .given .1)))
+          wrote-as (ap (λ (k : ReplayReply). printed (a .n) (length (a .x .now)) (a .x .now) (outcome k (a .answers .now) names work)) (sym (at-reply .reply2 .given .1)))
           (at-refused .put-refused .ensures),
       omega (arith, at-refused .put-refused .ensures .next, refused-most (refusal .0) (refusal .1 .0)),
     )
