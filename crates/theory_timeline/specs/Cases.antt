@@ -1,4 +1,4 @@
--- The cases that document 01 marks P and those of document 02, Nos. 1 to 3 and 5, as one table: what the definitions of the calls give, and what the documents say.
+-- The cases that document 01 marks P and those of document 02, Nos. 1 to 3, 5 and 6, as one table: what the definitions of the calls give, and what the documents say.
 -- proofs/Cases proves every row.
 -- A replay is seen by its numbers and its answer table, or by its answers and its name table; a contraction by its numbers and tables but for the names, or by
 -- its edges with the table of their names; the program by the bytes that it writes.
@@ -228,6 +228,10 @@ table =
     -- one name for two edges, and three names out where four are needed: 2, and nothing changes
     ∷ (splicedOf (7 ∷ []) 3 (0 ∷ 1 ∷ []) (1 ∷ 2 ∷ []) (0 ∷ 2 ∷ []), spliced (2, [], [], 9 ∷ 9 ∷ 9 ∷ 9 ∷ []))
     ∷ (splicedWith (9 ∷ 9 ∷ 9 ∷ []) (7 ∷ 3 ∷ []) 3 (0 ∷ 1 ∷ []) (1 ∷ 2 ∷ []) (0 ∷ 2 ∷ []), spliced (2, [], [], 9 ∷ 9 ∷ 9 ∷ []))
+    -- an event of no kind is refused by 5 at its place: X = N; X = 65,533; X = 0 where there are no junctions
+    ∷ (replayOf 3 [] [] (2 ∷ 3 ∷ []) (0 ∷ 0 ∷ []) 8, replayed (5, 1, 0, 0, 0, 9 ∷ 9 ∷ []))
+    ∷ (replayOf 3 (0 ∷ []) (1 ∷ []) (65535 ∷ 65533 ∷ []) (0 ∷ 0 ∷ []) 8, replayed (5, 1, 0, 0, 0, 9 ∷ 9 ∷ []))
+    ∷ (replayOf 0 [] [] (0 ∷ []) (0 ∷ []) 8, replayed (5, 0, 0, 0, 0, 9 ∷ []))
     -- the program: N = 177 is "refused 10 at 0"
     ∷ (wrote (output (bytesOf (177 ∷ 0 ∷ 0 ∷ 8 ∷ []))), wrote (114 ∷ 101 ∷ 102 ∷ 117 ∷ 115 ∷ 101 ∷ 100 ∷ 32 ∷ 49 ∷ 48 ∷ 32 ∷ 97 ∷ 116 ∷ 32 ∷ 48 ∷ 10 ∷ []))
     ∷ []
