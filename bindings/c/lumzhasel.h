@@ -1,17 +1,18 @@
 /*
  * Lumzhasel from C and C++: the replay of a road network, the contraction, the
- * check of sizes, the reader's call and the check number of answers. Each call is
- * proved, for all inputs, to return and to leave in the lent tables exactly what the
- * definitions say (crates/call_exports/src/lib.rt). Link
+ * check of sizes, the kind of an event, the reader's call and the check number of
+ * answers. Each call is proved, for all inputs, to return and to leave in the lent tables
+ * exactly what the definitions say (crates/call_exports/src/lib.rt). Link
  * target/staticlib/libcall_exports.a, which `rt staticlib call_exports` writes; it is for
  * x86-64 Linux and needs only memcpy and memset of the C library.
  *
  * VERSIONS. What a call is lent gains fields, and replies gain numbers, from one version
  * to the next; their names stay. Version 5 has the tables of version 4, but its answers
  * are about roads (lum_replay), where those before were about segments; version 6 has one
- * call more, lum_check_number; version 7 has the tables of names of both calls. A program
- * that was built with the header of one version and linked with the archive of another
- * would hand over its tables in the wrong places, and nothing else would notice. So compare lum_version() with LUM_VERSION before the first
+ * call more, lum_check_number; version 7 has the tables of names of both calls; version 8
+ * has one call more, lum_kind_of. A program that was built with the header of one version
+ * and linked with the archive of another would hand over its tables in the wrong places,
+ * and nothing else would notice. So compare lum_version() with LUM_VERSION before the first
  * other call, and make none where they differ. lum_version takes nothing and returns one
  * number in every version. Set the fields of a struct by their names, all of them. A code
  * above those below is a refusal too, by a reason that a later version names.
@@ -67,7 +68,7 @@ extern "C" {
 #endif
 
 /* The version of the calls below. */
-#define LUM_VERSION 7u
+#define LUM_VERSION 8u
 
 /* The limits. */
 #define LUM_MOST_JUNCTIONS 4096u
@@ -90,6 +91,20 @@ extern "C" {
 /* The x of an event that opens or closes the segment in its y. */
 #define LUM_OPENS 65535u
 #define LUM_CLOSES 65534u
+
+/*
+ * What an event is: the rows of the table of events (lum_replay) in their order, and none for
+ * an x of no row, which a replay refuses by 5.
+ */
+enum lum_kind {
+    LUM_KIND_QUERY = 0,
+    LUM_KIND_OPENS = 1,
+    LUM_KIND_CLOSES = 2,
+    LUM_KIND_NONE = 3
+};
+
+/* The archive returns a kind as a number of 32 bits. */
+typedef char lum_kind_has_32_bits[sizeof(enum lum_kind) == 4 ? 1 : -1];
 
 /* The name at an event that is no query with answer 1. No road has it. */
 #define LUM_NO_NAME 65535u
@@ -174,6 +189,14 @@ struct lum_replay_lent {
  * The version of the calls in the archive: LUM_VERSION where it fits this header.
  */
 uint32_t lum_version(void);
+
+/*
+ * The kind of an event, from its x and the number n of junctions alone, as the replay itself
+ * decides it: LUM_KIND_QUERY where x is below n, LUM_KIND_OPENS where it is LUM_OPENS,
+ * LUM_KIND_CLOSES where it is LUM_CLOSES, else LUM_KIND_NONE. The first of these that holds
+ * counts; with at most 4,096 junctions only one can. Nothing is refused.
+ */
+enum lum_kind lum_kind_of(uint16_t x, size_t n);
 
 /*
  * Checks sizes: n junctions, m segments and t events of a replay (k = 0), or n nodes,

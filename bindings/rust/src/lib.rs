@@ -136,7 +136,7 @@ pub mod tables;
 mod values;
 
 pub use error::{Error, Reason, Refusal};
-pub use tables::{Contracted, Sizes, Totals};
+pub use tables::{Contracted, Kind, Sizes, Totals};
 pub use values::{Answer, Event, List, Network, Replayed, SmallGraph};
 
 /// The most junctions of a replay, and nodes of a contraction.
@@ -149,7 +149,7 @@ pub const MOST_EVENTS: usize = 4096;
 pub const MOST_ENTRIES: usize = 8192;
 
 /// The version of the calls that this package was written for.
-pub const VERSION: u32 = 7;
+pub const VERSION: u32 = 8;
 
 /// The version of the calls in the archive.
 pub fn version() -> u32 {

@@ -1,5 +1,5 @@
 //! The exported calls of the archive, each lent a struct of numbers and tables, a table as a pointer and a length. All unsafe code
-//! stands here. These declarations are those of version 7, [`crate::VERSION`]: whoever changes one changes both.
+//! stands here. These declarations are those of version 8, [`crate::VERSION`]: whoever changes one changes both.
 #![allow(unsafe_code)]
 
 use crate::tables::{ContractTables, ReplayTables};
@@ -102,6 +102,8 @@ struct ReplayLent {
 extern "C" {
     fn lum_version() -> u32;
 
+    fn lum_kind_of(x: u16, n: usize) -> u32;
+
     fn lum_sizes(n: usize, m: usize, t: usize, k: usize) -> SizesReply;
 
     fn lum_answers(table: *const u8, table_len: usize, t: usize) -> usize;
@@ -116,6 +118,11 @@ extern "C" {
 pub(crate) fn version() -> u32 {
     // SAFETY: the call takes nothing and returns a number in every version.
     unsafe { lum_version() }
+}
+
+pub(crate) fn kind_of(x: u16, n: usize) -> u32 {
+    // SAFETY: the call takes and returns numbers, asks nothing of them, and touches no memory of ours.
+    unsafe { lum_kind_of(x, n) }
 }
 
 pub(crate) fn sizes(n: usize, m: usize, t: usize, k: usize) -> SizesReply {

@@ -66,6 +66,33 @@ pub const fn contract_work(n: usize, m: usize) -> usize {
         .saturating_add(512)
 }
 
+/// What an event is: the kinds of the table of events, in its order, and none for an x of no row.
+#[derive(Clone, Copy, Debug, PartialEq, Eq, Hash)]
+pub enum Kind {
+    /// The x is a junction, 0 to n - 1: a query of x and y.
+    Query,
+    /// The x is [`OPENS`]: the segment in y opens.
+    Opens,
+    /// The x is [`CLOSES`]: the segment in y closes.
+    Closes,
+    /// The x is none of these. A replay refuses such an event by [`Reason::Event`].
+    None,
+}
+
+impl Kind {
+    // By the number that the archive has for it.
+    fn from_number(number: u32) -> Kind {
+        match number {
+            0 => Kind::Query,
+            1 => Kind::Opens,
+            2 => Kind::Closes,
+            3 => Kind::None,
+            // The call is proved to return one of the four.
+            number => unreachable!("{number} is the number of no kind"),
+        }
+    }
+}
+
 /// Sizes within the limits.
 #[derive(Clone, Copy, Debug, PartialEq, Eq, Hash)]
 #[non_exhaustive]
@@ -190,6 +217,25 @@ fn reply<T>(code: usize, place: usize, accepted: T) -> Result<T, Error> {
     Err(Error::Refused(Refusal { reason, place }))
 }
 
+/// The kind of an event, from its `x` and the number of junctions alone, as the replay itself decides it. It is that
+/// of the row of the table of events whose first column holds `x`; with at most 4,096 junctions that is one row at most.
+/// With more than 65,534 a number may be of two rows, and the query comes first.
+///
+/// ```
+/// use lumzhasel::tables::{kind_of, Kind};
+///
+/// let kinds = [2, 3, 65533, 65534, 65535].map(|x| kind_of(x, 3).unwrap());
+/// assert_eq!(kinds, [Kind::Query, Kind::None, Kind::None, Kind::Closes, Kind::Opens]);
+/// ```
+///
+/// # Errors
+///
+/// [`Error::Version`] alone.
+pub fn kind_of(x: u16, n: usize) -> Result<Kind, Error> {
+    check_version()?;
+    Ok(Kind::from_number(raw::kind_of(x, n)))
+}
+
 /// Checks sizes: `n` junctions, `m` segments and `t` events of a replay (`k` is 0), or `n` nodes, `m`
 /// edges and `k` active entries of a contraction (`t` is 0). The other calls make this check themselves.
 ///
@@ -306,7 +352,7 @@ mod tests {
             let error = fits(archive).unwrap_err();
             assert_eq!(error, Error::Version { archive });
             assert_eq!(error.refusal(), None);
-            let words = format!("the archive has version {archive} of the calls, this package is for version 7");
+            let words = format!("the archive has version {archive} of the calls, this package is for version 8");
             assert_eq!(error.to_string(), words);
         }
     }
