@@ -26,7 +26,7 @@ use Rattle.theory_graph.specs.Lists.{pairs, sum}
 use Rattle.theory_timeline.proofs.Acceptance.{Accepted, accepted-from, accepted-sound, fault-fine, getD-pairs, length-pairs}
 use Rattle.theory_timeline.proofs.Networks.{after-append}
 use Rattle.theory_timeline.specs.Events.{Event, SegmentSet, after, afterAll, changes, closes, opens}
-use Rattle.theory_timeline.specs.Replay.{Lent, eventFault, fault, faultAt, faults, given, listFaults, shareFaults, shortTables, tableLengths}
+use Rattle.theory_timeline.specs.Replay.{Lent, eventFault, fault, faultAt, faultOfKind, faults, given, listFaults, shareFaults, shortTables, tableLengths}
 use Rattle.theory_timeline.specs.Windows.{atStart, openBefore, size}
 use Rattle.replay_checks.proofs.SetLaws.{StartsBelow, event-stays, event-stored, open-count, start-below, start-taken}
 use Rattle.replay_checks.specs.Check.{CanCheckList, CheckedEvents, CheckedList, CheckedTables, EventFits, eventsFault, faultOf, tablesOf}
@@ -172,17 +172,9 @@ choose b x y = cond b x y
 
 -- an event's fault, by its kind
 module _ (n m : ℕ) (o : SegmentSet) (x y : ℕ) where
-  abbrev value : Kind → ℕ
-  value k = elim k [
-    | Query ↦ cond (ltb y n) 0 5
-    | Opens ↦ cond (ltb y m) (cond (o y) 6 0) 5
-    | Closes ↦ cond (ltb y m) (cond (o y) 0 7) 5
-    | None ↦ 5
-  ]
-
-  fault-kind : (k : Kind) → kindOf n x ≡ k → eventFault n m o (x, y) ≡ value k
+  fault-kind : (k : Kind) → kindOf n x ≡ k → eventFault n m o (x, y) ≡ faultOfKind n m o y k
   unfolding eventFault
-  fault-kind k e = ap value e
+  fault-kind k e = ap (faultOfKind n m o y) e
 
   pub query-fine : kindOf n x ≡ Query → y < n → 0 ≡ eventFault n m o (x, y)
   query-fine k l = sym (fault-kind Query k ∙ ap (λ (b : Bool). choose b 0 5) (lt-ltb y n l))

@@ -28,7 +28,7 @@ use Rattle.call_sizes.specs.Refusal.{Refusal, Row, firstFault, badEnds, badStar
 use Rattle.call_sizes.specs.Sizes.{sizeFaults}
 use Rattle.theory_timeline.specs.DemandThree.{Allowed}
 use Rattle.theory_timeline.specs.Events.{Event, SegmentSet, activeOf, asks, changes, closes, ends, opens, pick}
-use Rattle.theory_timeline.specs.Replay.{Faultless, Lent, eventFault, fault, faultAt, faults, given, listFaults, required, shareFaults, shortTables, tableLengths}
+use Rattle.theory_timeline.specs.Replay.{Faultless, Lent, eventFault, fault, faultAt, faultOfKind, faults, given, listFaults, required, shareFaults, shortTables, tableLengths}
 use Rattle.theory_timeline.specs.Steps.{Sound}
 use Rattle.theory_timeline.specs.Windows.{Timeline, Window, active, asksAt, changesAt, during, event, openBefore, size}
 
@@ -44,14 +44,6 @@ pub fault-fine : (n m : ℕ) (o : SegmentSet) (e : Event) → eventFault n m o e
 unfolding eventFault isQuery isOpening isClosing
 fault-fine n m o e h = go (kindOf n (e .0)) refl h
   where
-    value : Kind → ℕ
-    value k = elim k [
-      | Query ↦ cond (ltb (e .1) n) 0 5
-      | Opens ↦ cond (ltb (e .1) m) (cond (o (e .1)) 6 0) 5
-      | Closes ↦ cond (ltb (e .1) m) (cond (o (e .1)) 0 7) 5
-      | None ↦ 5
-    ]
-
     first : (b : Bool) (c : ℕ) → cond b c 5 ≡ 0 → (b ≡ true) × (c ≡ 0)
     first true c h = (refl, h)
     first false c h = absurd (omega arith)
@@ -67,7 +59,7 @@ fault-fine n m o e h = go (kindOf n (e .0)) refl h
     changing : Kind → Bool
     changing k = isOpening k || isClosing k
 
-    go : (k : Kind) → kindOf n (e .0) ≡ k → value k ≡ 0 → Fine n m o e
+    go : (k : Kind) → kindOf n (e .0) ≡ k → faultOfKind n m o (e .1) k ≡ 0 → Fine n m o e
     go Query q h =
         let (l, _) = first (ltb (e .1) n) 0 h in
         record {

@@ -18,7 +18,7 @@ use Rattle.call_sizes.specs.Refusal.{Row, firstFault}
 use Rattle.call_sizes.specs.Sizes.{sizeFaults}
 use Rattle.theory_graph.proofs.Booleans.{contradict}
 use Rattle.theory_timeline.specs.Program.{eventsOf, inputFault, inputFaults, inputLength, inputLent, junctionsOf, segmentsOf, words16}
-use Rattle.theory_timeline.specs.Replay.{Lent, Outcome, done, eventFault, fault, faultAt, faults, given, listFaults, refused, replay, required, shareFaults, shortTables, tableLengths}
+use Rattle.theory_timeline.specs.Replay.{Lent, Outcome, done, eventFault, fault, faultAt, faultOfKind, faults, given, listFaults, refused, replay, required, shareFaults, shortTables, tableLengths}
 use Rattle.theory_timeline.specs.Windows.{event, openBefore}
 
 -- the numbers of an input
@@ -76,21 +76,18 @@ event-other : (l : Lent) (i : ℕ) → ¬ (faultAt l i ≡ 2)
 unfolding faultAt eventFault
 event-other l i =
     let e = event (given l) i in
-    go (kindOf (l .n) (e .0)) (ltb (e .1) (l .n)) (ltb (e .1) (l .m)) (openBefore (given l) i (e .1))
+    go (kindOf (l .n) (e .0)) (e .1)
   where
-    value : Kind → Bool → Bool → Bool → ℕ
-    value k a b c = elim k [ Query ↦ cond a 0 5 | Opens ↦ cond b (cond c 6 0) 5 | Closes ↦ cond b (cond c 0 7) 5 | None ↦ 5 ]
+    -- two tests, one in the other, and numbers other than 2
+    one : (a : Bool) (x y : ℕ) → ¬ (x ≡ 2) → ¬ (y ≡ 2) → ¬ (cond a x y ≡ 2)
+    one true x y p q = p
+    one false x y p q = q
 
-    go : (k : Kind) (a b c : Bool) → ¬ (value k a b c ≡ 2)
-    go Query true b c e = omega arith
-    go Query false b c e = omega arith
-    go Opens a true true e = omega arith
-    go Opens a true false e = omega arith
-    go Opens a false c e = omega arith
-    go Closes a true true e = omega arith
-    go Closes a true false e = omega arith
-    go Closes a false c e = omega arith
-    go None a b c e = omega arith
+    go : (k : Kind) (y : ℕ) → ¬ (faultOfKind (l .n) (l .m) (openBefore (given l) i) y k ≡ 2)
+    go Query y = one (ltb y (l .n)) 0 5 (λ e. omega arith) (λ e. omega arith)
+    go Opens y = one (ltb y (l .m)) _ 5 (one (openBefore (given l) i y) 6 0 (λ e. omega arith) (λ e. omega arith)) (λ e. omega arith)
+    go Closes y = one (ltb y (l .m)) _ 5 (one (openBefore (given l) i y) 0 7 (λ e. omega arith) (λ e. omega arith)) (λ e. omega arith)
+    go None y = λ e. omega arith
 
 -- ---- the program
 module _ (work bytes : List ℕ) (enough : length work ≡ 16384) (h : inputFault bytes .0 ≡ 0) where

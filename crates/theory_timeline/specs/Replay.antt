@@ -11,6 +11,7 @@ use Rattle.theory_graph.specs.Graph.{answer}
 use Rattle.theory_graph.specs.Lists.{filter, over, pairs, range}
 use Rattle.theory_names.specs.Names.{hangs, plain}
 use Rattle.call_kinds.specs.Kinds.{kindOf}
+use Rattle.call_kinds.specs.declared.Kind.{Kind}
 use Rattle.call_kinds.specs.declared.Kind.the-variants.{Closes, None, Opens, Query}
 use Rattle.call_sizes.specs.Refusal.{Refusal, Row, firstFault, row, seek, shortRows, badEnds, badStart}
 use Rattle.call_sizes.specs.Sizes.{sizeFaults}
@@ -67,14 +68,15 @@ abbrev pub required : ℕ → ℕ → ℕ → ℕ
 required t n m = 256 * t + 32 * n + 8 * m + 2048
 
 -- ---- faults
--- the fault of an event, where the segments of o are open before it and there are n junctions and m segments: 0, 5, 6 or 7
+-- the fault of an event with this Y, by its kind, where the segments of o are open before it and there are n junctions and m segments: 0, 5, 6 or 7
+abbrev pub faultOfKind : ℕ → ℕ → SegmentSet → ℕ → Kind → ℕ
+faultOfKind n m o y Query = cond (ltb y n) 0 5
+faultOfKind n m o y Opens = cond (ltb y m) (cond (o y) 6 0) 5
+faultOfKind n m o y Closes = cond (ltb y m) (cond (o y) 0 7) 5
+faultOfKind n m o y None = 5
+
 unfoldable pub eventFault : ℕ → ℕ → SegmentSet → Event → ℕ
-eventFault n m o e = elim (kindOf n (e .0)) [
-  | Query ↦ cond (ltb (e .1) n) 0 5
-  | Opens ↦ cond (ltb (e .1) m) (cond (o (e .1)) 6 0) 5
-  | Closes ↦ cond (ltb (e .1) m) (cond (o (e .1)) 0 7) 5
-  | None ↦ 5
-]
+eventFault n m o e = faultOfKind n m o (e .1) (kindOf n (e .0))
 
 -- the fault of event i
 unfoldable pub faultAt : Lent → ℕ → ℕ
