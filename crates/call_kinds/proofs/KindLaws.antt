@@ -11,7 +11,7 @@ use native.Mathlib.Omega.{arith}
 use borrow.Author.Tests.{eqb-true, le-ltb, ltb-true, ne-eqb}
 use Rattle.theory_graph.proofs.Booleans.{contradict, onBool}
 use Rattle.theory_graph.specs.Lists.{filter}
-use Rattle.call_kinds.specs.Kinds.{Gives, KindByTable, TableRow, eventTable, holds, isClosing, isOpening, isQuery, junctions, kindOf, number}
+use Rattle.call_kinds.specs.Kinds.{Gives, KindByTable, TableRow, eventTable, holds, isClosing, isOpening, isQuery, junctions, kindOf, number, tableRow}
 use Rattle.call_kinds.specs.declared.Kind.{Kind}
 use Rattle.call_kinds.specs.declared.Kind.the-variants.{Closes, None, Opens, Query}
 
@@ -57,11 +57,11 @@ module _ (n x : ℕ) where
   -- the kind of X is that of a row that holds it
   kind-given : ¬ (kindOf n x ≡ None) → Gives n x (kindOf n x)
   kind-given s = onBool (ltb x n)
-      (λ a. (record { x = junctions; kind = Query }, List·Memᴰ·head refl, a, sym (kind-with a refl refl)))
+      (λ a. (tableRow junctions Query, List·Memᴰ·head refl, a, sym (kind-with a refl refl)))
       (λ a. onBool (eqb x 65535)
-      (λ b. (record { x = number 65535; kind = Opens }, List·Memᴰ·tail (List·Memᴰ·head refl), b, sym (kind-with a b refl)))
+      (λ b. (tableRow (number 65535) Opens, List·Memᴰ·tail (List·Memᴰ·head refl), b, sym (kind-with a b refl)))
       (λ b. onBool (eqb x 65534)
-      (λ c. (record { x = number 65534; kind = Closes }, List·Memᴰ·tail (List·Memᴰ·tail (List·Memᴰ·head refl)), c, sym (kind-with a b c)))
+      (λ c. (tableRow (number 65534) Closes, List·Memᴰ·tail (List·Memᴰ·tail (List·Memᴰ·head refl)), c, sym (kind-with a b c)))
       (λ c. absurd (s (kind-with a b c)))))
 
   -- with at most 4,096 junctions no number is of two rows
@@ -84,7 +84,7 @@ module _ (n x : ℕ) where
         held b r rs = cond b (r ∷ rs) rs
 
         go : (a b c : Bool) → (a ≡ true → x < n) → (b ≡ true → x ≡ 65535) → (c ≡ true → x ≡ 65534)
-            → length (held a (record { x = junctions; kind = Query }) (held b (record { x = number 65535; kind = Opens }) (held c (record { x = number 65534; kind = Closes }) []))) ≤ 1
+            → length (held a (tableRow junctions Query) (held b (tableRow (number 65535) Opens) (held c (tableRow (number 65534) Closes) []))) ≤ 1
         go true true c p q r = absurd (omega (arith, p refl, q refl))
         go true false true p q r = absurd (omega (arith, p refl, r refl))
         go true false false p q r = omega arith
@@ -128,8 +128,8 @@ some-changes None h = absurd (h refl)
 pub query-keeps : (k : Kind) → isQuery k ≡ true → (isOpening k || isClosing k) ≡ false
 unfolding isQuery isOpening isClosing
 query-keeps Query h = refl
-query-keeps Opens h = contradict refl (sym h)
-query-keeps Closes h = contradict refl (sym h)
+query-keeps Opens h = contradict h refl
+query-keeps Closes h = contradict h refl
 query-keeps None h = refl
 
 pub change-asks-not : (k : Kind) → (isOpening k || isClosing k) ≡ true → isQuery k ≡ false

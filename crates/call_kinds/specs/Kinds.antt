@@ -22,9 +22,19 @@ pub record TableRow : Type 0 where
   pub x : Column
   pub kind : Kind
 
+abbrev pub tableRow : Column → Kind → TableRow
+tableRow x k = record { x = x; kind = k }
+
 -- document 01's rows, in its order
 abbrev pub eventTable : List TableRow
-eventTable = record { x = junctions; kind = Query } ∷ record { x = number 65535; kind = Opens } ∷ record { x = number 65534; kind = Closes } ∷ []
+eventTable =
+    -- 0 to N - 1, junction: query of X and Y
+    tableRow junctions Query
+    -- 65,535, segment: it opens
+    ∷ tableRow (number 65535) Opens
+    -- 65,534, segment: it closes
+    ∷ tableRow (number 65534) Closes
+    ∷ []
 
 -- ---- what the first column gives
 -- a column holds the number X, where there are N junctions
