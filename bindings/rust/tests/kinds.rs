@@ -9,7 +9,11 @@ use std::ops::Range;
 
 /// The rows of document 01's table: what the first column holds, and the kind.
 fn rows(n: usize) -> [(Range<usize>, Kind); 3] {
-    [(0..n, Kind::Query), (65535..65536, Kind::Opens), (65534..65535, Kind::Closes)]
+    [
+        (0..n, Kind::Query),
+        (65535..65536, Kind::Opens),
+        (65534..65535, Kind::Closes),
+    ]
 }
 
 /// The kinds that the first column gives, of whichever rows hold the number.
@@ -29,17 +33,19 @@ fn all_numbers() {
     }
 }
 
-// Each number of junctions with the numbers at the ends of the rows.
+// All 65,536 numbers with each number of junctions up to 4,096.
 #[test]
-fn all_numbers_of_junctions() {
+fn all_numbers_and_junctions() {
     for n in 0..=MOST_JUNCTIONS {
-        let end = n as u16;
-        let asked = (n > 0).then_some(Kind::Query);
-        assert_eq!(kind_of(0, n), Ok(asked.unwrap_or(Kind::None)));
-        assert_eq!(kind_of(end.wrapping_sub(1), n), Ok(asked.unwrap_or(Kind::Opens)));
-        assert_eq!(kind_of(end, n), Ok(Kind::None));
-        let far = [65532, 65533, CLOSES, OPENS].map(|x| kind_of(x, n).unwrap());
-        assert_eq!(far, [Kind::None, Kind::None, Kind::Closes, Kind::Opens]);
+        let mut found = [0; 4];
+        for x in 0..=u16::MAX {
+            let kind = kind_of(x, n).unwrap();
+            assert_eq!(kind == Kind::Query, usize::from(x) < n);
+            assert_eq!(kind == Kind::Opens, x == OPENS);
+            assert_eq!(kind == Kind::Closes, x == CLOSES);
+            found[kind as usize] += 1;
+        }
+        assert_eq!(found, [n, 1, 1, 65534 - n]);
     }
 }
 
