@@ -167,41 +167,10 @@ module _ {n m t : ℕ} {a b start x y : List ℕ} (q : CanCheckList n m t a b st
             }
 
 -- ---- events
-abbrev choose : Bool → ℕ → ℕ → ℕ
-choose b x y = cond b x y
-
--- an event's fault, by its kind
-module _ (n m : ℕ) (o : SegmentSet) (x y : ℕ) where
-  fault-kind : (k : Kind) → kindOf n x ≡ k → eventFault n m o (x, y) ≡ faultOfKind n m o y k
-  unfolding eventFault
-  fault-kind k e = ap (faultOfKind n m o y) e
-
-  pub query-fine : kindOf n x ≡ Query → y < n → 0 ≡ eventFault n m o (x, y)
-  query-fine k l = sym (fault-kind Query k ∙ ap (λ (b : Bool). choose b 0 5) (lt-ltb y n l))
-
-  pub query-bad : kindOf n x ≡ Query → n ≤ y → 5 ≡ eventFault n m o (x, y)
-  query-bad k l = sym (fault-kind Query k ∙ ap (λ (b : Bool). choose b 0 5) (le-ltb y n l))
-
-  pub opens-bad : kindOf n x ≡ Opens → m ≤ y → 5 ≡ eventFault n m o (x, y)
-  opens-bad k l = sym (fault-kind Opens k ∙ ap (λ (b : Bool). choose b (choose (o y) 6 0) 5) (le-ltb y m l))
-
-  pub opens-open : kindOf n x ≡ Opens → y < m → o y ≡ true → 6 ≡ eventFault n m o (x, y)
-  opens-open k l t = sym (fault-kind Opens k ∙ ap₂ (λ (b c : Bool). choose b (choose c 6 0) 5) (lt-ltb y m l) t)
-
-  pub opens-fine : kindOf n x ≡ Opens → y < m → o y ≡ false → 0 ≡ eventFault n m o (x, y)
-  opens-fine k l t = sym (fault-kind Opens k ∙ ap₂ (λ (b c : Bool). choose b (choose c 6 0) 5) (lt-ltb y m l) t)
-
-  pub closes-bad : kindOf n x ≡ Closes → m ≤ y → 5 ≡ eventFault n m o (x, y)
-  closes-bad k l = sym (fault-kind Closes k ∙ ap (λ (b : Bool). choose b (choose (o y) 0 7) 5) (le-ltb y m l))
-
-  pub closes-fine : kindOf n x ≡ Closes → y < m → o y ≡ true → 0 ≡ eventFault n m o (x, y)
-  closes-fine k l t = sym (fault-kind Closes k ∙ ap₂ (λ (b c : Bool). choose b (choose c 0 7) 5) (lt-ltb y m l) t)
-
-  pub closes-closed : kindOf n x ≡ Closes → y < m → o y ≡ false → 7 ≡ eventFault n m o (x, y)
-  closes-closed k l t = sym (fault-kind Closes k ∙ ap₂ (λ (b c : Bool). choose b (choose c 0 7) 5) (lt-ltb y m l) t)
-
-  pub none-bad : kindOf n x ≡ None → 5 ≡ eventFault n m o (x, y)
-  none-bad k = sym (fault-kind None k)
+-- an event's fault is that of its kind
+pub fault-kind : (n m : ℕ) (o : SegmentSet) (x y : ℕ) {k : Kind} → kindOf n x ≡ k → {r : ℕ} → r ≡ faultOfKind n m o y k → r ≡ eventFault n m o (x, y)
+unfolding eventFault
+fault-kind n m o x y e h = h ∙ ap (faultOfKind n m o y) (sym e)
 
 -- the loop: i events without a fault, and the segments open after them where those of o are open before the first
 pub record Passing (n m : ℕ) (o : SegmentSet) (t : ℕ) (x y held : List ℕ) (i : ℕ) : Type 0 where

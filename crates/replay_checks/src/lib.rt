@@ -1,8 +1,10 @@
 // The checks of a replay, in document 01's order. They read the tables only.
 use call_kinds::Kind;
 use call_sizes::Fault;
+ghost use mathlib.Core.Bool.{cond};
 ghost use mathlib.Core.Path.{_≡_};
 ghost use Prim.Native.Nat.{_≤_};
+ghost use lib.Dec.{ltb};
 ghost use lib.ListN.{length, take};
 ghost use Rattle.theory_graph.specs.Lists.{pairs};
 ghost use Rattle.call_open_set.specs.OpenSet.{isOpen};
@@ -38,6 +40,21 @@ fn contains(words: &[u64; 128], s: usize) -> bool
     (words[i] >> b) % 2 == 1
 }
 
+// The fault of an event that names segment y: 5 where there is no such segment, else `if_open` where it is open and `if_closed` where it is closed.
+fn segment_fault(m: usize, held: &[u64; 128], y: usize, if_open: usize, if_closed: usize) -> usize
+    requires { ⌜ length (now held) ≡ 128 ⌝ }
+    ensures { λ r. ⌜ r ≡ cond (ltb y m) (cond (isOpen (now (held .entry)) y) «if_open» «if_closed») 5 ⌝ }
+{
+    if m <= y {
+        return 5;
+    }
+    let open = contains(held, y);
+    if open {
+        return if_open;
+    }
+    if_closed
+}
+
 // The fault of one event, where the segments of `held` are open before it: 0, 5, 6 or 7.
 fn event_fault(n: usize, m: usize, held: &[u64; 128], x: u16, y: usize) -> usize
     requires { ⌜ length (now held) ≡ 128 ⌝ }
@@ -52,24 +69,10 @@ fn event_fault(n: usize, m: usize, held: &[u64; 128], x: u16, y: usize) -> usize
             return 5;
         }
         Kind::Opens => {
-            if m <= y {
-                return 5;
-            }
-            let open = contains(held, y);
-            if open {
-                return 6;
-            }
-            return 0;
+            return segment_fault(m, held, y, 6, 0);
         }
         Kind::Closes => {
-            if m <= y {
-                return 5;
-            }
-            let open = contains(held, y);
-            if open {
-                return 0;
-            }
-            return 7;
+            return segment_fault(m, held, y, 0, 7);
         }
         Kind::None => {
             return 5;
