@@ -115,18 +115,19 @@ fn compare_numbers() -> [usize; 2] {
     [differing, staying]
 }
 
-// The place of the row of document 01's table whose first column holds x, 3 where none does. Each column is a range of numbers. All rows are looked at, and the
-// last that holds x counts, so that a number of two rows would differ from the kind, which is that of the first.
+// The place of the row of document 01's table whose first column holds x, 3 where none does. The rows are tried from the last to the first, so that a number
+// of two rows would differ from the kind, which is that of the first.
 fn row_of(x: usize, n: usize) -> usize {
-    let from = [0, 65535, 65534];
-    let to = [n, 65536, 65535];
-    let mut found: usize = 3;
-    for r in 0..3 {
-        if from[r] <= x && x < to[r] {
-            found = r;
-        }
+    if x == 65534 {
+        return 2;
     }
-    found
+    if x == 65535 {
+        return 1;
+    }
+    if x < n {
+        return 0;
+    }
+    3
 }
 
 // The number of the kind of x.
@@ -135,21 +136,20 @@ fn kind(x: usize, n: usize) -> usize {
     counts::word(call_kinds::kind_number(kind))
 }
 
-// Of all 65,536 numbers, how many have each kind, and how many one that is not that of their row.
-fn compare_kinds(n: usize) -> [usize; 5] {
-    let mut found = [0usize; 5];
+// Of all 65,536 numbers, how many have a kind that is not that of their row.
+fn kinds_wrong(n: usize) -> usize {
+    let mut count: usize = 0;
     for x in 0..65536 {
-        let k = kind(x, n) % 4;
-        found[k] = counts::plus(found[k], 1);
-        found[4] = counts::counted(found[4], k != row_of(x, n));
+        count = counts::counted(count, kind(x, n) != row_of(x, n));
     }
-    found
+    count
 }
 
-// How many have one that is not that of their row.
-fn kinds_wrong(n: usize) -> usize {
-    let found = compare_kinds(n);
-    found[4]
+// The same over few and over many junctions.
+fn compare_kinds() -> usize {
+    let few = counts::plus(kinds_wrong(0), counts::plus(kinds_wrong(1), kinds_wrong(2)));
+    let many = counts::plus(kinds_wrong(4095), kinds_wrong(4096));
+    counts::plus(few, counts::plus(kinds_wrong(176), many))
 }
 
 fn main() {
@@ -160,9 +160,6 @@ fn main() {
     let one = [0u8, 1, 2, 0, 2, 0, 0, 0, 0, 1, 0, 0, 1];
     let other = [1u8, 0, 0, 0, 0, 0, 2, 1, 0, 0, 2, 1, 0];
     let numbers = compare_numbers();
-    let few = counts::plus(kinds_wrong(0), counts::plus(kinds_wrong(1), kinds_wrong(2)));
-    let kinds = compare_kinds(4096);
-    let many = counts::plus(kinds_wrong(176), counts::plus(kinds_wrong(4095), kinds[4]));
     let mut t = [0u32; 512];
     print::add(
         &mut t,
@@ -195,12 +192,7 @@ fn main() {
     tables::put(&mut t, 18, number_code(&example, 6));
     tables::put(&mut t, 19, number_code(&example, 4096));
     tables::put(&mut t, 20, number_code(&example, 4097));
-    // Kinds, of which there are more than `add` lets through.
-    tables::put(&mut t, 21, counts::plus(few, many));
-    tables::put(&mut t, 22, kinds[0]);
-    tables::put(&mut t, 23, kinds[1]);
-    tables::put(&mut t, 24, kinds[2]);
-    tables::put(&mut t, 25, kinds[3]);
+    tables::put(&mut t, 21, compare_kinds());
     print::report(
         b"\
 4096 junctions refused by #\n\
@@ -225,10 +217,6 @@ first 6 of 5 bytes refused by #\n\
 first 4096 of 5 bytes refused by #\n\
 first 4097 of 5 bytes refused by #\n\
 kinds that differ from the table's rows, of all numbers with 0, 1, 2, 176, 4095 and 4096 junctions: #\n\
-numbers that query with 4096 junctions: #\n\
-that open: #\n\
-that close: #\n\
-of no kind: #\n\
 ",
         &t,
     );
