@@ -5,7 +5,7 @@ use mathlib.Core.Bool.{Bool, cond, false, true}
 use mathlib.Core.List.{List, [], _++_, _∷_, map}
 use mathlib.Core.Path.{_∙_, _≡_, ap, refl, subst, sym}
 use lib.ListN.{drop, getD, length, length-drop, length-replicate, length-take, replicate, take}
-use lib.Seq.{drop-at, getD-take, length-take-le, sets, sets-eq}
+use lib.Seq.{drop-at, length-take-le, sets, sets-eq}
 use native.Mathlib.Omega.{arith}
 use borrow.Author.Tests.{ne-eqb}
 use Rattle.call_kinds.specs.Kinds.{isQuery, kindOf}
@@ -125,14 +125,14 @@ events-table f i (suc k) = ap (λ (l : List ℕ). f i ∷ l) (events-table f (su
 over-prefix : (vs zs w : List ℕ) → length zs ≡ length vs → over vs (zs ++ drop (length vs) w) ≡ over vs w
 over-prefix vs zs w e = ap (λ (l : List ℕ). vs ++ l) (drop-at zs (drop (length vs) w) (length vs) e)
 
--- a list, its tables cut to their sizes, with k words of work; and what its windows leave
+-- a list with k words of work; and what its windows leave
 abbrev ReadyOf : Lent → ℕ → ℕ → Type 0
 ReadyOf l p k =
-    ListReady (l .n) p (take (l .m) (l .a)) (take (l .m) (l .b)) (take (l .m) (l .start)) (take (l .t) (l .x)) (take (l .t) (l .y)) (l .answers) (l .names) (take k (l .work))
+    ListReady (l .n) p (l .a) (l .b) (l .start) (l .x) (l .y) (l .answers) (l .names) (take k (l .work))
 
 abbrev RepliedOf : Lent → ℕ → Written → ℕ → Type 0
 RepliedOf l p after kept =
-    ListReplied (l .n) p (take (l .m) (l .a)) (take (l .m) (l .b)) (take (l .m) (l .start)) (take (l .t) (l .x)) (take (l .t) (l .y)) (written (l .answers) (l .names)) after kept
+    ListReplied (l .n) p (l .a) (l .b) (l .start) (l .x) (l .y) (written (l .answers) (l .names)) after kept
 
 module _ (l : Lent) (p : ℕ) (f : Faultless l p) where
   pub granted : Accepted l p
@@ -141,40 +141,36 @@ module _ (l : Lent) (p : ℕ) (f : Faultless l p) where
   abbrev need : ℕ
   need = required (l .t) (l .n) (l .m)
 
-  -- the tables, cut to their sizes
-  long-x : length (take (l .t) (l .x)) ≡ l .t
-  long-x = length-take-le (l .t) (l .x) (granted .x-long)
-
   pub list-need : ReadyOf l p need
   unfolding given
   list-need =
       let w = length-take-le need (l .work) (granted .work-long) in
-      let la = length-take-le (l .m) (l .a) (granted .a-long) in
+      let la = granted .a-exact in
+      let lx = granted .x-exact in
       record {
         events = record {
           sound = accepted-sound l p granted;
-          segments = length-take-le (l .m) (l .b) (granted .b-long) ∙ sym la;
-          start-long = length-take-le (l .m) (l .start) (granted .start-long) ∙ sym la;
-          events = length-take-le (l .t) (l .y) (granted .y-long) ∙ sym long-x;
-          much = omega (arith, long-x, granted .t-fits);
-          room = omega (arith, long-x, la);
+          segments = granted .b-exact ∙ sym la;
+          start-long = granted .start-exact ∙ sym la;
+          events = granted .y-exact ∙ sym lx;
+          much = omega (arith, granted .t-fits);
+          room = omega arith;
         };
         share = granted .share;
-        long = omega (arith, long-x, granted .answers-long);
-        names-long = omega (arith, long-x, granted .names-long);
-        room = omega (arith, long-x, la);
+        long = omega (arith, granted .answers-long);
+        names-long = omega (arith, granted .names-long);
+        room = omega arith;
       }
 
   queries-are : queriesBy (l .n) (l .x) (l .t) ≡ count (asksAt (given l)) 0 (l .t)
   unfolding given
   queries-are = queries-same (given l) (l .x) (l .t) (omega (arith, events-length l p granted)) λ i u.
-      sym (ap (λ (e : Event). e .0) (pairs-at (take (l .t) (l .x)) (take (l .t) (l .y)) i (omega (arith, long-x))
-      (omega (arith, length-take-le (l .t) (l .y) (granted .y-long)))) ∙ getD-take (l .t) (l .x) i 0 u)
+      sym (ap (λ (e : Event). e .0) (pairs-at (l .x) (l .y) i (omega (arith, granted .x-exact)) (omega (arith, granted .y-exact))))
 
   module _ {after : Written} {kept′ : ℕ} (d : RepliedOf l p after kept′) where
     replied : Replied (given l) 0 (l .t) p (written (l .answers) (l .names)) after kept′
     unfolding given
-    replied = rw long-x at d
+    replied = rw (granted .x-exact) at d
 
     -- a table with an entry for each event written over its first entries
     table-is : (f : ℕ → ℕ) (before : List ℕ) → length (map f (range 0 (size (given l)))) ≤ length before

@@ -34,18 +34,7 @@ pub fn replay(
         return ReplayReply::Refused(f.code, f.place);
     }
     let need = replay_checks::required(t, n, m);
-    let kept = list::replay_list(
-        n,
-        p,
-        &a[..m],
-        &b[..m],
-        &start[..m],
-        &x[..t],
-        &y[..t],
-        answers,
-        names,
-        &mut work[..need],
-    );
+    let kept = list::replay_list(n, p, a, b, start, x, y, answers, names, &mut work[..need]);
     let queries = replay_events::count_queries(n, x, t);
     core_words::clear(work, need);
     ReplayReply::Done(theory_timeline::Totals {

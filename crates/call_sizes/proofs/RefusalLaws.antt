@@ -13,7 +13,7 @@ use native.Mathlib.Numerals.{add-one}
 use native.Mathlib.Omega.{arith}
 use borrow.Author.Tests.{eqb-false, eqb-true, le-leb, le-ltb, lt-leb, lt-ltb, ltb-false}
 use Rattle.theory_graph.proofs.Booleans.{onBool}
-use Rattle.call_sizes.specs.Refusal.{Row, badEnds, byTwo, firstFault, seek, shortRows}
+use Rattle.call_sizes.specs.Refusal.{Row, badEnds, belowRows, byTwo, firstFault, longRows, seek, shortRows}
 use Rattle.call_sizes.specs.Sizes.{sizeFaults}
 
 -- ---- faults
@@ -52,25 +52,33 @@ numbered-append [] bs s t = t
 numbered-append (r ∷ rs) bs s t = (s .0, numbered-append rs bs (s .1) t)
 
 -- ---- lengths
--- each table is as long as it must be
+-- no first number is below its second: of lengths and least lengths, each table is as long as it must be
 abbrev pub Long : List (ℕ × ℕ) → Type 0
 Long [] = Unit {0}
 Long (t ∷ ts) = (t .1 ≤ t .0) × Long ts
 
+pub below-numbered : (c : ℕ) → 0 < c → (ts : List (ℕ × ℕ)) → Numbered (belowRows c ts)
+below-numbered c p [] = tt
+below-numbered c p (t ∷ ts) = (λ h. p, below-numbered c p ts)
+
+pub below-long : (c : ℕ) (ts : List (ℕ × ℕ)) → Silent (belowRows c ts) ↔ Long ts
+below-long c [] = (λ s. s, λ s. s)
+below-long c (t ∷ ts) = let (to, from) = below-long c ts in (λ s. (ltb-false (t .0) (t .1) (s .0), to (s .1)), λ l. (le-ltb (t .0) (t .1) (l .0), from (l .1)))
+
+-- of refusal 2
 pub short-numbered : (ts : List (ℕ × ℕ)) → Numbered (shortRows ts)
-short-numbered [] = tt
-short-numbered (t ∷ ts) = (λ h. omega arith, short-numbered ts)
+short-numbered = below-numbered 2 (omega arith)
 
-pub short-long : (ts : List (ℕ × ℕ)) → Silent (shortRows ts) ↔ Long ts
-short-long [] = (λ s. s, λ s. s)
-short-long (t ∷ ts) = let (to, from) = short-long ts in (λ s. (ltb-false (t .0) (t .1) (s .0), to (s .1)), λ l. (le-ltb (t .0) (t .1) (l .0), from (l .1)))
-
--- what is left of refusal 2 where it does not refuse
+-- what is left of it where it does not refuse
 pub accepted-long : (ts : List (ℕ × ℕ)) → firstFault (shortRows ts) .0 ≡ 0 → Long ts
-accepted-long ts z = short-long ts .0 (fault-silent (shortRows ts) (short-numbered ts) z)
+accepted-long ts z = below-long 2 ts .0 (fault-silent (shortRows ts) (short-numbered ts) z)
 
--- ---- the loop over the lengths
-module _ (xs : List ℕ) (i : ℕ) where
+-- of refusal 12
+pub long-numbered : (ts : List (ℕ × ℕ)) → Numbered (longRows ts)
+long-numbered = below-numbered 12 (omega arith)
+
+-- ---- the loop over the pairs
+module _ (c : ℕ) (xs : List ℕ) (i : ℕ) where
   two-at : i < length xs / 2 → drop (2 * i) xs ≡ getD xs (2 * i) 0 ∷ getD xs (2 * i + 1) 0 ∷ drop (2 * (i + 1)) xs
   two-at l =
       let e : 2 * (i + 1) ≡ suc (suc (2 * i)) = omega arith in
@@ -78,17 +86,17 @@ module _ (xs : List ℕ) (i : ℕ) where
       let b : suc (2 * i) < length xs = omega arith in
       rw (e, add-one, drop-cons xs (2 * i) 0, drop-cons xs (suc (2 * i)) 0)
 
-  pub short-here : i < length xs / 2 → getD xs (2 * i) 0 < getD xs (2 * i + 1) 0 → firstFault (shortRows (byTwo (drop (2 * i) xs))) ≡ (2, 0)
-  short-here l h = rw (two-at l, lt-ltb (getD xs (2 * i) 0) (getD xs (2 * i + 1) 0) h) refl
+  pub below-here : i < length xs / 2 → getD xs (2 * i) 0 < getD xs (2 * i + 1) 0 → firstFault (belowRows c (byTwo (drop (2 * i) xs))) ≡ (c, 0)
+  below-here l h = rw (two-at l, lt-ltb (getD xs (2 * i) 0) (getD xs (2 * i + 1) 0) h) refl
 
-  pub short-more : i < length xs / 2 → getD xs (2 * i + 1) 0 ≤ getD xs (2 * i) 0
-      → firstFault (shortRows (byTwo (drop (2 * i) xs))) ≡ firstFault (shortRows (byTwo (drop (2 * (i + 1)) xs)))
-  short-more l h = rw (two-at l, le-ltb (getD xs (2 * i) 0) (getD xs (2 * i + 1) 0) h) refl
+  pub below-more : i < length xs / 2 → getD xs (2 * i + 1) 0 ≤ getD xs (2 * i) 0
+      → firstFault (belowRows c (byTwo (drop (2 * i) xs))) ≡ firstFault (belowRows c (byTwo (drop (2 * (i + 1)) xs)))
+  below-more l h = rw (two-at l, le-ltb (getD xs (2 * i) 0) (getD xs (2 * i + 1) 0) h) refl
 
-  pub short-past : length xs / 2 ≤ i → firstFault (shortRows (byTwo (drop (2 * i) xs))) ≡ (0, 0)
-  short-past l = few (drop (2 * i) xs) (rw length-drop (omega arith))
+  pub below-past : length xs / 2 ≤ i → firstFault (belowRows c (byTwo (drop (2 * i) xs))) ≡ (0, 0)
+  below-past l = few (drop (2 * i) xs) (rw length-drop (omega arith))
     where
-      few : (ys : List ℕ) → length ys < 2 → firstFault (shortRows (byTwo ys)) ≡ (0, 0)
+      few : (ys : List ℕ) → length ys < 2 → firstFault (belowRows c (byTwo ys)) ≡ (0, 0)
       few [] h = refl
       few (y ∷ []) h = refl
       few (y ∷ z ∷ ys) h = absurd (omega arith)

@@ -23,10 +23,18 @@ abbrev pub firstFault : List Row → Refusal
 firstFault [] = (0, 0)
 firstFault (r ∷ rs) = cond (r .test) (r .code, r .place) (firstFault rs)
 
+-- the refusal by a number c, place 0, where the first number of some pair is below the second
+abbrev pub belowRows : ℕ → List (ℕ × ℕ) → List Row
+belowRows c [] = []
+belowRows c (t ∷ ts) = row (ltb (t .0) (t .1)) c 0 ∷ belowRows c ts
+
 -- refusal 2: a table is shorter than it must be. Each table by its length and its least length
 abbrev pub shortRows : List (ℕ × ℕ) → List Row
-shortRows [] = []
-shortRows (t ∷ ts) = row (ltb (t .0) (t .1)) 2 0 ∷ shortRows ts
+shortRows = belowRows 2
+
+-- refusal 12 (document 02, No. 7): a table is longer than its size. Each table by its size and its length
+abbrev pub longRows : List (ℕ × ℕ) → List Row
+longRows = belowRows 12
 
 -- numbers two by two
 abbrev pub byTwo : List ℕ → List (ℕ × ℕ)

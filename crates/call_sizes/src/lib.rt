@@ -3,7 +3,7 @@
 ghost use mathlib.Core.Path.{_≡_};
 ghost use Prim.Native.Nat.{_≤_};
 ghost use lib.ListN.{length};
-ghost use Rattle.call_sizes.specs.Refusal.{badEnds, badStart, byTwo, firstFault, seek, shortRows};
+ghost use Rattle.call_sizes.specs.Refusal.{badEnds, badStart, belowRows, byTwo, firstFault, seek};
 ghost use Rattle.call_sizes.specs.Sizes.{sizesOutcome, checkSizes, sizeFaults};
 
 // The sizes of a replay (n junctions, m segments, t events) or of a contraction (n nodes, m edges, k active entries), within the limits.
@@ -74,15 +74,18 @@ pub fn size_fault(n: usize, m: usize, t: usize, k: usize) -> Fault
     }
 }
 
-// Internal: refusal 2, as a fault. Of each table two numbers: its length, and the least that it must have.
-pub fn length_fault(tables: &[usize]) -> Fault
-    ensures { λ r. ⌜ (r .code, r .place) ≡ firstFault (shortRows (byTwo (now (tables .entry)))) ⌝ }
+// Internal: a refusal by this number, place 0, where of numbers two by two a first one is below its second. By lengths and least lengths it is refusal 2.
+pub fn below_fault(code: usize, numbers: &[usize]) -> Fault
+    ensures { λ r. ⌜ (r .code, r .place) ≡ firstFault (belowRows code (byTwo (now (numbers .entry)))) ⌝ }
 {
     let mut i: usize = 0;
-    // The first i tables are long enough.
-    while i < tables.len() / 2 {
-        if tables[2 * i] < tables[2 * i + 1] {
-            return Fault { code: 2, place: 0 };
+    // No first number of the first i pairs is below its second.
+    while i < numbers.len() / 2 {
+        if numbers[2 * i] < numbers[2 * i + 1] {
+            return Fault {
+                code: code,
+                place: 0,
+            };
         }
         i += 1;
     }

@@ -56,7 +56,7 @@ fn length_fault(
         work.len(),
         required(n, m),
     ];
-    call_sizes::length_fault(&tables)
+    call_sizes::below_fault(2, &tables)
 }
 
 // The first active entry not below n, or k.

@@ -1,4 +1,4 @@
--- Laws of the checks: the first that passes, met from the front; the fault of the sizes; the faults of the tables and the share; the first segment with a
+-- Laws of the checks: the first that passes, met from the front; the fault of the sizes; the faults of the lengths and the share; the first segment with a
 -- bad end or starting entry, and the first event with a fault.
 -- Assumes nothing.
 use Prim.Native.Nat.{_+_, _<_, _≤_, ℕ}
@@ -18,18 +18,20 @@ use Rattle.call_kinds.specs.declared.Kind.{Kind}
 use Rattle.call_kinds.specs.declared.Kind.the-variants.{Closes, None, Opens, Query}
 use Rattle.call_open_set.proofs.OpenSetLaws.{stored-length}
 use Rattle.call_open_set.specs.OpenSet.{bits, isOpen}
-use Rattle.call_sizes.proofs.RefusalLaws.{accepted-long, fault-left, fault-right, fault-silent, seek-at, seek-end, short-numbered, sizes-numbered, skip-silent}
+use Rattle.call_sizes.proofs.RefusalLaws.{Numbered, below-long, fault-left, fault-right, fault-silent, long-numbered, numbered-append, seek-at, seek-end, short-numbered, silent-left, silent-right}
+use Rattle.call_sizes.proofs.RefusalLaws.{sizes-numbered}
 use Rattle.call_sizes.specs.Refusal.{Refusal, Row, badEnds, badStart, firstFault, row, seek}
 use Rattle.call_sizes.specs.Sizes.{sizeFaults}
 use Rattle.theory_graph.proofs.Booleans.{onBool}
+use Rattle.theory_graph.proofs.TableLaws.{pairs-at}
 use Rattle.theory_graph.specs.Lists.{pairs, sum}
-use Rattle.theory_timeline.proofs.Acceptance.{Accepted, accepted-from, accepted-sound, fault-fine, getD-pairs, length-pairs}
+use Rattle.theory_timeline.proofs.Acceptance.{Accepted, accepted-from, accepted-sound, fault-fine, pairs-both}
 use Rattle.theory_timeline.proofs.Networks.{after-append}
 use Rattle.theory_timeline.specs.Events.{Event, SegmentSet, after, afterAll, changes, closes, opens}
-use Rattle.theory_timeline.specs.Replay.{Lent, eventFault, fault, faultAt, faultOfKind, faults, given, listFaults, shareFaults, shortTables, tableLengths}
+use Rattle.theory_timeline.specs.Replay.{Lent, eventFault, fault, faultAt, faultOfKind, faults, given, listFaults, longTables, readLengths, shareFaults, shortTables, tableLengths}
 use Rattle.theory_timeline.specs.Windows.{atStart, openBefore, size}
-use Rattle.replay_checks.proofs.SetLaws.{StartsBelow, event-stays, event-stored, open-count, start-below, start-taken}
-use Rattle.replay_checks.specs.Check.{CanCheckList, CheckedEvents, CheckedList, CheckedTables, EventFits, eventsFault, faultOf, tablesOf}
+use Rattle.replay_checks.proofs.SetLaws.{StartsBelow, event-stays, event-stored, open-count, start-all, start-below}
+use Rattle.replay_checks.specs.Check.{CanCheckList, CheckedEvents, CheckedList, CheckedTables, EventFits, boundFaults, eventsFault, faultOf, tablesOf}
 use Rattle.replay_checks.specs.declared.Checked.{Checked}
 
 -- what holds below s and at s holds below s + 1
@@ -37,134 +39,159 @@ pub below-next : (f : ℕ → Bool) (s : ℕ) → ((u : ℕ) → u < s → f u �
 below-next f s h t u l = onBool (eqb u s) (λ q. ap f (eqb-true u s q) ∙ t) (λ q. let ne : ¬ (u ≡ s) = eqb-false u s q in h u (omega arith))
 
 -- the segments open before the end are those after all events
-ends-with : (l : Lent) (p : ℕ) → Accepted l p → openBefore (given l) (size (given l)) ≡ afterAll (l .n) (pairs (take (l .t) (l .x)) (take (l .t) (l .y)))
-    (atStart (take (l .m) (l .start)))
+ends-with : (l : Lent) → openBefore (given l) (size (given l)) ≡ afterAll (l .n) (pairs (l .x) (l .y)) (atStart (l .start))
 unfolding openBefore given
-ends-with l p a =
-    let e = pairs (take (l .t) (l .x)) (take (l .t) (l .y)) in
-    ap (λ (k : List Event). afterAll (l .n) k (atStart (take (l .m) (l .start)))) (take-all (length e) e (omega arith))
+ends-with l = ap (λ (k : List Event). afterAll (l .n) k (atStart (l .start))) (take-all (length (pairs (l .x) (l .y))) (pairs (l .x) (l .y)) (omega arith))
 
--- those open at the start are segments: the starting table counts as far as the segments go
+-- those open at the start are segments: the starting table is as long as the segments are many
 starts-below : (l : Lent) (p : ℕ) → Accepted l p → StartsBelow (given l)
 unfolding given
-starts-below l p a s h = omega (arith, start-below (l .m) (l .start) s h, length-pairs (l .m) (l .a) (l .b) (a .a-long) (a .b-long))
+starts-below l p a s h = omega (arith, start-below (l .start) s h, a .start-exact, pairs-both (l .a) (l .b) (a .a-exact) (a .b-exact))
 
--- ---- the sizes and the lengths
+-- ---- 2, 12 and 3
 module _ (l : Lent) (p : ℕ) where
-  abbrev rest : List Row
-  rest = shareFaults p ++ listFaults l
+  bounds-numbered : Numbered (boundFaults l p)
+  bounds-numbered =
+      numbered-append (shortTables l) (longTables l ++ shareFaults p) (short-numbered (tableLengths l))
+      (numbered-append (longTables l) (shareFaults p) (long-numbered (readLengths l)) (λ h. omega arith, (λ h. omega arith, tt)))
+
+  module _ (f : Refusal) (e : f ≡ firstFault (shortTables l)) where
+    pub short-refused : 0 < f .0 → f ≡ firstFault (boundFaults l p)
+    short-refused h = e ∙ sym (fault-left (shortTables l) (longTables l ++ shareFaults p) (λ z. omega (arith, ap (λ (f : Refusal). f .0) e)))
+
+    module _ (z : f .0 ≡ 0) (g : Refusal) (k : g ≡ firstFault (longTables l)) where
+      not-short : firstFault (boundFaults l p) ≡ firstFault (longTables l ++ shareFaults p)
+      not-short = fault-right (shortTables l) (longTables l ++ shareFaults p) (short-numbered (tableLengths l)) (sym (ap (λ (f : Refusal). f .0) e) ∙ z)
+
+      pub long-refused : 0 < g .0 → g ≡ firstFault (boundFaults l p)
+      long-refused h = k ∙ sym (not-short ∙ fault-left (longTables l) (shareFaults p) (λ z. omega (arith, ap (λ (f : Refusal). f .0) k)))
+
+      pub share-left : g .0 ≡ 0 → firstFault (shareFaults p) ≡ firstFault (boundFaults l p)
+      share-left y = sym (not-short ∙ fault-right (longTables l) (shareFaults p) (long-numbered (readLengths l)) (sym (ap (λ (f : Refusal). f .0) k) ∙ y))
+
+-- ---- the sizes, what is behind them, and the list
+module _ (l : Lent) (p : ℕ) where
+  in-order : fault l p ≡ firstFault (sizeFaults (l .n) (l .m) (l .t) 0 ++ (boundFaults l p ++ listFaults l))
+  unfolding fault faults
+  in-order = refl
 
   pub size-refused : (f : Refusal) → f ≡ firstFault (sizeFaults (l .n) (l .m) (l .t) 0) → 0 < f .0 → f ≡ fault l p
-  unfolding fault faults
-  size-refused f e h = e ∙ sym (fault-left (sizeFaults (l .n) (l .m) (l .t) 0) (shortTables l ++ rest) (λ z. omega (arith, ap (λ (f : Refusal). f .0) e)))
+  size-refused f e h =
+      e ∙ sym (in-order ∙ fault-left (sizeFaults (l .n) (l .m) (l .t) 0) (boundFaults l p ++ listFaults l) (λ z. omega (arith, ap (λ (f : Refusal). f .0) e)))
 
   module _ (f : Refusal) (e : f ≡ firstFault (sizeFaults (l .n) (l .m) (l .t) 0)) (z : f .0 ≡ 0) where
-    lengths : fault l p ≡ firstFault (shortTables l ++ rest)
-    unfolding fault faults
-    lengths = fault-right (sizeFaults (l .n) (l .m) (l .t) 0) (shortTables l ++ rest) (sizes-numbered (l .n) (l .m) (l .t) 0) (sym (ap (λ (f : Refusal). f .0) e) ∙ z)
+    bounds : fault l p ≡ firstFault (boundFaults l p ++ listFaults l)
+    bounds =
+        in-order
+        ∙ fault-right (sizeFaults (l .n) (l .m) (l .t) 0) (boundFaults l p ++ listFaults l) (sizes-numbered (l .n) (l .m) (l .t) 0)
+        (sym (ap (λ (f : Refusal). f .0) e) ∙ z)
 
     pub within : (l .n ≤ 4096) × (l .m ≤ 8192) × (l .t ≤ 4096)
     within =
         let s = fault-silent (sizeFaults (l .n) (l .m) (l .t) 0) (sizes-numbered (l .n) (l .m) (l .t) 0) (ap (λ (f : Refusal). f .0) (sym e) ∙ z) in
         (ltb-false 4096 (l .n) (s .0), ltb-false 8192 (l .m) (s .1 .0), ltb-false 4096 (l .t) (s .1 .1 .0))
 
-    module _ (h : Refusal) (k : h ≡ firstFault (shortTables l)) where
-      pub length-refused : 0 < h .0 → h ≡ fault l p
-      length-refused u = k ∙ sym (lengths ∙ fault-left (shortTables l) rest (λ z. omega (arith, ap (λ (f : Refusal). f .0) k)))
+    module _ (h : Refusal) (k : h ≡ firstFault (boundFaults l p)) where
+      pub bounds-refused : 0 < h .0 → h ≡ fault l p
+      bounds-refused u = k ∙ sym (bounds ∙ fault-left (boundFaults l p) (listFaults l) (λ z. omega (arith, ap (λ (f : Refusal). f .0) k)))
 
       module _ (y : h .0 ≡ 0) where
-        list-fault : fault l p ≡ firstFault rest
-        list-fault = lengths ∙ fault-right (shortTables l) rest (short-numbered (tableLengths l)) (sym (ap (λ (f : Refusal). f .0) k) ∙ y)
+        none : firstFault (boundFaults l p) .0 ≡ 0
+        none = sym (ap (λ (f : Refusal). f .0) k) ∙ y
+
+        list-fault : fault l p ≡ firstFault (listFaults l)
+        list-fault = bounds ∙ fault-right (boundFaults l p) (listFaults l) (bounds-numbered l p) none
 
         pub can-check : CanCheckList (l .n) (l .m) (l .t) (l .a) (l .b) (l .start) (l .x) (l .y)
         can-check =
             let (a, b, c) = within in
-            let (la, (lb, (ls, (lx, (ly, _))))) = accepted-long (tableLengths l) (sym (ap (λ (f : Refusal). f .0) k) ∙ y) in
-            record { n-fits = a; m-fits = b; t-fits = c; a-long = la; b-long = lb; start-long = ls; x-long = lx; y-long = ly }
+            let s = fault-silent (boundFaults l p) (bounds-numbered l p) none in
+            let (la, (lb, (ls, (lx, (ly, _))))) = below-long 2 (tableLengths l) .0 (silent-left (shortTables l) (longTables l ++ shareFaults p) s) in
+            let (ma, (mb, (ms, (mx, (my, _))))) = below-long 12 (readLengths l) .0
+            (silent-left (longTables l) (shareFaults p) (silent-right (shortTables l) (longTables l ++ shareFaults p) s)) in
+            record {
+              n-fits = a;
+              m-fits = b;
+              t-fits = c;
+              a-exact = omega arith;
+              b-exact = omega arith;
+              start-exact = omega arith;
+              x-exact = omega arith;
+              y-exact = omega arith;
+            }
 
         -- what the check of the list finds is what the whole input has
-        pub list-checked : {r : Checked} → CheckedList (l .n) (l .m) (l .t) p (l .a) (l .b) (l .start) (l .x) (l .y) r → CheckedTables l p r
+        pub list-checked : {r : Checked} → CheckedList (l .n) (l .m) (l .t) (l .a) (l .b) (l .start) (l .x) (l .y) r → CheckedTables l p r
         unfolding fault listFaults faults faultAt given
         list-checked c = record {
           refusal = c .refusal ∙ sym list-fault;
           open-last = λ q.
               let (held, o, e) = c .last (ap (λ (f : Refusal). f .0) (c .refusal ∙ sym list-fault) ∙ q) in
               let a = accepted-from l p q in
-              e ∙ open-count (given l) (accepted-sound l p a) (starts-below l p a) held (o ∙ sym (ends-with l p a));
+              e ∙ open-count (given l) (accepted-sound l p a) (starts-below l p a) held (o ∙ sym (ends-with l));
         }
 
 pub refused-checked : (l : Lent) (p : ℕ) (c i o : ℕ) → (c, i) ≡ fault l p → 0 < c → CheckedTables l p (record { code = c; place = i; «open» = o })
 refused-checked l p c i o e h = record { refusal = e; open-last = λ q. absurd (omega (arith, ap (λ (f : Refusal). f .0) e)) }
 
--- ---- the share, the ends, the starting table and the events
-module _ {n m t : ℕ} {a b start x y : List ℕ} (q : CanCheckList n m t a b start x y) (p : ℕ) where
+-- ---- the ends, the starting table and the events
+module _ {n m t : ℕ} {a b start x y : List ℕ} (q : CanCheckList n m t a b start x y) where
   abbrev l : Lent
   l = tablesOf n m t a b start x y
 
-  list-refused : (c i : ℕ) → (c, i) ≡ firstFault (shareFaults p ++ listFaults l) → 0 < c → CheckedList n m t p a b start x y (record { code = c; place = i; «open» = 0 })
+  list-refused : (c i : ℕ) → (c, i) ≡ firstFault (listFaults l) → 0 < c → CheckedList n m t a b start x y (record { code = c; place = i; «open» = 0 })
   list-refused c i e h = record { refusal = e; last = λ z. absurd (omega arith) }
 
-  pub share-low : p < 4 → CheckedList n m t p a b start x y (record { code = 3; place = 0; «open» = 0 })
-  share-low h = list-refused 3 0 (sym (ap (λ (c : Bool). cond c (3, 0) (firstFault (row (ltb 12 p) 3 0 ∷ listFaults l))) (lt-ltb p 4 h))) (omega arith)
+  -- the rows of the ends, the starting table and the events
+  abbrev endsRow : ℕ → Row
+  endsRow k = row (ltb k m) 4 k
 
-  pub share-high : 4 ≤ p → 12 < p → CheckedList n m t p a b start x y (record { code = 3; place = 0; «open» = 0 })
-  share-high k h = list-refused 3 0
-      (sym (ap₂ (λ (c d : Bool). cond c (3, 0) (cond d (3, 0) (firstFault (listFaults l)))) (le-ltb p 4 k) (lt-ltb 12 p h))) (omega arith)
+  abbrev startRow : ℕ → Row
+  startRow k = row (ltb k m) 11 k
 
-  module _ (u : 4 ≤ p) (v : p ≤ 12) where
-    shared : firstFault (shareFaults p ++ listFaults l) ≡ firstFault (listFaults l)
-    shared = skip-silent (shareFaults p) (listFaults l) (le-ltb p 4 u, (le-ltb 12 p v, tt))
+  abbrev eventsRow : Row
+  eventsRow =
+      let i : ℕ = seek (λ i. not (eqb (faultAt l i) 0)) 0 t in
+      row (ltb i t) (faultAt l i) i
 
-    -- the rows of the ends, the starting table and the events
-    abbrev endsRow : ℕ → Row
-    endsRow k = row (ltb k m) 4 k
+  rows : firstFault (listFaults l) ≡ firstFault (endsRow (seek (badEnds n a b) 0 m) ∷ startRow (seek (badStart start) 0 m) ∷ eventsRow ∷ [])
+  unfolding listFaults
+  rows = refl
 
-    abbrev startRow : ℕ → Row
-    startRow k = row (ltb k m) 11 k
+  pub ends-refused : (s : ℕ) → s ≡ seek (badEnds n a b) 0 m → s < m → CheckedList n m t a b start x y (record { code = 4; place = s; «open» = 0 })
+  ends-refused s e h = list-refused 4 s
+      (sym (rows ∙ ap (λ (k : ℕ). firstFault (endsRow k ∷ others)) (sym e) ∙ ap (λ (c : Bool). cond c (4, s) (firstFault others)) (lt-ltb s m h))) (omega arith)
+    where
+      others : List Row
+      others = startRow (seek (badStart start) 0 m) ∷ eventsRow ∷ []
 
-    abbrev eventsRow : Row
-    eventsRow =
-        let i : ℕ = seek (λ i. not (eqb (faultAt l i) 0)) 0 t in
-        row (ltb i t) (faultAt l i) i
+  module _ (h : m ≤ seek (badEnds n a b) 0 m) where
+    ends-passed : firstFault (listFaults l) ≡ firstFault (startRow (seek (badStart start) 0 m) ∷ eventsRow ∷ [])
+    ends-passed =
+        rows
+        ∙ ap (λ (c : Bool). cond c (4, seek (badEnds n a b) 0 m) (firstFault (startRow (seek (badStart start) 0 m) ∷ eventsRow ∷ [])))
+        (le-ltb _ m h)
 
-    rows : firstFault (shareFaults p ++ listFaults l) ≡ firstFault (endsRow (seek (badEnds n a b) 0 m) ∷ startRow (seek (badStart start) 0 m) ∷ eventsRow ∷ [])
-    unfolding listFaults
-    rows = shared
+    pub start-refused : (r : ℕ) → r ≡ seek (badStart start) 0 m → r < m → CheckedList n m t a b start x y (record { code = 11; place = r; «open» = 0 })
+    start-refused r f k = list-refused 11 r
+        (sym (ends-passed ∙ ap (λ (k : ℕ). firstFault (startRow k ∷ eventsRow ∷ [])) (sym f) ∙ ap (λ (c : Bool). cond c (11, r) (firstFault (eventsRow ∷ []))) (lt-ltb r m k)))
+        (omega arith)
 
-    pub ends-refused : (s : ℕ) → s ≡ seek (badEnds n a b) 0 m → s < m → CheckedList n m t p a b start x y (record { code = 4; place = s; «open» = 0 })
-    ends-refused s e h = list-refused 4 s
-        (sym (rows ∙ ap (λ (k : ℕ). firstFault (endsRow k ∷ others)) (sym e) ∙ ap (λ (c : Bool). cond c (4, s) (firstFault others)) (lt-ltb s m h))) (omega arith)
-      where
-        others : List Row
-        others = startRow (seek (badStart start) 0 m) ∷ eventsRow ∷ []
+    module _ (k : m ≤ seek (badStart start) 0 m) where
+      events-fault : eventsFault n m (atStart start) (pairs x y) t ≡ firstFault (listFaults l)
+      unfolding eventsFault faultOf faultAt given openBefore
+      events-fault =
+          sym (ends-passed ∙ ap (λ (c : Bool). cond c (11, seek (badStart start) 0 m) (firstFault (eventsRow ∷ []))) (le-ltb _ m k))
 
-    module _ (h : m ≤ seek (badEnds n a b) 0 m) where
-      ends-passed : firstFault (shareFaults p ++ listFaults l) ≡ firstFault (startRow (seek (badStart start) 0 m) ∷ eventsRow ∷ [])
-      ends-passed =
-          rows
-          ∙ ap (λ (c : Bool). cond c (4, seek (badEnds n a b) 0 m) (firstFault (startRow (seek (badStart start) 0 m) ∷ eventsRow ∷ [])))
-          (le-ltb _ m h)
-
-      pub start-refused : (r : ℕ) → r ≡ seek (badStart start) 0 m → r < m → CheckedList n m t p a b start x y (record { code = 11; place = r; «open» = 0 })
-      start-refused r f k = list-refused 11 r
-          (sym (ends-passed ∙ ap (λ (k : ℕ). firstFault (startRow k ∷ eventsRow ∷ [])) (sym f) ∙ ap (λ (c : Bool). cond c (11, r) (firstFault (eventsRow ∷ []))) (lt-ltb r m k)))
-          (omega arith)
-
-      module _ (k : m ≤ seek (badStart start) 0 m) where
-        events-fault : eventsFault n m (atStart (take m start)) (pairs (take t x) (take t y)) t ≡ firstFault (shareFaults p ++ listFaults l)
-        unfolding eventsFault faultOf faultAt given openBefore
-        events-fault =
-            sym (ends-passed ∙ ap (λ (c : Bool). cond c (11, seek (badStart start) 0 m) (firstFault (eventsRow ∷ []))) (le-ltb _ m k))
-
-        pub list-passed : (first : List ℕ) → isOpen first ≡ (λ d. ltb d m && eqb (getD start d 0) 1)
-            → {c i : ℕ} {held : List ℕ} → CheckedEvents n m (isOpen first) (pairs (take t x) (take t y)) t c i held
-            → CheckedList n m t p a b start x y (record { code = c; place = i; «open» = sum (bits held) })
-        list-passed first o {held = held} k =
-            let o′ : isOpen first ≡ atStart (take m start) = o ∙ start-taken m start in
-            record {
-              refusal = k .refusal ∙ ap (λ (o : SegmentSet). eventsFault n m o (pairs (take t x) (take t y)) t) o′ ∙ events-fault;
-              last = λ z. (held, k .last z ∙ ap (afterAll n (pairs (take t x) (take t y))) o′, refl);
-            }
+      pub list-passed : (first : List ℕ) → isOpen first ≡ (λ d. ltb d m && eqb (getD start d 0) 1)
+          → {c i : ℕ} {held : List ℕ} → CheckedEvents n m (isOpen first) (pairs x y) t c i held
+          → CheckedList n m t a b start x y (record { code = c; place = i; «open» = sum (bits held) })
+      list-passed first o {held = held} k =
+          let o′ : isOpen first ≡ atStart start = o ∙ start-all m start (q .start-exact) in
+          record {
+            refusal = k .refusal ∙ ap (λ (o : SegmentSet). eventsFault n m o (pairs x y) t) o′ ∙ events-fault;
+            last = λ z. (held, k .last z ∙ ap (afterAll n (pairs x y)) o′, refl);
+          }
 
 -- ---- events
 -- an event's fault is that of its kind
@@ -176,23 +203,20 @@ fault-kind n m o x y e h = h ∙ ap (faultOfKind n m o y) (sym e)
 pub record Passing (n m : ℕ) (o : SegmentSet) (t : ℕ) (x y held : List ℕ) (i : ℕ) : Type 0 where
   pub low : i ≤ t
   pub words : length held ≡ 128
-  pub held-open : isOpen held ≡ afterAll n (take i (pairs (take t x) (take t y))) o
-  pub fine : (u : ℕ) → u < i → not (eqb (faultOf n m o (pairs (take t x) (take t y)) u) 0) ≡ false
+  pub held-open : isOpen held ≡ afterAll n (take i (pairs x y)) o
+  pub fine : (u : ℕ) → u < i → not (eqb (faultOf n m o (pairs x y) u) 0) ≡ false
 
 module _ {n m : ℕ} {o : SegmentSet} {t : ℕ} {x y held : List ℕ} {i : ℕ} (p : Passing n m o t x y held i) (l : i < t)
-    (ready : (t ≤ length x) × (t ≤ length y) × (m ≤ 8192)) (r : ℕ) (e : r ≡ eventFault n m (isOpen held) (getD x i 0, getD y i 0)) where
+    (ready : (length x ≡ t) × (length y ≡ t) × (m ≤ 8192)) (r : ℕ) (e : r ≡ eventFault n m (isOpen held) (getD x i 0, getD y i 0)) where
   abbrev evs : List Event
-  evs = pairs (take t x) (take t y)
+  evs = pairs x y
 
-  abbrev lx : t ≤ length x
-  lx = ready .0
-
-  abbrev ly : t ≤ length y
-  ly = ready .1
+  event-is : getD evs i (0, 0) ≡ (getD x i 0, getD y i 0)
+  event-is = pairs-at x y i (omega (arith, ready .0)) (omega (arith, ready .1))
 
   fault-is : r ≡ faultOf n m o evs i
   unfolding faultOf
-  fault-is = e ∙ ap₂ (λ (o : ℕ → Bool) (v : Event). eventFault n m o v) (p .held-open) (sym (getD-pairs t x y i lx ly l))
+  fault-is = e ∙ ap₂ (λ (o : ℕ → Bool) (v : Event). eventFault n m o v) (p .held-open) (sym event-is)
 
   pub event-refused : 0 < r → CheckedEvents n m o evs t r i held
   unfolding eventsFault
@@ -215,20 +239,20 @@ module _ {n m : ℕ} {o : SegmentSet} {t : ℕ} {x y held : List ℕ} {i : ℕ} 
         low = omega arith;
         words = k;
         held-open =
-            q ∙ ap₂ (λ (v : Event) (w : SegmentSet). after n v w) (sym (getD-pairs t x y i lx ly l)) (p .held-open) ∙ after-append n (take i evs) (getD evs i (0, 0) ∷ []) o
-            ∙ ap (λ (l : List Event). afterAll n l o) (sym (ap (λ k. take k evs) (add-one i) ∙ take-suc evs i (0, 0) (omega (arith, length-pairs t x y lx ly))));
+            q ∙ ap₂ (λ (v : Event) (w : SegmentSet). after n v w) (sym event-is) (p .held-open) ∙ after-append n (take i evs) (getD evs i (0, 0) ∷ []) o
+            ∙ ap (λ (l : List Event). afterAll n l o) (sym (ap (λ k. take k evs) (add-one i) ∙ take-suc evs i (0, 0) (omega (arith, pairs-both x y (ready .0) (ready .1)))));
         fine = below-next (λ u. not (eqb (faultOf n m o evs u) 0)) i (p .fine) (ap not (eq-eqb (faultOf n m o evs i) 0 (sym fault-is ∙ z)));
       }
 
-pub events-pass : {n m : ℕ} {o : SegmentSet} {t : ℕ} {x y held : List ℕ} {i : ℕ} → Passing n m o t x y held i → i ≡ t → t ≤ length x → t ≤ length y
-    → CheckedEvents n m o (pairs (take t x) (take t y)) t 0 0 held
+pub events-pass : {n m : ℕ} {o : SegmentSet} {t : ℕ} {x y held : List ℕ} {i : ℕ} → Passing n m o t x y held i → i ≡ t → length x ≡ t → length y ≡ t
+    → CheckedEvents n m o (pairs x y) t 0 0 held
 unfolding eventsFault
 events-pass {n} {m} {o} {t} {x} {y} {held} {i} p q lx ly =
-    let evs = pairs (take t x) (take t y) in
+    let evs = pairs x y in
     let s : i ≡ seek (λ i. not (eqb (faultOf n m o evs i) 0)) 0 t = q ∙ sym (seek-end (λ i. not (eqb (faultOf n m o evs i) 0)) 0 t (λ u _ k. p .fine u (omega arith)) ∙ omega arith) in
     record {
       refusal = sym (ap (λ (k : ℕ). cond (ltb k t) (faultOf n m o evs k, k) (0, 0)) (sym s) ∙ ap (λ (c : Bool). cond c (faultOf n m o evs i, i) (0, 0)) (le-ltb i t (omega arith)));
-      last = λ _. p .held-open ∙ ap (λ (k : List Event). afterAll n k o) (take-all i evs (omega (arith, length-pairs t x y lx ly)));
+      last = λ _. p .held-open ∙ ap (λ (k : List Event). afterAll n k o) (take-all i evs (omega (arith, pairs-both x y lx ly)));
     }
 
 pub passing-none : (n m t : ℕ) (x y held : List ℕ) → length held ≡ 128 → Passing n m (isOpen held) t x y held 0

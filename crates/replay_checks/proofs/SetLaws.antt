@@ -6,14 +6,13 @@ use mathlib.Core.Bool.{Bool, _&&_, cond, false, true}
 use mathlib.Core.List.{List, [], _++_, _∷_}
 use mathlib.Core.Path.{_∙_, _≡_, ap, ap₂, fun-ext, refl, sym}
 use lib.Dec.{eqb, ltb}
-use lib.ListN.{List·getD-eq-default, getD, length, length-take, set, take}
-use lib.Seq.{getD-take}
+use lib.ListN.{List·getD-eq-default, getD, length, set}
 use native.Mathlib.Numerals.{add-one}
 use native.Mathlib.Omega.{arith}
 use borrow.Author.Tests.{eqb-true, ltb-false, ltb-true}
 use Rattle.call_open_set.proofs.OpenSetLaws.{stored}
 use Rattle.call_open_set.specs.OpenSet.{bits, digits, isOpen}
-use Rattle.theory_graph.proofs.Booleans.{and-elim, onBool}
+use Rattle.theory_graph.proofs.Booleans.{and-elim, contradict, onBool}
 use Rattle.theory_graph.specs.Lists.{sum}
 use Rattle.theory_timeline.proofs.Acceptance.{sound-fine}
 use Rattle.theory_timeline.proofs.Counting.{count, count-cons, count-split}
@@ -35,17 +34,20 @@ pub event-stays : (n : ℕ) (held : List ℕ) (e : Event) → changes n e ≡ fa
 event-stays n held e c = fun-ext (λ k. sym (ap (λ c. cond (c && eqb k (e .1)) (opens n e) (isOpen held k)) c))
 
 -- ---- at the start
--- a starting table counts as far as its first m entries
-pub start-taken : (m : ℕ) (start : List ℕ) → (λ s. ltb s m && eqb (getD start s 0) 1) ≡ atStart (take m start)
-start-taken m start = fun-ext (λ s. onBool (ltb s m)
-    (λ t. ap (λ b. b && eqb (getD start s 0) 1) t ∙ sym (ap (λ j. eqb j 1) (getD-take m start s 0 (ltb-true s m t))))
-    (λ t.
-    let past : length (take m start) ≤ s = omega (arith, ltb-false s m t, length-take m start) in
-    ap (λ b. b && eqb (getD start s 0) 1) t ∙ sym (ap (λ j. eqb j 1) (List·getD-eq-default (take m start) 0 past))))
+-- a starting table opens nothing past its end
+start-past : (start : List ℕ) (s : ℕ) → length start ≤ s → atStart start s ≡ false
+start-past start s l = ap (λ j. eqb j 1) (List·getD-eq-default start 0 l)
 
-pub start-below : (m : ℕ) (start : List ℕ) (s : ℕ) → atStart (take m start) s ≡ true → s < m
-start-below m start s h =
-    and-elim (ltb s m) (eqb (getD start s 0) 1) (ap (λ (o : ℕ → Bool). o s) (start-taken m start) ∙ h) λ t _. ltb-true s m t
+-- so its first m entries are all that count where it has m
+pub start-all : (m : ℕ) (start : List ℕ) → length start ≡ m → (λ s. ltb s m && eqb (getD start s 0) 1) ≡ atStart start
+start-all m start e = fun-ext (λ s. onBool (ltb s m)
+    (λ t. ap (λ b. b && atStart start s) t)
+    (λ t. ap (λ b. b && atStart start s) t ∙ sym (start-past start s (omega (arith, ltb-false s m t)))))
+
+pub start-below : (start : List ℕ) (s : ℕ) → atStart start s ≡ true → s < length start
+start-below start s h = onBool (ltb s (length start))
+    (λ t. ltb-true s (length start) t)
+    (λ t. contradict h (start-past start s (ltb-false s (length start) t)))
 
 -- ---- how many
 -- nothing from a on: a longer range counts no more

@@ -6,11 +6,11 @@ use mathlib.Core.Path.{_≡_}
 use lib.Dec.{eqb, ltb}
 use lib.ListN.{getD, length, take}
 use Rattle.call_open_set.specs.OpenSet.{bits, isOpen}
-use Rattle.call_sizes.specs.Refusal.{Refusal, firstFault, seek}
+use Rattle.call_sizes.specs.Refusal.{Refusal, Row, firstFault, seek}
 use Rattle.theory_graph.specs.Lists.{pairs, sum}
 use Rattle.theory_timeline.specs.Call.{lent}
 use Rattle.theory_timeline.specs.Events.{Event, SegmentSet, afterAll}
-use Rattle.theory_timeline.specs.Replay.{Faultless, Lent, eventFault, fault, given, listFaults, openAtEnd, shareFaults}
+use Rattle.theory_timeline.specs.Replay.{Faultless, Lent, eventFault, fault, given, listFaults, longTables, openAtEnd, shareFaults, shortTables}
 use Rattle.theory_timeline.specs.Windows.{atStart}
 use Rattle.replay_checks.specs.declared.Checked.{Checked}
 
@@ -38,26 +38,29 @@ pub record CheckedEvents (n m : ℕ) (o : SegmentSet) (evs : List Event) (t code
   pub last : code ≡ 0 → isOpen held ≡ afterAll n evs o
 
 -- ---- a whole input
+-- refusals 2, 12 and 3
+abbrev pub boundFaults : Lent → ℕ → List Row
+boundFaults l p = shortTables l ++ longTables l ++ shareFaults p
+
 -- what is known where neither a size nor a length is refused
 pub record CanCheckList (n m t : ℕ) (a b start x y : List ℕ) : Type 0 where
   pub n-fits : n ≤ 4096
   pub m-fits : m ≤ 8192
   pub t-fits : t ≤ 4096
-  pub a-long : m ≤ length a
-  pub b-long : m ≤ length b
-  pub start-long : m ≤ length start
-  pub x-long : t ≤ length x
-  pub y-long : t ≤ length y
+  pub a-exact : length a ≡ m
+  pub b-exact : length b ≡ m
+  pub start-exact : length start ≡ m
+  pub x-exact : length x ≡ t
+  pub y-exact : length y ≡ t
 
 -- the tables that are read, which answers, names and work play no part in
 abbrev pub tablesOf : ℕ → ℕ → ℕ → List ℕ → List ℕ → List ℕ → List ℕ → List ℕ → Lent
 tablesOf n m t a b start x y = lent n m t a b start x y [] [] []
 
--- the first fault of the share, the ends, the starting table and the events; where there is none, the ones of the set that is open at the end
-pub record CheckedList (n m t p : ℕ) (a b start x y : List ℕ) (r : Checked) : Type 0 where
-  pub refusal : (r .code, r .place) ≡ firstFault (shareFaults p ++ listFaults (tablesOf n m t a b start x y))
-  pub last : r .code ≡ 0
-      → (held : List ℕ) × (isOpen held ≡ afterAll n (pairs (take t x) (take t y)) (atStart (take m start))) × (r .«open» ≡ sum (bits held))
+-- the first fault of the ends, the starting table and the events; where there is none, the ones of the set that is open at the end
+pub record CheckedList (n m t : ℕ) (a b start x y : List ℕ) (r : Checked) : Type 0 where
+  pub refusal : (r .code, r .place) ≡ firstFault (listFaults (tablesOf n m t a b start x y))
+  pub last : r .code ≡ 0 → (held : List ℕ) × (isOpen held ≡ afterAll n (pairs x y) (atStart start)) × (r .«open» ≡ sum (bits held))
 
 -- the first fault; where there is none, how many segments are open at the end
 pub record CheckedTables (l : Lent) (p : ℕ) (r : Checked) : Type 0 where

@@ -5,13 +5,13 @@ ghost use mathlib.Core.Bool.{cond};
 ghost use mathlib.Core.Path.{_≡_};
 ghost use Prim.Native.Nat.{_≤_};
 ghost use lib.Dec.{ltb};
-ghost use lib.ListN.{length, take};
+ghost use lib.ListN.{length};
 ghost use Rattle.theory_graph.specs.Lists.{pairs};
 ghost use Rattle.call_open_set.specs.OpenSet.{isOpen};
 ghost use Rattle.call_sizes.specs.Refusal.{firstFault};
 ghost use Rattle.theory_timeline.specs.Call.{lent};
-ghost use Rattle.theory_timeline.specs.Replay.{eventFault, required, shortTables};
-ghost use Rattle.replay_checks.specs.Check.{CanCheckList, CheckedEvents, CheckedList, CheckedTables};
+ghost use Rattle.theory_timeline.specs.Replay.{eventFault, required};
+ghost use Rattle.replay_checks.specs.Check.{CanCheckList, CheckedEvents, CheckedList, CheckedTables, boundFaults};
 
 // Internal: the first fault of a replay's input, its number and its place; where there is none, 0, 0 and how many segments are open at the end.
 pub struct Checked {
@@ -82,8 +82,8 @@ fn event_fault(n: usize, m: usize, held: &[u64; 128], x: u16, y: usize) -> usize
 
 // The first fault of the t events, where the segments of `first` are open before them: the open set is handed on from event to event.
 fn check_events(n: usize, m: usize, t: usize, x: &[u16], y: &[u16], first: [u64; 128]) -> Held
-    requires { ⌜ (t ≤ length (now x)) × (t ≤ length (now y)) × (m ≤ 8192) ⌝ }
-    ensures { λ r. ⌜ CheckedEvents n m (isOpen first) (pairs (take t (now (x .entry))) (take t (now (y .entry)))) t (r .code) (r .place) (r .held) ⌝ }
+    requires { ⌜ (length (now x) ≡ t) × (length (now y) ≡ t) × (m ≤ 8192) ⌝ }
+    ensures { λ r. ⌜ CheckedEvents n m (isOpen first) (pairs (now (x .entry)) (now (y .entry))) t (r .code) (r .place) (r .held) ⌝ }
 {
     let mut held = first;
     let mut i: usize = 0;
@@ -127,11 +127,12 @@ pub fn required(t: usize, n: usize, m: usize) -> usize
     256 * t + 32 * n + 8 * m + 2048
 }
 
-// Refusal 2: a table shorter than its least length.
-fn length_fault(
+// Refusals 2, 12 and 3, in this order: a table shorter than its least length, one that is only read longer than its size, the share below 4 or above 12.
+fn bounds_fault(
     n: usize,
     m: usize,
     t: usize,
+    p: usize,
     a: &[u16],
     b: &[u16],
     start: &[u16],
@@ -142,10 +143,11 @@ fn length_fault(
     work: &[u32],
 ) -> Fault
     requires { ⌜ (n ≤ 4096) × (m ≤ 8192) × (t ≤ 4096) ⌝ }
-    ensures { λ r. ⌜ (r .code, r .place) ≡ firstFault (shortTables (lent n m t (now (a .entry)) (now (b .entry)) (now (start .entry)) (now (x .entry))
-        (now (y .entry)) (now (answers .entry)) (now (names .entry)) (now (work .entry)))) ⌝ }
+    ensures { λ r. ⌜ (r .code, r .place) ≡ firstFault (boundFaults (lent n m t (now (a .entry)) (now (b .entry)) (now (start .entry)) (now (x .entry))
+        (now (y .entry)) (now (answers .entry)) (now (names .entry)) (now (work .entry))) p) ⌝ }
 {
-    let tables = [
+    // Two by two: the first number must not be below the second.
+    let least = [
         a.len(),
         m,
         b.len(),
@@ -163,15 +165,35 @@ fn length_fault(
         work.len(),
         required(t, n, m),
     ];
-    call_sizes::length_fault(&tables)
+    let most = [
+        m,
+        a.len(),
+        m,
+        b.len(),
+        m,
+        start.len(),
+        t,
+        x.len(),
+        t,
+        y.len(),
+    ];
+    let share = [p, 4, 12, p];
+    let short = call_sizes::below_fault(2, &least);
+    if short.code > 0 {
+        return short;
+    }
+    let long = call_sizes::below_fault(12, &most);
+    if long.code > 0 {
+        return long;
+    }
+    call_sizes::below_fault(3, &share)
 }
 
-// The faults behind those of the sizes and of the lengths.
+// The faults behind those: of the ends, the starting table and the events.
 fn check_list(
     n: usize,
     m: usize,
     t: usize,
-    p: usize,
     a: &[u16],
     b: &[u16],
     start: &[u16],
@@ -179,22 +201,8 @@ fn check_list(
     y: &[u16],
 ) -> Checked
     requires { ⌜ CanCheckList n m t (now a) (now b) (now start) (now x) (now y) ⌝ }
-    ensures { λ r. ⌜ CheckedList n m t p (now (a .entry)) (now (b .entry)) (now (start .entry)) (now (x .entry)) (now (y .entry)) r ⌝ }
+    ensures { λ r. ⌜ CheckedList n m t (now (a .entry)) (now (b .entry)) (now (start .entry)) (now (x .entry)) (now (y .entry)) r ⌝ }
 {
-    if p < 4 {
-        return Checked {
-            code: 3,
-            place: 0,
-            open: 0,
-        };
-    }
-    if 12 < p {
-        return Checked {
-            code: 3,
-            place: 0,
-            open: 0,
-        };
-    }
     let s = call_sizes::first_bad_ends(n, m, a, b);
     if s < m {
         return Checked {
@@ -248,7 +256,7 @@ pub fn check(
             open: 0,
         };
     }
-    let s = length_fault(n, m, t, a, b, start, x, y, answers, names, work);
+    let s = bounds_fault(n, m, t, p, a, b, start, x, y, answers, names, work);
     if s.code > 0 {
         return Checked {
             code: s.code,
@@ -256,5 +264,5 @@ pub fn check(
             open: 0,
         };
     }
-    check_list(n, m, t, p, a, b, start, x, y)
+    check_list(n, m, t, a, b, start, x, y)
 }

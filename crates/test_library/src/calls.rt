@@ -21,7 +21,7 @@ pub type Bytes = [u8; 4104];
 // The names that a replay is lent, and some behind them.
 pub type Names = [u16; 4104];
 
-// Tables are longer than they have to be.
+// Tables are longer than they have to be: all of a contraction, and those that a replay writes.
 pub const LONGER: usize = 11;
 
 // Internal: the length of a table that is lent: the least; one less where it is the table that is short; three more where all are longer.

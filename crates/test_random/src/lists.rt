@@ -219,12 +219,20 @@ pub fn small(l: &mut List, s: usize) {
     }
 }
 
-// Internal: which table of the small list s is one entry short: of some of the lists with a fault one, else all are longer.
+// Internal: which table of the small list s is one entry short: of some of the lists with a fault one, else those that are written are longer.
 pub fn short(s: usize) -> usize {
     if (s % 3 == 2) & (random::at(s, 20, 0, 8) == 0) {
         return 1 + random::at(s, 21, 0, 8) % 8;
     }
     calls::LONGER
+}
+
+// Internal: which table of it is one entry longer than its size: of some of the lists with a fault one of the five that are only read, else none.
+pub fn long(s: usize) -> usize {
+    if (s % 3 == 2) & (random::at(s, 27, 0, 8) == 0) {
+        return 1 + random::at(s, 28, 0, 5) % 5;
+    }
+    0
 }
 
 // How many roads the m segments of the large list s go along: in every second list a third of m, else each along its own.

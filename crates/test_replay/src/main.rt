@@ -5,6 +5,7 @@ mod vectors;
 mod windows;
 
 use test_library::calls::LONGER;
+use test_library::calls::Lengths;
 use test_library::lists::List;
 use test_library::tables::Table;
 use test_random::lists as random_lists;
@@ -14,17 +15,16 @@ use test_replay_calls::limits;
 use test_slow_replay::replay;
 use test_slow_replay::totals;
 
-// Runs the call and the slow replay on a list of which one table may be short. Places is not 0 where it is on a ring.
+// Runs the call and the slow replay on a list whose tables have these lengths. Places is not 0 where it is on a ring.
 pub(crate) fn run(
     t: &mut Table,
     l: &List,
-    short: usize,
+    lengths: Lengths,
     places: usize,
     most: usize,
     planted: usize,
     work: &mut Work,
 ) {
-    let lengths = calls::lengths(l, short);
     let mut want = [0u16; 40968];
     let w = replay::reply(&mut want, l, lengths, places);
     let mut answers = [7u8; 4104];
@@ -39,7 +39,8 @@ fn run_small(t: &mut Table, work: &mut Work) {
     for s in 0..60000 {
         let mut l = [65000u16; 40968];
         random_lists::small(&mut l, s);
-        run(t, &l, random_lists::short(s), 0, 12, 0, work);
+        let lengths = calls::lengths(&l, random_lists::short(s), random_lists::long(s));
+        run(t, &l, lengths, 0, 12, 0, work);
     }
 }
 
@@ -47,7 +48,7 @@ fn run_large(t: &mut Table, work: &mut Work) {
     for s in 0..36 {
         let mut l = [65000u16; 40968];
         random_lists::large(&mut l, s);
-        run(t, &l, LONGER, 0, 512, 0, work);
+        run(t, &l, calls::lengths(&l, LONGER, 0), 0, 512, 0, work);
     }
 }
 
@@ -55,7 +56,7 @@ fn run_rings(t: &mut Table, work: &mut Work) {
     for i in 0..10 {
         let mut l = [65000u16; 40968];
         let places = random_lists::ring(&mut l, i);
-        run(t, &l, LONGER, places, 4096, 64, work);
+        run(t, &l, calls::lengths(&l, LONGER, 0), places, 4096, 64, work);
     }
 }
 

@@ -53,7 +53,7 @@ fn run(t: &mut Table, l: &List, first: usize, n: usize, work: &mut Work)
 {
     let mut part = [65000u16; 40968];
     cut(&mut part, l, first, n);
-    crate::run(t, &part, LONGER, 0, 12, 0, work);
+    crate::run(t, &part, calls::lengths(&part, LONGER, 0), 0, 12, 0, work);
     let c = replay::first_part(n, lists::size(l, lists::Y));
     if n > c {
         run(t, l, first, c, work);
@@ -64,7 +64,7 @@ fn run(t: &mut Table, l: &List, first: usize, n: usize, work: &mut Work)
 // Replays the windows of a list that is accepted.
 fn run_accepted(t: &mut Table, l: &List, work: &mut Work) {
     let mut want = [0u16; 40968];
-    let w = replay::reply(&mut want, l, calls::lengths(l, LONGER), 0);
+    let w = replay::reply(&mut want, l, calls::lengths(l, LONGER, 0), 0);
     let n = lists::size(l, lists::X);
     if (w[0] == 0) & (n > 0) {
         run(t, l, 0, n % 65536, work);

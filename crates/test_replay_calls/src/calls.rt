@@ -22,17 +22,24 @@ fn plain(r: ReplayReply) -> Reply {
     }
 }
 
-// Internal: the least lengths of the tables, or one of them one entry short: 1 to 8, or all of them longer.
-pub fn lengths(l: &List, short: usize) -> Lengths {
+// The length of a table that is only read: its size, one entry less where it is the table that is short, one more where it is the one that is longer.
+fn exact(size: usize, table: usize, short: usize, long: usize) -> usize {
+    let most = counts::plus(size, (table == long) as usize);
+    counts::minus(most, (table == short) as usize)
+}
+
+// Internal: the sizes of the tables that are only read and the least lengths of the others; one of them one entry short, 1 to 8, or those that are written
+// longer; and one of those that are only read one entry longer, 1 to 5.
+pub fn lengths(l: &List, short: usize, long: usize) -> Lengths {
     let m = lists::size(l, lists::B);
     let t = lists::size(l, lists::X);
     let words = replay::required(lists::size(l, lists::A), m, t);
     [
-        calls::length(m, 1, short),
-        calls::length(m, 2, short),
-        calls::length(m, 3, short),
-        calls::length(t, 4, short),
-        calls::length(t, 5, short),
+        exact(m, 1, short, long),
+        exact(m, 2, short, long),
+        exact(m, 3, short, long),
+        exact(t, 4, short, long),
+        exact(t, 5, short, long),
         calls::length(t, 6, short),
         calls::length(t, 7, short),
         calls::length(words, 8, short),

@@ -1,4 +1,5 @@
-// Document 01's cases that are run and not proved, those of the starting table, sizes of one more, tables of one entry less, and the order of the refusals.
+// Document 01's cases that are run and not proved, those of the starting table, sizes of one more, tables of one entry less and of one more, and the order of
+// the refusals.
 use crate::calls::Work;
 use test_library::calls;
 use test_library::calls::Reply;
@@ -15,13 +16,13 @@ fn reply(c: Case, work: &mut Work) -> Reply {
     cases::make(&mut l, c);
     let mut answers = [7u8; 4104];
     let mut names = [7u16; 4104];
-    let lengths = crate::calls::lengths(&l, c[4]);
+    let lengths = crate::calls::lengths(&l, c[4], c[11]);
     crate::calls::run(&l, lengths, &l, &mut answers, &mut names, work)
 }
 
 // Puts the number and the place of each case.
 fn put_cases(t: &mut Table, work: &mut Work) {
-    for i in 0..26 {
+    for i in 0..27 {
         let r = reply(cases::case(i), work);
         tables::put(t, i * 2, calls::code(r));
         tables::put(t, i * 2 + 1, r[1]);
@@ -32,7 +33,7 @@ fn put_cases(t: &mut Table, work: &mut Work) {
 fn short_refused(work: &mut Work) -> usize {
     let mut count: usize = 0;
     for i in 1..9 {
-        let r = reply([3, 2, 2, 8, i, 1, 1, 0, 65535, 0, 0], work);
+        let r = reply([3, 2, 2, 8, i, 1, 1, 0, 65535, 0, 0, 0], work);
         count = counts::counted(count, calls::code(r) == 2);
     }
     count
@@ -44,12 +45,41 @@ fn first_counts(first: Fault, second: Fault, work: &mut Work) -> bool {
     (calls::code(r) == first[2]) & (r[1] == first[3])
 }
 
-// How many pairs of the eight faults are refused by the first.
+// How many pairs of the nine faults are refused by the first.
 fn pairs_refused(work: &mut Work) -> usize {
     let mut count: usize = 0;
-    for i in 0..64 {
-        if i / 8 < i % 8 {
-            let right = first_counts(cases::fault(i / 8), cases::fault(i % 8), work);
+    for i in 0..81 {
+        if i / 9 < i % 9 {
+            let right = first_counts(cases::fault(i / 9), cases::fault(i % 9), work);
+            count = counts::counted(count, right);
+        }
+    }
+    count
+}
+
+// Whether a table that is one entry longer, beside fault i, is refused by the first of the two; alone where i is 2.
+fn long_counts(table: usize, i: usize, work: &mut Work) -> bool {
+    if i < 2 {
+        return first_counts(cases::fault(i), cases::long(table), work);
+    }
+    first_counts(cases::long(table), cases::fault(i), work)
+}
+
+// How many of the five tables that are only read, each one entry longer, alone and beside each other fault, are refused by the first.
+fn long_refused(work: &mut Work) -> usize {
+    let mut count: usize = 0;
+    for i in 0..45 {
+        count = counts::counted(count, long_counts(i / 9 + 1, i % 9, work));
+    }
+    count
+}
+
+// How many pairs of a table one entry short and another one entry longer are refused by 2.
+fn uneven_refused(work: &mut Work) -> usize {
+    let mut count: usize = 0;
+    for i in 0..40 {
+        if i / 5 != i % 5 {
+            let right = first_counts(cases::short(i / 5 + 1), cases::long(i % 5 + 1), work);
             count = counts::counted(count, right);
         }
     }
@@ -81,8 +111,9 @@ share 4, reply: # at #\n\
 share 12, reply: # at #\n\
 share 13, reply: # at #\n\
 least lengths, reply: # at #\n\
-faults of size, length, share, end, start and event at once, reply: # at #\n\
-of length, share, end, start and event: # at #\n\
+faults of size, short table, long table, share, end, start and event at once, reply: # at #\n\
+of short table, long table, share, end, start and event: # at #\n\
+of long table, share, end, start and event: # at #\n\
 of share, end, start and event: # at #\n\
 of end, start and event: # at #\n\
 of start and event: # at #\n\
@@ -95,9 +126,11 @@ of event: # at #\n\
 // Internal: runs the cases, and prints their replies and counts.
 pub fn report(work: &mut Work) {
     report_cases(work);
-    let r = reply([4096, 8192, 0, 8, 0, 1, 1, 0, 0, 0, 0], work);
+    let r = reply([4096, 8192, 0, 8, 0, 1, 1, 0, 0, 0, 0, 0], work);
     let short = short_refused(work);
     let pairs = pairs_refused(work);
+    let long = long_refused(work);
+    let uneven = uneven_refused(work);
     let mut t = [0u32; 512];
     print::add(
         &mut t,
@@ -109,8 +142,8 @@ pub fn report(work: &mut Work) {
             r[4],
             short,
             pairs,
-            0,
-            0,
+            long,
+            uneven,
             0,
             0,
             0,
@@ -124,7 +157,9 @@ pub fn report(work: &mut Work) {
         b"\
 no event and all but one segment open at the start, reply: # at #, returned: # # #\n\
 of 8 tables one entry short, refused by 2 with all entries kept: #\n\
-of 28 pairs of faults, refused by the first, at its place, with all entries kept: #\n\
+of 36 pairs of faults, refused by the first, at its place, with all entries kept: #\n\
+of 5 tables one entry longer, alone and beside 8 other faults, refused by the first so: #\n\
+of 35 pairs of a table one entry short and another one entry longer, refused by 2 so: #\n\
 ",
         &t,
     );

@@ -281,6 +281,14 @@ fn is_short(l: &List, lengths: Lengths) -> bool {
     network | events | (lengths[7] < required(lists::size(l, lists::A), m, t))
 }
 
+// Whether a table that is only read is longer than its size.
+fn is_long(l: &List, lengths: Lengths) -> bool {
+    let m = lists::size(l, lists::B);
+    let t = lists::size(l, lists::X);
+    let network = (lengths[0] > m) | (lengths[1] > m) | (lengths[2] > m);
+    network | (lengths[3] > t) | (lengths[4] > t)
+}
+
 // The number by which the sizes, a length or the share are refused, or 0.
 fn frame_fault(l: &List, lengths: Lengths) -> usize {
     let n = lists::size(l, lists::A);
@@ -290,6 +298,9 @@ fn frame_fault(l: &List, lengths: Lengths) -> usize {
     }
     if is_short(l, lengths) {
         return 2;
+    }
+    if is_long(l, lengths) {
+        return 12;
     }
     if (p < 4) | (p > 12) {
         return 3;

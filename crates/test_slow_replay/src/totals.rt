@@ -33,15 +33,15 @@ fn changes_beside(l: &List, x: usize) -> bool {
     false
 }
 
-// Counts event i, which has the answer 1, from 26 on: where its answer would be 2 if each segment were a road; where its name is that of a closed segment; and
+// Counts event i, which has the answer 1, from 27 on: where its answer would be 2 if each segment were a road; where its name is that of a closed segment; and
 // where the loss of more than one road parts its junctions.
 fn add_one(t: &mut Table, l: &List, open: &Marks, want: &List, i: usize) {
     let x = lists::at(l, lists::X, i);
     let y = lists::at(l, lists::Y, i);
     let closed = !tables::marked(open, lists::at(want, lists::NAMES, i));
-    raise(t, 26, (graphs::answer(l, open, x, y) == 2) as usize);
-    raise(t, 27, closed as usize);
-    raise(t, 28, (replay::parting_roads(l, open, i) > 1) as usize);
+    raise(t, 27, (graphs::answer(l, open, x, y) == 2) as usize);
+    raise(t, 28, closed as usize);
+    raise(t, 29, (replay::parting_roads(l, open, i) > 1) as usize);
 }
 
 // Counts the events with the answer 1.
@@ -57,21 +57,29 @@ fn add_ones(t: &mut Table, l: &List, want: &List) {
     }
 }
 
-// Counts an accepted list by its roads, from 22 on: lists with a road of two or more segments, with one that is drawn in both orders, in which a segment opens
+// Counts an accepted list by its roads, from 23 on: lists with a road of two or more segments, with one that is drawn in both orders, in which a segment opens
 // while another one of its road is open, and in which one closes so; and, but for rings, the answers 1.
 fn add_roads(t: &mut Table, l: &List, want: &List, places: usize) {
-    raise(t, 22, roads::any_copy(l, false) as usize);
-    raise(t, 23, roads::any_copy(l, true) as usize);
-    raise(t, 24, changes_beside(l, replay::OPENS) as usize);
-    raise(t, 25, changes_beside(l, replay::CLOSES) as usize);
+    raise(t, 23, roads::any_copy(l, false) as usize);
+    raise(t, 24, roads::any_copy(l, true) as usize);
+    raise(t, 25, changes_beside(l, replay::OPENS) as usize);
+    raise(t, 26, changes_beside(l, replay::CLOSES) as usize);
     if places == 0 {
         add_ones(t, l, want);
     }
 }
 
+// The line of the lists that are refused by this number, or accepted where it is 0.
+fn line(code: usize) -> usize {
+    if code > 10 {
+        return counts::plus(10, code);
+    }
+    counts::plus(13, code)
+}
+
 // Internal: counts a list: all, those with the most events, those with none, all and some of their segments open at the start, those on which the call and
 // the slow replay disagree, faults that are planted and noticed, answers and kept of those that are accepted; and at 13 those that are accepted, and behind
-// it those that are refused, by their number. The replay has no refusal by 8, and 11 stands there. Places is not 0 where the list is on a ring.
+// it those that are refused, by their number. The replay has no refusal by 8, 9 and 10, and 11 and 12 follow 7. Places is not 0 where the list is on a ring.
 pub fn add(
     t: &mut Table,
     l: &List,
@@ -108,7 +116,7 @@ pub fn add(
             0,
         ],
     );
-    raise(t, counts::plus(13, counts::least(w[0], 8)), 1);
+    raise(t, line(w[0]), 1);
     if w[0] == 0 {
         add_roads(t, l, want, places);
     }
@@ -140,6 +148,7 @@ by 5: #\n\
 by 6: #\n\
 by 7: #\n\
 by 11: #\n\
+by 12: #\n\
 accepted with a road of two or more segments: #\n\
 with a road that is drawn in both orders: #\n\
 in which a segment opens while another one of its road is open: #\n\
@@ -152,9 +161,9 @@ in which a segment closes while another one of its road is open: #\n\
 // Internal: prints the counts of answers 1. On rings they are not counted.
 pub fn report_ones(t: &Table) {
     let mut r = [0u32; 512];
-    tables::put(&mut r, 0, tables::get(t, 26));
-    tables::put(&mut r, 1, tables::get(t, 27));
-    tables::put(&mut r, 2, tables::get(t, 28));
+    tables::put(&mut r, 0, tables::get(t, 27));
+    tables::put(&mut r, 1, tables::get(t, 28));
+    tables::put(&mut r, 2, tables::get(t, 29));
     print::report(
         b"\
 answers 1 that would be 2 if each segment were a road: #\n\

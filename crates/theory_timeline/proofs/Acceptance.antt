@@ -1,4 +1,4 @@
--- What acceptance gives: sizes within the limits, tables long enough, an allowed share, ends and active junctions below N, starting entries
+-- What acceptance gives: sizes within the limits, tables of their sizes or long enough, an allowed share, ends and active junctions below N, starting entries
 -- of 0 or 1, and events without a fault.
 -- In order: an event without a fault; parallel arrays as pairs; a list whose ends and active junctions are below N; an accepted replay; shares and acceptance.
 -- Assumes nothing.
@@ -13,7 +13,7 @@ use native.Mathlib.Omega.{arith}
 use borrow.Author.Tests.{eqb-false, eqb-true, le-ltb, leb-false, lt-ltb, ltb-false, ltb-true, not-false, not-true}
 use Rattle.theory_graph.proofs.Booleans.{and-elim, contradict, onBool}
 use Rattle.theory_graph.proofs.Ends.{endsIn-all, endsIn-at}
-use Rattle.theory_graph.proofs.TableLaws.{pairs-length}
+use Rattle.theory_graph.proofs.TableLaws.{pairs-at, pairs-length}
 use Rattle.theory_graph.specs.Graph.{Edge, NodeSet}
 use Rattle.theory_graph.specs.Lists.{pairs}
 use Rattle.theory_graph.specs.SmallGraph.{endsIn}
@@ -22,13 +22,14 @@ use Rattle.call_kinds.proofs.KindLaws.{closes-some, opens-some, query-junction,
 use Rattle.call_kinds.specs.Kinds.{isClosing, isOpening, isQuery, kindOf}
 use Rattle.call_kinds.specs.declared.Kind.{Kind}
 use Rattle.call_kinds.specs.declared.Kind.the-variants.{Closes, None, Opens, Query}
-use Rattle.call_sizes.proofs.RefusalLaws.{Numbered, Silent, fault-silent, numbered-append, seek-found, seek-none}
-use Rattle.call_sizes.proofs.RefusalLaws.{short-long, short-numbered, silent-left, silent-right, sizes-numbered, skip-silent}
+use Rattle.call_sizes.proofs.RefusalLaws.{Numbered, Silent, below-long, fault-silent, long-numbered, numbered-append, seek-found, seek-none}
+use Rattle.call_sizes.proofs.RefusalLaws.{short-numbered, silent-left, silent-right, sizes-numbered, skip-silent}
 use Rattle.call_sizes.specs.Refusal.{Refusal, Row, firstFault, badEnds, badStart}
 use Rattle.call_sizes.specs.Sizes.{sizeFaults}
 use Rattle.theory_timeline.specs.DemandThree.{Allowed}
 use Rattle.theory_timeline.specs.Events.{Event, SegmentSet, activeOf, asks, changes, closes, ends, opens, pick}
-use Rattle.theory_timeline.specs.Replay.{Faultless, Lent, eventFault, fault, faultAt, faultOfKind, faults, given, listFaults, required, shareFaults, shortTables, tableLengths}
+use Rattle.theory_timeline.specs.Replay.{Faultless, Lent, eventFault, fault, faultAt, faultOfKind, faults, given, listFaults, longTables, readLengths, required, shareFaults}
+use Rattle.theory_timeline.specs.Replay.{shortTables, tableLengths}
 use Rattle.theory_timeline.specs.Steps.{Sound}
 use Rattle.theory_timeline.specs.Windows.{Timeline, Window, active, asksAt, changesAt, during, event, openBefore, size}
 
@@ -103,18 +104,9 @@ pairs-most (u ∷ x) (v ∷ y) (suc i) l = omega (arith, pairs-most x y i (omega
 pub pairs-equal : (x y : List ℕ) → length y ≡ length x → length (pairs x y) ≡ length x
 pairs-equal x y e = omega (arith, pairs-length x y (length x) (omega arith) (omega arith), pairs-most x y (length x) (omega arith))
 
-pub length-pairs : (k : ℕ) (x y : List ℕ) → k ≤ length x → k ≤ length y → length (pairs (take k x) (take k y)) ≡ k
-length-pairs zero x y a b = refl
-length-pairs (suc k) [] y a b = absurd (omega arith)
-length-pairs (suc k) (u ∷ x) [] a b = absurd (omega arith)
-length-pairs (suc k) (u ∷ x) (v ∷ y) a b = ap suc (length-pairs k x y (omega arith) (omega arith))
-
-pub getD-pairs : (k : ℕ) (x y : List ℕ) (i : ℕ) → k ≤ length x → k ≤ length y → i < k → getD (pairs (take k x) (take k y)) i (0, 0) ≡ (getD x i 0, getD y i 0)
-getD-pairs zero x y i a b l = absurd (omega arith)
-getD-pairs (suc k) [] y i a b l = absurd (omega arith)
-getD-pairs (suc k) (u ∷ x) [] i a b l = absurd (omega arith)
-getD-pairs (suc k) (u ∷ x) (v ∷ y) zero a b l = refl
-getD-pairs (suc k) (u ∷ x) (v ∷ y) (suc i) a b l = getD-pairs k x y i (omega arith) (omega arith) (omega arith)
+-- of one length k
+pub pairs-both : {k : ℕ} (x y : List ℕ) → length x ≡ k → length y ≡ k → length (pairs x y) ≡ k
+pairs-both x y e f = pairs-equal x y (f ∙ sym e) ∙ e
 
 -- ---- a network and list in which all ends and active junctions are below N
 pub record Good (g : Timeline) : Type 0 where
@@ -197,11 +189,11 @@ pub record Accepted (l : Lent) (p : ℕ) : Type 0 where
   pub n-fits : l .n ≤ 4096
   pub m-fits : l .m ≤ 8192
   pub t-fits : l .t ≤ 4096
-  pub a-long : l .m ≤ length (l .a)
-  pub b-long : l .m ≤ length (l .b)
-  pub start-long : l .m ≤ length (l .start)
-  pub x-long : l .t ≤ length (l .x)
-  pub y-long : l .t ≤ length (l .y)
+  pub a-exact : length (l .a) ≡ l .m
+  pub b-exact : length (l .b) ≡ l .m
+  pub start-exact : length (l .start) ≡ l .m
+  pub x-exact : length (l .x) ≡ l .t
+  pub y-exact : length (l .y) ≡ l .t
   pub answers-long : l .t ≤ length (l .answers)
   pub names-long : l .t ≤ length (l .names)
   pub work-long : required (l .t) (l .n) (l .m) ≤ length (l .work)
@@ -220,29 +212,33 @@ list-numbered l = (λ h. omega arith, (λ h. omega arith, (λ h. positive (seek-
 faults-numbered : (l : Lent) (p : ℕ) → Numbered (faults l p)
 unfolding faults
 faults-numbered l p =
-    numbered-append (sizeFaults (l .n) (l .m) (l .t) 0) (shortTables l ++ shareFaults p ++ listFaults l) (sizes-numbered (l .n) (l .m) (l .t) 0)
-    (numbered-append (shortTables l) (shareFaults p ++ listFaults l) (short-numbered (tableLengths l))
-    (numbered-append (shareFaults p) (listFaults l) (λ h. omega arith, (λ h. omega arith, tt)) (list-numbered l)))
+    numbered-append (sizeFaults (l .n) (l .m) (l .t) 0) (shortTables l ++ longTables l ++ shareFaults p ++ listFaults l) (sizes-numbered (l .n) (l .m) (l .t) 0)
+    (numbered-append (shortTables l) (longTables l ++ shareFaults p ++ listFaults l) (short-numbered (tableLengths l))
+    (numbered-append (longTables l) (shareFaults p ++ listFaults l) (long-numbered (readLengths l))
+    (numbered-append (shareFaults p) (listFaults l) (λ h. omega arith, (λ h. omega arith, tt)) (list-numbered l))))
 
 pub accepted-from : (l : Lent) (p : ℕ) → Faultless l p → Accepted l p
 unfolding fault faults listFaults
 accepted-from l p h =
     let s = fault-silent (faults l p) (faults-numbered l p) h in
-    let a = silent-left (sizeFaults (l .n) (l .m) (l .t) 0) (shortTables l ++ shareFaults p ++ listFaults l) s in
-    let r = silent-right (sizeFaults (l .n) (l .m) (l .t) 0) (shortTables l ++ shareFaults p ++ listFaults l) s in
-    let (la, (lb, (ls, (lx, (ly, (lr, (ln, (lw, _)))))))) = short-long (tableLengths l) .0 (silent-left (shortTables l) (shareFaults p ++ listFaults l) r) in
-    let q = silent-right (shortTables l) (shareFaults p ++ listFaults l) r in
+    let a = silent-left (sizeFaults (l .n) (l .m) (l .t) 0) (shortTables l ++ longTables l ++ shareFaults p ++ listFaults l) s in
+    let r = silent-right (sizeFaults (l .n) (l .m) (l .t) 0) (shortTables l ++ longTables l ++ shareFaults p ++ listFaults l) s in
+    let least = below-long 2 (tableLengths l) .0 (silent-left (shortTables l) (longTables l ++ shareFaults p ++ listFaults l) r) in
+    let (la, (lb, (ls, (lx, (ly, (lr, (ln, (lw, _)))))))) = least in
+    let v = silent-right (shortTables l) (longTables l ++ shareFaults p ++ listFaults l) r in
+    let (ma, (mb, (ms, (mx, (my, _))))) = below-long 12 (readLengths l) .0 (silent-left (longTables l) (shareFaults p ++ listFaults l) v) in
+    let q = silent-right (longTables l) (shareFaults p ++ listFaults l) v in
     let c = silent-left (shareFaults p) (listFaults l) q in
     let e = silent-right (shareFaults p) (listFaults l) q in
     record {
       n-fits = ltb-false 4096 (l .n) (a .0);
       m-fits = ltb-false 8192 (l .m) (a .1 .0);
       t-fits = ltb-false 4096 (l .t) (a .1 .1 .0);
-      a-long = la;
-      b-long = lb;
-      start-long = ls;
-      x-long = lx;
-      y-long = ly;
+      a-exact = omega arith;
+      b-exact = omega arith;
+      start-exact = omega arith;
+      x-exact = omega arith;
+      y-exact = omega arith;
       answers-long = lr;
       names-long = ln;
       work-long = lw;
@@ -255,22 +251,19 @@ accepted-from l p h =
 module _ (l : Lent) (p : ℕ) (a : Accepted l p) where
   pub events-length : size (given l) ≡ l .t
   unfolding given
-  events-length = length-pairs (l .t) (l .x) (l .y) (a .x-long) (a .y-long)
+  events-length = pairs-both (l .x) (l .y) (a .x-exact) (a .y-exact)
 
   pub segments-length : length ((given l) .segments) ≡ l .m
   unfolding given
-  segments-length = length-pairs (l .m) (l .a) (l .b) (a .a-long) (a .b-long)
+  segments-length = pairs-both (l .a) (l .b) (a .a-exact) (a .b-exact)
 
   pub accepted-ends : endsIn (λ v. ltb v (l .n)) ((given l) .segments) ≡ true
   unfolding given
-  accepted-ends = endsIn-all (λ v. ltb v (l .n)) (pairs (take (l .m) (l .a)) (take (l .m) (l .b))) λ k j.
-      let i : k < l .m = omega (arith, segments-length′) in
-      ap (λ (e : Edge). ltb (e .0) (l .n) && ltb (e .1) (l .n)) (getD-pairs (l .m) (l .a) (l .b) k (a .a-long) (a .b-long) i)
+  accepted-ends = endsIn-all (λ v. ltb v (l .n)) (pairs (l .a) (l .b)) λ k j.
+      let i : k < l .m = omega (arith, pairs-both (l .a) (l .b) (a .a-exact) (a .b-exact)) in
+      ap (λ (e : Edge). ltb (e .0) (l .n) && ltb (e .1) (l .n)) (pairs-at (l .a) (l .b) k (omega (arith, a .a-exact)) (omega (arith, a .b-exact)))
       ∙ both (getD (l .a) k 0) (getD (l .b) k 0) (a .ends-fit k i)
     where
-      segments-length′ : length (pairs (take (l .m) (l .a)) (take (l .m) (l .b))) ≡ l .m
-      segments-length′ = length-pairs (l .m) (l .a) (l .b) (a .a-long) (a .b-long)
-
       both : (x y : ℕ) → (leb (l .n) x || leb (l .n) y) ≡ false → (ltb x (l .n) && ltb y (l .n)) ≡ true
       both x y h = onBool (leb (l .n) x) (λ t. contradict (ap (λ (b : Bool). b || leb (l .n) y) t) h) λ f.
           let g : leb (l .n) y ≡ false = sym (ap (λ (b : Bool). b || leb (l .n) y) f) ∙ h in
@@ -305,6 +298,8 @@ first-append (r ∷ rs) bs cs h = ap (λ (f : Refusal). cond (r .test) (r .code,
 pub fault-share : (l : Lent) (p q : ℕ) → Allowed p → Allowed q → fault l p ≡ fault l q
 unfolding fault faults
 fault-share l p q a b =
-    first-append (sizeFaults (l .n) (l .m) (l .t) 0) (shortTables l ++ shareFaults p ++ listFaults l) (shortTables l ++ shareFaults q ++ listFaults l)
-    (first-append (shortTables l) (shareFaults p ++ listFaults l) (shareFaults q ++ listFaults l)
-    (skip-silent (shareFaults p) (listFaults l) (share-silent p a) ∙ sym (skip-silent (shareFaults q) (listFaults l) (share-silent q b))))
+    first-append (sizeFaults (l .n) (l .m) (l .t) 0) (shortTables l ++ longTables l ++ shareFaults p ++ listFaults l)
+    (shortTables l ++ longTables l ++ shareFaults q ++ listFaults l)
+    (first-append (shortTables l) (longTables l ++ shareFaults p ++ listFaults l) (longTables l ++ shareFaults q ++ listFaults l)
+    (first-append (longTables l) (shareFaults p ++ listFaults l) (shareFaults q ++ listFaults l)
+    (skip-silent (shareFaults p) (listFaults l) (share-silent p a) ∙ sym (skip-silent (shareFaults q) (listFaults l) (share-silent q b)))))

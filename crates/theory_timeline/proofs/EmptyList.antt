@@ -3,7 +3,7 @@
 use Prim.Native.Nat.{ℕ}
 use mathlib.Core.List.{List, map}
 use mathlib.Core.Path.{_∙_, _≡_, ap, refl}
-use lib.ListN.{length, take}
+use lib.ListN.{length}
 use Rattle.theory_graph.specs.Lists.{filter, range, sum}
 use Rattle.theory_timeline.proofs.Acceptance.{events-length, segments-length}
 use Rattle.theory_timeline.proofs.DemandThree.{replay-done}
@@ -24,12 +24,12 @@ none-kept : (g : Timeline) (p : ℕ) → size g ≡ 0 → kept g p ≡ 0
 unfolding kept
 none-kept g p e = ap (λ (n : ℕ). sum (map (λ w. (small g w) .nodes) (windows p n))) e ∙ ap (λ (l : List Window). sum (map (λ w. (small g w) .nodes) l)) (windows-none p)
 
-start-of : (l : Lent) → (given l) .start ≡ atStart (take (l .m) (l .start))
+start-of : (l : Lent) → (given l) .start ≡ atStart (l .start)
 unfolding given
 start-of l = refl
 
 module _ (l : Lent) (p : ℕ) (z : l .t ≡ 0) (a : (replay l p) .code ≡ 0) where
-  pub no-events : ((replay l p) .queries ≡ 0) × ((replay l p) .opened ≡ length (filter (atStart (take (l .m) (l .start))) (range 0 (l .m)))) × ((replay l p) .kept ≡ 0)
+  pub no-events : ((replay l p) .queries ≡ 0) × ((replay l p) .opened ≡ length (filter (atStart (l .start)) (range 0 (l .m)))) × ((replay l p) .kept ≡ 0)
   unfolding done
   no-events =
       let (e, c) = replay-done l p a in

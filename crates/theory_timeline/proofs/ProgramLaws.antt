@@ -1,11 +1,11 @@
--- The program's limits: what an input has that is refused by neither 9 nor 10; the tables that it lends are then long enough, with the 16,384 words of the
--- program's work table. So the program never answers 2.
+-- The program's limits: what an input has that is refused by neither 9 nor 10; the tables that it lends have then just their sizes, and the others are long
+-- enough, with the 16,384 words of the program's work table. So its replay is refused by neither 2 nor 12.
 -- Assumes nothing.
 use Prim.Native.Nat.{_*_, _+_, _≤_, suc, zero, ℕ}
 use mathlib.Core.Bool.{Bool, cond, false, true}
 use mathlib.Core.List.{List, [], _++_, _∷_}
 use mathlib.Core.Path.{_≡_, ap, refl}
-use lib.Dec.{eqb, ltb}
+use lib.Dec.{ltb}
 use lib.ListN.{drop, length, length-drop, length-replicate, replicate, take}
 use lib.Seq.{length-take-le}
 use native.Mathlib.Omega.{arith}
@@ -13,12 +13,12 @@ use borrow.Author.Tests.{eqb-true, ltb-false, not-false}
 use Rattle.call_kinds.specs.Kinds.{kindOf}
 use Rattle.call_kinds.specs.declared.Kind.{Kind}
 use Rattle.call_kinds.specs.declared.Kind.the-variants.{Closes, None, Opens, Query}
-use Rattle.call_sizes.proofs.RefusalLaws.{Silent, fault-silent, short-long}
+use Rattle.call_sizes.proofs.RefusalLaws.{Silent, below-long, fault-silent}
 use Rattle.call_sizes.specs.Refusal.{Row, firstFault}
 use Rattle.call_sizes.specs.Sizes.{sizeFaults}
 use Rattle.theory_graph.proofs.Booleans.{contradict}
 use Rattle.theory_timeline.specs.Program.{eventsOf, inputFault, inputFaults, inputLength, inputLent, junctionsOf, segmentsOf, words16}
-use Rattle.theory_timeline.specs.Replay.{Lent, Outcome, done, eventFault, fault, faultAt, faultOfKind, faults, given, listFaults, refused, replay, required, shareFaults, shortTables, tableLengths}
+use Rattle.theory_timeline.specs.Replay.{Lent, eventFault, fault, faultAt, faultOfKind, faults, given, listFaults, longTables, readLengths, required, shareFaults, shortTables, tableLengths}
 use Rattle.theory_timeline.specs.Windows.{event, openBefore}
 
 -- the numbers of an input
@@ -51,93 +51,103 @@ input-within bytes h =
 pub program-words : required 32 176 64 ≡ 16384
 program-words = refl
 
--- ---- rows that do not give 2
-abbrev Other : List Row → Type 0
-Other [] = Unit {0}
-Other (r ∷ rs) = (r .test ≡ true → ¬ (r .code ≡ 2)) × Other rs
+-- ---- the numbers by which the program may refuse
+abbrev pub Said : ℕ → Type 0
+Said c = (c ≤ 11) × ¬ (c ≡ 2)
 
-other-fault : (rs : List Row) → Other rs → ¬ (firstFault rs .0 ≡ 2)
-other-fault [] o e = omega arith
-other-fault (r ∷ rs) o e = go (r .test) refl e (other-fault rs (o .1))
+-- each row that holds has such a number
+abbrev Says : List Row → Type 0
+Says [] = Unit {0}
+Says (r ∷ rs) = (r .test ≡ true → Said (r .code)) × Says rs
+
+says-fault : (rs : List Row) → Says rs → Said (firstFault rs .0)
+says-fault [] s = (omega arith, λ e. omega arith)
+says-fault (r ∷ rs) s = go (r .test) refl (says-fault rs (s .1))
   where
-    go : (b : Bool) → r .test ≡ b → (cond b (r .code, r .place) (firstFault rs)) .0 ≡ 2 → ¬ (firstFault rs .0 ≡ 2) → ⊥
-    go true h e n = o .0 h e
-    go false h e n = n e
+    go : (b : Bool) → r .test ≡ b → Said (firstFault rs .0) → Said ((cond b (r .code, r .place) (firstFault rs)) .0)
+    go true h n = s .0 h
+    go false h n = n
 
-other-append : (rs bs : List Row) → Other rs → Other bs → Other (rs ++ bs)
-other-append [] bs a b = b
-other-append (r ∷ rs) bs a b = (a .0, other-append rs bs (a .1) b)
+says-append : (rs bs : List Row) → Says rs → Says bs → Says (rs ++ bs)
+says-append [] bs a b = b
+says-append (r ∷ rs) bs a b = (a .0, says-append rs bs (a .1) b)
 
-other-silent : (rs : List Row) → Silent rs → Other rs
-other-silent [] s = tt
-other-silent (r ∷ rs) s = (λ h. contradict h (s .0), other-silent rs (s .1))
+says-silent : (rs : List Row) → Silent rs → Says rs
+says-silent [] s = tt
+says-silent (r ∷ rs) s = (λ h. contradict h (s .0), says-silent rs (s .1))
 
-event-other : (l : Lent) (i : ℕ) → ¬ (faultAt l i ≡ 2)
+event-said : (l : Lent) (i : ℕ) → Said (faultAt l i)
 unfolding faultAt eventFault
-event-other l i =
+event-said l i =
     let e = event (given l) i in
     go (kindOf (l .n) (e .0)) (e .1)
   where
-    -- two tests, one in the other, and numbers other than 2
-    one : (a : Bool) (x y : ℕ) → ¬ (x ≡ 2) → ¬ (y ≡ 2) → ¬ (cond a x y ≡ 2)
-    one true x y p q = p
-    one false x y p q = q
+    one : (a : Bool) {x y : ℕ} → Said x → Said y → Said (cond a x y)
+    one true p q = p
+    one false p q = q
 
-    go : (k : Kind) (y : ℕ) → ¬ (faultOfKind (l .n) (l .m) (openBefore (given l) i) y k ≡ 2)
-    go Query y = one (ltb y (l .n)) 0 5 (λ e. omega arith) (λ e. omega arith)
-    go Opens y = one (ltb y (l .m)) _ 5 (one (openBefore (given l) i y) 6 0 (λ e. omega arith) (λ e. omega arith)) (λ e. omega arith)
-    go Closes y = one (ltb y (l .m)) _ 5 (one (openBefore (given l) i y) 0 7 (λ e. omega arith) (λ e. omega arith)) (λ e. omega arith)
-    go None y = λ e. omega arith
+    five : Said 5
+    five = (omega arith, λ e. omega arith)
+
+    nothing : Said 0
+    nothing = (omega arith, λ e. omega arith)
+
+    go : (k : Kind) (y : ℕ) → Said (faultOfKind (l .n) (l .m) (openBefore (given l) i) y k)
+    go Query y = one (ltb y (l .n)) nothing five
+    go Opens y = one (ltb y (l .m)) (one (openBefore (given l) i y) (omega arith, λ e. omega arith) nothing) five
+    go Closes y = one (ltb y (l .m)) (one (openBefore (given l) i y) nothing (omega arith, λ e. omega arith)) five
+    go None y = five
+
+pub input-said : (bytes : List ℕ) → Said (inputFault bytes .0)
+unfolding inputFault inputFaults
+input-said bytes =
+    let nine : Said 9 = (omega arith, λ e. omega arith) in
+    let ten : Said 10 = (omega arith, λ e. omega arith) in
+    says-fault (inputFaults bytes) (λ _. nine, (λ _. ten, (λ _. ten, (λ _. ten, (λ _. nine, tt)))))
 
 -- ---- the program
 module _ (work bytes : List ℕ) (enough : length work ≡ 16384) (h : inputFault bytes .0 ≡ 0) where
-  -- no table is too short
-  pub program-room : Silent (shortTables (inputLent work bytes))
+  -- a part of the input has just its size
+  part-exact : (i k : ℕ) → i + k ≤ length (words16 bytes) → length (take k (drop i (words16 bytes))) ≡ k
+  part-exact i k l = length-take-le k (drop i (words16 bytes)) (omega (arith, length-drop i (words16 bytes)))
+
+  part-long : (i k : ℕ) → i + k ≤ length (words16 bytes) → k ≤ length (take k (drop i (words16 bytes)))
+  part-long i k l = omega (arith, part-exact i k l)
+
+  part-most : (i k : ℕ) → i + k ≤ length (words16 bytes) → length (take k (drop i (words16 bytes))) ≤ k
+  part-most i k l = omega (arith, part-exact i k l)
+
+  -- no table is too short, and none that is only read is too long
+  pub program-room : Silent (shortTables (inputLent work bytes)) × Silent (longTables (inputLent work bytes))
   unfolding inputLent
   program-room =
       let i = input-within bytes h in
       let answers : List ℕ = replicate 32 0 in
-      let a : eventsOf (words16 bytes) ≤ length answers = omega (arith, i .events, length-replicate {A = ℕ} 32 0) in
+      let r : eventsOf (words16 bytes) ≤ length answers = omega (arith, i .events, length-replicate {A = ℕ} 32 0) in
       let m = segmentsOf (words16 bytes) in
       let t = eventsOf (words16 bytes) in
       let w = words16-length bytes (inputLength m t) (i .long) in
-      short-long (tableLengths (inputLent work bytes)) .1 (
-        part-long 4 m (omega arith),
-        (
-          part-long (4 + m) m (omega arith),
-          (
-            part-long (4 + 2 * m) m (omega arith),
-            (
-              part-long (4 + 3 * m) t (omega arith),
-              (part-long (4 + 3 * m + t) t (omega arith), (a, (a, (omega (arith, i .junctions, i .segments, i .events), tt)))),
-            ),
-          ),
-        ),
+      let a : 4 + m ≤ length (words16 bytes) = omega arith in
+      let b : 4 + m + m ≤ length (words16 bytes) = omega arith in
+      let s : 4 + 2 * m + m ≤ length (words16 bytes) = omega arith in
+      let x : 4 + 3 * m + t ≤ length (words16 bytes) = omega arith in
+      let y : 4 + 3 * m + t + t ≤ length (words16 bytes) = omega arith in
+      let work-long : required t (junctionsOf (words16 bytes)) m ≤ length work = omega (arith, i .junctions, i .segments, i .events) in (
+        below-long 2 (tableLengths (inputLent work bytes)) .1
+            (part-long 4 m a, (part-long (4 + m) m b, (part-long (4 + 2 * m) m s, (part-long (4 + 3 * m) t x, (part-long (4 + 3 * m + t) t y, (r, (r, (work-long, tt)))))))),
+        below-long 12 (readLengths (inputLent work bytes)) .1
+            (part-most 4 m a, (part-most (4 + m) m b, (part-most (4 + 2 * m) m s, (part-most (4 + 3 * m) t x, (part-most (4 + 3 * m + t) t y, tt))))),
       )
-    where
-      part-long : (i k : ℕ) → i + k ≤ length (words16 bytes) → k ≤ length (take k (drop i (words16 bytes)))
-      part-long i k l = omega (arith, length-take-le k (drop i (words16 bytes)) (omega (arith, length-drop i (words16 bytes))))
 
-  fault-other : (p : ℕ) → ¬ (fault (inputLent work bytes) p .0 ≡ 2)
+  pub fault-said : (p : ℕ) → Said (fault (inputLent work bytes) p .0)
   unfolding fault faults listFaults
-  fault-other p e =
+  fault-said p =
       let l : Lent = inputLent work bytes in
-      other-fault (faults l p)
-      (other-append (sizeFaults (l .n) (l .m) (l .t) 0) (shortTables l ++ shareFaults p ++ listFaults l)
-      (λ _ x. omega arith, (λ _ x. omega arith, (λ _ x. omega arith, (λ _ x. omega arith, tt))))
-      (other-append (shortTables l) (shareFaults p ++ listFaults l) (other-silent (shortTables l) program-room)
-      (other-append (shareFaults p) (listFaults l) (λ _ x. omega arith, (λ _ x. omega arith, tt))
-      (λ _ x. omega arith, (λ _ x. omega arith, (λ _ x. event-other l _ x, tt))))))
-      e
-
-  -- so the program never answers 2
-  pub program-never-two : (p : ℕ) → ¬ ((replay (inputLent work bytes) p) .code ≡ 2)
-  unfolding replay done refused
-  program-never-two p = go (eqb (fault l p .0) 0)
-    where
-      l : Lent
-      l = inputLent work bytes
-
-      go : (b : Bool) → ¬ ((elim b as (λ x. Outcome) [ true ↦ done l p | false ↦ refused l (fault l p) ]) .code ≡ 2)
-      go true e = omega arith
-      go false e = fault-other p e
+      let one : Said 1 = (omega arith, λ e. omega arith) in
+      let three : Said 3 = (omega arith, λ e. omega arith) in
+      says-fault (faults l p)
+      (says-append (sizeFaults (l .n) (l .m) (l .t) 0) (shortTables l ++ longTables l ++ shareFaults p ++ listFaults l) (λ _. one, (λ _. one, (λ _. one, (λ _. one, tt))))
+      (says-append (shortTables l) (longTables l ++ shareFaults p ++ listFaults l) (says-silent (shortTables l) (program-room .0))
+      (says-append (longTables l) (shareFaults p ++ listFaults l) (says-silent (longTables l) (program-room .1))
+      (says-append (shareFaults p) (listFaults l) (λ _. three, (λ _. three, tt))
+      (λ _. (omega arith, λ e. omega arith), (λ _. (omega arith, λ e. omega arith), (λ _. event-said l _, tt)))))))

@@ -12,8 +12,9 @@ use borrow.Author.Tests.{not-true}
 use Rattle.call_kinds.specs.Kinds.{kindOf}
 use Rattle.call_kinds.specs.declared.Kind.the-variants.{None}
 use Rattle.theory_graph.proofs.Booleans.{and-elim, contradict, onBool}
+use Rattle.theory_graph.proofs.TableLaws.{pairs-at}
 use Rattle.theory_graph.specs.Graph.{Edge}
-use Rattle.theory_timeline.proofs.Acceptance.{accepted-fine, getD-pairs}
+use Rattle.theory_timeline.proofs.Acceptance.{accepted-fine}
 use Rattle.theory_timeline.proofs.DemandThree.{replay-done}
 use Rattle.theory_timeline.proofs.EventLaws.{named-road, road-named}
 use Rattle.theory_timeline.proofs.Networks.{around, around-name}
@@ -44,7 +45,7 @@ pub accepted-kinds : (l : Lent) (p : ℕ) → (replay l p) .code ≡ 0 → (i : 
 unfolding given
 accepted-kinds l p h i u z =
     let (_, a) = replay-done l p h in
-    let x : event (given l) i .0 ≡ getD (l .x) i 0 = ap (λ (e : Event). e .0) (getD-pairs (l .t) (l .x) (l .y) i (a .x-long) (a .y-long) u) in
+    let x : event (given l) i .0 ≡ getD (l .x) i 0 = ap (λ (e : Event). e .0) (pairs-at (l .x) (l .y) i (omega (arith, a .x-exact)) (omega (arith, a .y-exact))) in
     accepted-fine l p a i u .some (ap (kindOf (l .n)) x ∙ z)
 
 -- ---- a window's network, in terms of segments

@@ -1,4 +1,4 @@
--- The cases that document 01 marks P and those of document 02, Nos. 1 to 3, 5 and 6, as one table: what the definitions of the calls give, and what the documents say.
+-- The cases that document 01 marks P and those of document 02, Nos. 1 to 3 and 5 to 7, as one table: what the definitions of the calls give, and what the documents say.
 -- proofs/Cases proves every row.
 -- A replay is seen by its numbers and its answer table, or by its answers and its name table; a contraction by its numbers and tables but for the names, or by
 -- its edges with the table of their names; the program by the bytes that it writes.
@@ -35,31 +35,39 @@ pub data Seen : Type 0 where
   spliced : Spliced → Seen
   wrote : List ℕ → Seen
 
--- tables of just the least lengths, but for this name table; the answer table filled with 9 and the work table with 7
-abbrev pub replayLent : List ℕ → List ℕ → ℕ → List ℕ → List ℕ → List ℕ → List ℕ → R.Lent
-replayLent names start n a b x y = record {
+-- m segments and t events; answers and work of the least lengths, filled with 9 and with 7
+abbrev pub replayLent : ℕ → ℕ → List ℕ → List ℕ → ℕ → List ℕ → List ℕ → List ℕ → List ℕ → R.Lent
+replayLent m t names start n a b x y = record {
   n = n;
-  m = length a;
-  t = length x;
+  m = m;
+  t = t;
   a = a;
   b = b;
   start = start;
   x = x;
   y = y;
-  answers = replicate (length x) 9;
+  answers = replicate t 9;
   names = names;
-  work = replicate (R.required (length x) n (length a)) 7;
+  work = replicate (R.required t n m) 7;
 }
 
-abbrev pub replayFrom : List ℕ → ℕ → List ℕ → List ℕ → List ℕ → List ℕ → ℕ → Seen
-replayFrom start n a b x y p =
-    let r : R.Outcome = R.replay (replayLent (replicate (length x) 9) start n a b x y) p in
+abbrev pub replaySized : ℕ → ℕ → List ℕ → ℕ → List ℕ → List ℕ → List ℕ → List ℕ → ℕ → Seen
+replaySized m t start n a b x y p =
+    let r : R.Outcome = R.replay (replayLent m t (replicate t 9) start n a b x y) p in
     replayed (r .code, r .place, r .queries, r .opened, r .kept, r .answers)
+
+-- the sizes being the lengths of A and of X
+abbrev pub replayFrom : List ℕ → ℕ → List ℕ → List ℕ → List ℕ → List ℕ → ℕ → Seen
+replayFrom start n a b x y p = replaySized (length a) (length x) start n a b x y p
+
+-- a segment 0-1 that is open, and a query of its ends, with all entries past the sizes that the tables are given
+abbrev pub sized : ℕ → List ℕ → List ℕ → List ℕ → List ℕ → List ℕ → ℕ → Seen
+sized n a b start x y p = replaySized 1 1 (1 ∷ start) n (0 ∷ a) (1 ∷ b) (0 ∷ x) (1 ∷ y) p
 
 -- its names, with the share 8
 abbrev pub namesWith : List ℕ → List ℕ → ℕ → List ℕ → List ℕ → List ℕ → List ℕ → Seen
 namesWith names start n a b x y =
-    let r : R.Outcome = R.replay (replayLent names start n a b x y) 8 in
+    let r : R.Outcome = R.replay (replayLent (length a) (length x) names start n a b x y) 8 in
     watched (r .code, r .answers, r .names)
 
 -- with a name table that is filled with 9 and has one entry more than it must have
@@ -232,6 +240,17 @@ table =
     ∷ (replayOf 3 [] [] (2 ∷ 3 ∷ []) (0 ∷ 0 ∷ []) 8, replayed (5, 1, 0, 0, 0, 9 ∷ 9 ∷ []))
     ∷ (replayOf 3 (0 ∷ []) (1 ∷ []) (65535 ∷ 65533 ∷ []) (0 ∷ 0 ∷ []) 8, replayed (5, 1, 0, 0, 0, 9 ∷ 9 ∷ []))
     ∷ (replayOf 0 [] [] (0 ∷ []) (0 ∷ []) 8, replayed (5, 0, 0, 0, 0, 9 ∷ []))
+    -- A, B, the starting table, X and Y of just their sizes; then each of them with one entry more: 12
+    ∷ (sized 2 [] [] [] [] [] 8, replayed (0, 0, 1, 1, 2, 1 ∷ []))
+    ∷ (sized 2 (0 ∷ []) [] [] [] [] 8, replayed (12, 0, 0, 0, 0, 9 ∷ []))
+    ∷ (sized 2 [] (0 ∷ []) [] [] [] 8, replayed (12, 0, 0, 0, 0, 9 ∷ []))
+    ∷ (sized 2 [] [] (0 ∷ []) [] [] 8, replayed (12, 0, 0, 0, 0, 9 ∷ []))
+    ∷ (sized 2 [] [] [] (0 ∷ []) [] 8, replayed (12, 0, 0, 0, 0, 9 ∷ []))
+    ∷ (sized 2 [] [] [] [] (0 ∷ []) 8, replayed (12, 0, 0, 0, 0, 9 ∷ []))
+    -- A with one entry more, and N of 4,097: 1; and no entry in Y: 2; and the share 3, with ends, starting entry and event out of range: 12
+    ∷ (sized 4097 (0 ∷ []) [] [] [] [] 8, replayed (1, 0, 0, 0, 0, 9 ∷ []))
+    ∷ (replaySized 1 1 (1 ∷ []) 2 (0 ∷ 0 ∷ []) (1 ∷ []) (0 ∷ []) [] 8, replayed (2, 0, 0, 0, 0, 9 ∷ []))
+    ∷ (replaySized 1 1 (2 ∷ []) 2 (9 ∷ 0 ∷ []) (9 ∷ []) (9 ∷ []) (9 ∷ []) 3, replayed (12, 0, 0, 0, 0, 9 ∷ []))
     -- the program: N = 177 is "refused 10 at 0"
     ∷ (wrote (output (bytesOf (177 ∷ 0 ∷ 0 ∷ 8 ∷ []))), wrote (114 ∷ 101 ∷ 102 ∷ 117 ∷ 115 ∷ 101 ∷ 100 ∷ 32 ∷ 49 ∷ 48 ∷ 32 ∷ 97 ∷ 116 ∷ 32 ∷ 48 ∷ 10 ∷ []))
     ∷ []

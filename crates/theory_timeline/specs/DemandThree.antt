@@ -43,15 +43,16 @@ pub record Faithful (g : Timeline) (w : Window) : Type 0 where
       → hangs (network g w ++ F) x y ≡ hangs (smallNamed g w ++ imageNamed (stands g w) F) (stands g w x) (stands g w y)
   pub nodes : (small g w) .nodes ≤ mostNodes (different (active g w))
 
--- lent alike but for ignored entries, the answer table, the name table and the work table (that M is the same follows where both are accepted)
+-- lent alike but for the answer table, the name table and the work table. "Ignored entries", in which two replays may differ too, are from document 02,
+-- No. 7, on only such as stand in these three: an accepted replay has none in the tables that it only reads (that M and T are the same follows where both
+-- are accepted)
 pub record Alike (l k : Lent) : Type 0 where
   pub n : l .n ≡ k .n
-  pub t : l .t ≡ k .t
-  pub a : take (l .m) (l .a) ≡ take (k .m) (k .a)
-  pub b : take (l .m) (l .b) ≡ take (k .m) (k .b)
-  pub start : take (l .m) (l .start) ≡ take (k .m) (k .start)
-  pub x : take (l .t) (l .x) ≡ take (k .t) (k .x)
-  pub y : take (l .t) (l .y) ≡ take (k .t) (k .y)
+  pub a : l .a ≡ k .a
+  pub b : l .b ≡ k .b
+  pub start : l .start ≡ k .start
+  pub x : l .x ≡ k .x
+  pub y : l .y ≡ k .y
 
 -- ---- the statement: r is the outcome of lending l with the share p, s that of lending k with the share q; code 0 is acceptance
 pub record Demand3 (l k : Lent) (p q : ℕ) (r s : Outcome) : Type 0 where

@@ -3,6 +3,7 @@
 use Prim.Native.Nat.{_%_, _*_, _+_, _/_, suc, zero, ℕ}
 use mathlib.Core.Bool.{false, not, true}
 use mathlib.Core.List.{List, [], _++_, _∷_}
+use mathlib.Core.Path.{_≡_}
 use lib.Dec.{eqb, ltb}
 use lib.ListN.{drop, getD, length, replicate, take}
 use Rattle.call_kinds.specs.Kinds.{isQuery, kindOf}
@@ -123,3 +124,8 @@ outputWith work bytes =
 -- "It lends a work table of 16,384 numbers"
 unfoldable pub output : List ℕ → List ℕ
 output = outputWith (replicate 16384 0)
+
+-- no input is answered by a refusal with this number. proofs/OutputLaws proves it of 2 and of 12: the parts of an input have just their sizes, and the
+-- program's own tables are long enough
+abbrev pub NeverAnswers : ℕ → Type 0
+NeverAnswers c = (bytes : List ℕ) (i : ℕ) → ¬ (output bytes ≡ refusedLine c i)

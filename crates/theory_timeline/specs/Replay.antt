@@ -6,14 +6,14 @@ use mathlib.Core.Bool.{Bool, cond, false, not, true}
 use mathlib.Core.List.{List, [], _++_, _∷_, map}
 use mathlib.Core.Path.{_≡_}
 use lib.Dec.{eqb, ltb}
-use lib.ListN.{length, replicate, take}
+use lib.ListN.{length, replicate}
 use Rattle.theory_graph.specs.Graph.{answer}
 use Rattle.theory_graph.specs.Lists.{filter, over, pairs, range}
 use Rattle.theory_names.specs.Names.{hangs, plain}
 use Rattle.call_kinds.specs.Kinds.{kindOf}
 use Rattle.call_kinds.specs.declared.Kind.{Kind}
 use Rattle.call_kinds.specs.declared.Kind.the-variants.{Closes, None, Opens, Query}
-use Rattle.call_sizes.specs.Refusal.{Refusal, Row, firstFault, row, seek, shortRows, badEnds, badStart}
+use Rattle.call_sizes.specs.Refusal.{Refusal, Row, firstFault, longRows, row, seek, shortRows, badEnds, badStart}
 use Rattle.call_sizes.specs.Sizes.{sizeFaults}
 use Rattle.theory_timeline.specs.Events.{Event, SegmentSet}
 use Rattle.theory_timeline.specs.Windows.{Timeline, asksAt, atStart, event, kept, openBefore, openGraph, size}
@@ -54,14 +54,9 @@ pub record Lent : Type 0 where
   pub names : List ℕ
   pub work : List ℕ
 
--- the network and the list that count: entries past the sizes are ignored
+-- the network and the list. No entry of their tables is ignored: each table has just its size, or the call is refused (2, 12)
 unfoldable pub given : Lent → Timeline
-given l = record {
-  junctions = l .n;
-  segments = pairs (take (l .m) (l .a)) (take (l .m) (l .b));
-  start = atStart (take (l .m) (l .start));
-  events = pairs (take (l .t) (l .x)) (take (l .t) (l .y));
-}
+given l = record { junctions = l .n; segments = pairs (l .a) (l .b); start = atStart (l .start); events = pairs (l .x) (l .y) }
 
 -- the required length of the work table
 abbrev pub required : ℕ → ℕ → ℕ → ℕ
@@ -98,11 +93,20 @@ tableLengths l =
 abbrev pub shortTables : Lent → List Row
 shortTables l = shortRows (tableLengths l)
 
+-- refusal 12 (document 02, No. 7): "A, B, the starting table, X and Y must have exactly their stated lengths", by each one's size and its length. The tables
+-- that are written may be longer: entries past the sizes are ignored there, and stay
+abbrev pub readLengths : Lent → List (ℕ × ℕ)
+readLengths l =
+    (l .m, length (l .a)) ∷ (l .m, length (l .b)) ∷ (l .m, length (l .start)) ∷ (l .t, length (l .x)) ∷ (l .t, length (l .y)) ∷ []
+
+abbrev pub longTables : Lent → List Row
+longTables l = longRows (readLengths l)
+
 -- refusal 3: the share is below 4 or above 12
 abbrev pub shareFaults : ℕ → List Row
 shareFaults p = row (ltb p 4) 3 0 ∷ row (ltb 12 p) 3 0 ∷ []
 
--- 1, 2, 3, then 4 at the first segment with an end not below N, then 11 at the first starting entry above 1, then the first event that shows 5, 6 or 7
+-- then 4 at the first segment with an end not below N, then 11 at the first starting entry above 1, then the first event that shows 5, 6 or 7
 unfoldable pub listFaults : Lent → List Row
 listFaults l =
     let s : ℕ = seek (badEnds (l .n) (l .a) (l .b)) 0 (l .m) in
@@ -110,8 +114,9 @@ listFaults l =
     let i : ℕ = seek (λ i. not (eqb (faultAt l i) 0)) 0 (l .t) in
     row (ltb s (l .m)) 4 s ∷ row (ltb u (l .m)) 11 u ∷ row (ltb i (l .t)) (faultAt l i) i ∷ []
 
+-- 1, 2, 12, 3, then those of the list
 unfoldable pub faults : Lent → ℕ → List Row
-faults l p = sizeFaults (l .n) (l .m) (l .t) 0 ++ shortTables l ++ shareFaults p ++ listFaults l
+faults l p = sizeFaults (l .n) (l .m) (l .t) 0 ++ shortTables l ++ longTables l ++ shareFaults p ++ listFaults l
 
 unfoldable pub fault : Lent → ℕ → Refusal
 fault l p = firstFault (faults l p)

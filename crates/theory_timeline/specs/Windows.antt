@@ -25,7 +25,7 @@ size g = length (g .events)
 abbrev pub event : Timeline → ℕ → Event
 event g i = getD (g .events) i (0, 0)
 
--- event i is a query; it opens or closes a segment; it does either
+-- event i is a query; it opens a segment; it closes one; it names one, to open or to close it
 abbrev pub asksAt : Timeline → ℕ → Bool
 asksAt g i = asks (g .junctions) (event g i)
 

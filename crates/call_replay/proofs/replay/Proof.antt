@@ -40,59 +40,34 @@ required-requires c κs =
     let g = grants (c .before .before .check .ensures) (zero c) in
     (g .t-fits, g .n-fits, g .m-fits)
 
-slice-aggregate-replay-list : tie.Need-slice-aggregate-replay-list
-slice-aggregate-replay-list c =
-    let checked = c .before .before in
-    sym (length-take-le _ _ (grants (checked .before .before .check .ensures) (zero checked) .a-long))
-
-slice-aggregate-replay-list-2 : tie.Need-slice-aggregate-replay-list-2
-slice-aggregate-replay-list-2 c =
-    let checked = c .before .before .before in
-    sym (length-take-le _ _ (grants (checked .before .before .check .ensures) (zero checked) .b-long))
-
-slice-aggregate-replay-list-3 : tie.Need-slice-aggregate-replay-list-3
-slice-aggregate-replay-list-3 c =
-    let checked = c .before .before .before .before in
-    sym (length-take-le _ _ (grants (checked .before .before .check .ensures) (zero checked) .start-long))
-
-slice-aggregate-replay-list-4 : tie.Need-slice-aggregate-replay-list-4
-slice-aggregate-replay-list-4 c =
-    let checked = c .before .before .before .before .before in
-    sym (length-take-le _ _ (grants (checked .before .before .check .ensures) (zero checked) .x-long))
-
-slice-aggregate-replay-list-5 : tie.Need-slice-aggregate-replay-list-5
-slice-aggregate-replay-list-5 c =
-    let checked = c .before .before .before .before .before .before in
-    sym (length-take-le _ _ (grants (checked .before .before .check .ensures) (zero checked) .y-long))
-
 slice-relend-prefix-replay-list : tie.Need-slice-relend-prefix-replay-list
 slice-relend-prefix-replay-list c =
-    let at-required = c .before .before .before .before .before .before .before in
+    let at-required = c .before .before in
     let checked = at-required .before in
     work-need (checked .before .before .check .ensures) (zero checked) _ (at-required .required .ensures)
 
-slice-aggregate-replay-list-6 : tie.Need-slice-aggregate-replay-list-6
-slice-aggregate-replay-list-6 c =
-    let at-required = c .before .before .before .before .before .before .before .before in
+slice-aggregate-replay-list : tie.Need-slice-aggregate-replay-list
+slice-aggregate-replay-list c =
+    let at-required = c .before .before .before in
     let checked = at-required .before in
     sym (length-take-le _ _ (work-need (checked .before .before .check .ensures) (zero checked) _ (at-required .required .ensures)))
 
 replay-list-requires : tie.Need-replay-list-requires
 replay-list-requires c κs =
-    let at-required = c .before .before .before .before .before .before .before .before in
+    let at-required = c .before .before .before in
     let checked = at-required .before in
     list-ready (checked .before .before .check .ensures) (zero checked) _ (at-required .required .ensures)
 
 count-queries-requires : tie.Need-count-queries-requires
 count-queries-requires c κs =
     let at-replay-list = c .before .before .before .before .before .before in
-    let checked = at-replay-list .before .before .before .before .before .before .before .before .before .before in
-    grants (checked .before .before .check .ensures) (zero checked) .x-long
+    let checked = at-replay-list .before .before .before .before .before in
+    omega (arith, grants (checked .before .before .check .ensures) (zero checked) .x-exact)
 
 clear-requires : tie.Need-clear-requires
 clear-requires c κs =
     let at-replay-list = c .before .before .before .before .before .before .before .before in
-    let at-required = at-replay-list .before .before .before .before .before .before .before .before .before in
+    let at-required = at-replay-list .before .before .before .before in
     let checked = at-required .before in
     omega (arith, work-need (checked .before .before .check .ensures) (zero checked) _ (at-required .required .ensures))
 
@@ -101,7 +76,7 @@ returns-2 c =
     let at-clear = c .before .before in
     let at-count-queries = at-clear .before .before in
     let at-replay-list = at-count-queries .before .before .before .before .before .before .before in
-    let at-required = at-replay-list .before .before .before .before .before .before .before .before .before in
+    let at-required = at-replay-list .before .before .before .before in
     let checked = at-required .before in
     let d = at-replay-list .replay-list in
     replay-is (checked .before .before .check .ensures) (zero checked) _ (at-required .required .ensures) (d .ensures)
@@ -117,13 +92,8 @@ replay-spec =
     (λ c. search needs)
     returns
     required-requires
-    slice-aggregate-replay-list
-    slice-aggregate-replay-list-2
-    slice-aggregate-replay-list-3
-    slice-aggregate-replay-list-4
-    slice-aggregate-replay-list-5
     slice-relend-prefix-replay-list
-    slice-aggregate-replay-list-6
+    slice-aggregate-replay-list
     replay-list-requires
     count-queries-requires
     clear-requires

@@ -5,7 +5,7 @@ use Rattle.contraction_checks.proofs.length_fault.Statement.{statement}
 use Rattle.contraction_checks.proofs.length_fault.Tie as tie
 
 returns : tie.Need-returns
-returns c = rw (← c .before .before .required .ensures) (c .length-fault .ensures)
+returns c = rw (← c .before .before .required .ensures) (c .below-fault .ensures)
 
 pub length-fault-spec : {M : Type 1} → statement M
 length-fault-spec =
