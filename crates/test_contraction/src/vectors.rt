@@ -1,5 +1,5 @@
-// Contractions made by a slow program before any code of the product; they stand on standard input. The first 50 are those of document 02, No. 5: 37 are
-// accepted, 11 refused by 2 and 2 by 4. The other 60 are those of document 01, all accepted; they came without pieces and names, and theirs are from a search
+// Contractions made by a slow program before any code of the product; they stand on standard input. The first 50 are those of document 02, No. 7: 35 are
+// accepted, 12 refused by 2, 2 by 4 and 1 by 8. The other 60 are those of document 01, all accepted; they came without pieces and names, and theirs are from a search
 // of their own. A vector is a line of numbers of four digits in base 16, then ; at its end. Ten of the sizes: the nodes, the edges, the active entries and
 // zeros; ten of the lengths: of the first and the second ends of the edges, their names, the active entries, the map, the first and the second ends of the
 // edges out, their names, the pieces and the work table; ten of the reply: a refusal's number and its place, the nodes, the edges and zeros. Then come the

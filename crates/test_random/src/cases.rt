@@ -71,7 +71,7 @@ pub fn long(table: usize) -> Fault {
 pub fn fault(i: usize) -> Fault {
     match i {
         0 => [0, 4097, 1, 0],
-        1 => short(3),
+        1 => short(8),
         2 => long(1),
         3 => [3, 13, 3, 0],
         4 => [5, 65000, 4, 1],

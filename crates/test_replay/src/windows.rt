@@ -53,7 +53,7 @@ fn run(t: &mut Table, l: &List, first: usize, n: usize, work: &mut Work)
 {
     let mut part = [65000u16; 40968];
     cut(&mut part, l, first, n);
-    crate::run(t, &part, calls::lengths(&part, LONGER, 0), 0, 12, 0, work);
+    crate::run(t, &part, 0, 12, 0, work);
     let c = replay::first_part(n, lists::size(l, lists::Y));
     if n > c {
         run(t, l, first, c, work);

@@ -4,10 +4,10 @@ use Rattle.test_replay_calls.proofs.limits.pairs_refused.Statement.{sta
 use Rattle.test_replay_calls.proofs.limits.pairs_refused.Tie as tie
 
 abbrev Inv-loop : tie.InvT-loop
-Inv-loop work₀ count₀ i₀ work count i = i ≤ 64
+Inv-loop work₀ count₀ i₀ work count i = i ≤ 81
 
 abbrev μ-loop : tie.MeasureT-loop
-μ-loop work₀ count₀ i₀ work count i = 64 - i
+μ-loop work₀ count₀ i₀ work count i = 81 - i
 
 pub pairs-refused-spec : {M : Type 1} → statement M
 pairs-refused-spec =

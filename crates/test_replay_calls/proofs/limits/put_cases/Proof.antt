@@ -4,10 +4,10 @@ use Rattle.test_replay_calls.proofs.limits.put_cases.Statement.{stateme
 use Rattle.test_replay_calls.proofs.limits.put_cases.Tie as tie
 
 abbrev Inv-loop : tie.InvT-loop
-Inv-loop t₀ work₀ i₀ t work i = i ≤ 26
+Inv-loop t₀ work₀ i₀ t work i = i ≤ 27
 
 abbrev μ-loop : tie.MeasureT-loop
-μ-loop t₀ work₀ i₀ t work i = 26 - i
+μ-loop t₀ work₀ i₀ t work i = 27 - i
 
 pub put-cases-spec : {M : Type 1} → statement M
 put-cases-spec =

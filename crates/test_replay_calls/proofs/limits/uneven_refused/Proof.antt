@@ -1,0 +1,28 @@
+use Prim.Native.Nat.{_≤_, _-_}
+use borrow.Author.Needs.{needs}
+use Rattle.test_replay_calls.proofs.limits.uneven_refused.Statement.{statement}
+use Rattle.test_replay_calls.proofs.limits.uneven_refused.Tie as tie
+
+abbrev Inv-loop : tie.InvT-loop
+Inv-loop work₀ count₀ i₀ work count i = i ≤ 40
+
+abbrev μ-loop : tie.MeasureT-loop
+μ-loop work₀ count₀ i₀ work count i = 40 - i
+
+pub uneven-refused-spec : {M : Type 1} → statement M
+uneven-refused-spec =
+    tie.close
+    (tie.spec
+    Inv-loop
+    μ-loop
+    (λ c. search needs)
+    (λ c. search needs)
+    (λ c κs. search needs)
+    (λ c. search needs)
+    (λ c κs. search needs)
+    (λ c κs. search needs)
+    (λ c κs. search needs)
+    (λ c. search needs)
+    (λ c. search needs)
+    (λ c. search needs)
+    (λ c. search needs))
