@@ -28,6 +28,7 @@ impl Kind {
     }
 }
 
+#[derive(Clone)]
 pub struct List {
     pub n: usize,
     pub m: usize,

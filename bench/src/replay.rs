@@ -361,11 +361,13 @@ pub fn replay(
     if short {
         return Err(Refusal::new(2, 0));
     }
+    let long = a.len() > m || b.len() > m || start.len() > m || x.len() > t || y.len() > t;
+    if long {
+        return Err(Refusal::new(12, 0));
+    }
     if !(4..=12).contains(&p) {
         return Err(Refusal::new(3, 0));
     }
-    let (a, b, start) = (&a[..m], &b[..m], &start[..m]);
-    let (x, y) = (&x[..t], &y[..t]);
     let bad = |v: u16| v as usize >= n;
     if let Some(s) = a.iter().zip(b).position(|(&u, &v)| bad(u) || bad(v)) {
         return Err(Refusal::new(4, s));

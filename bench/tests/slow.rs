@@ -460,6 +460,32 @@ fn two_segments_are_one_road() {
     }
 }
 
+/// Each table that is only read one entry longer than its size, alone, with another table short, and with the share 3.
+#[test]
+fn longer_tables() {
+    let mut random = Random::new(5);
+    let lengthen: [fn(&mut lists::List); 5] = [
+        |l| l.a.push(0),
+        |l| l.b.push(0),
+        |l| l.start.push(0),
+        |l| l.x.push(0),
+        |l| l.y.push(0),
+    ];
+    for _ in 0..200 {
+        let l = lists::random_list(4, 5, 1, 2, 6, 0, &mut random);
+        let need = replay::required(4, 5, 6);
+        assert!(plain_replay(&l, 6, 8, [6, 6, need]).is_ok());
+        for push in lengthen {
+            let mut long = l.clone();
+            push(&mut long);
+            let reply = |p, lengths| plain_replay(&long, 6, p, lengths).unwrap_err();
+            assert_eq!(reply(8, [6, 6, need]), Refusal::new(12, 0));
+            assert_eq!(reply(3, [7, 7, need + 1]), Refusal::new(12, 0));
+            assert_eq!(reply(3, [6, 6, need - 1]), Refusal::new(2, 0));
+        }
+    }
+}
+
 /// A vector: rows of numbers, each behind its name.
 struct Vector<'a>(&'a str);
 
@@ -566,7 +592,7 @@ fn replay_vectors() {
         assert_eq!(reply, expected);
         count += 1;
     }
-    assert_eq!(count, 109);
+    assert_eq!(count, 115);
 }
 
 #[test]

@@ -10,10 +10,11 @@
  * to the next; their names stay. Version 5 has the tables of version 4, but its answers
  * are about roads (lum_replay), where those before were about segments; version 6 has one
  * call more, lum_check_number; version 7 has the tables of names of both calls; version 8
- * has one call more, lum_kind_of. A program that was built with the header of one version
- * and linked with the archive of another would hand over its tables in the wrong places,
- * and nothing else would notice. So compare lum_version() with LUM_VERSION before the first
- * other call, and make none where they differ. lum_version takes nothing and returns one
+ * has one call more, lum_kind_of; version 9 has the tables of version 8, but its replay
+ * refuses tables that are only read and longer than their sizes. A program that was built
+ * with the header of one version and linked with the archive of another would hand over
+ * its tables in the wrong places, and nothing else would notice. So compare lum_version()
+ * with LUM_VERSION before the first other call, and make none where they differ. lum_version takes nothing and returns one
  * number in every version. Set the fields of a struct by their names, all of them. A code
  * above those below is a refusal too, by a reason that a later version names.
  *
@@ -35,8 +36,12 @@
  * on one with 48 KB for the shares 4, 5, 8 and 12, and a contraction at the full sizes on
  * one with 16 KB. This is measured (bench/stack) and not proved.
  *
- * TABLES may be longer than they must be. Entries past the stated sizes are ignored,
- * and none of them changes.
+ * TABLES of a replay that are only read have exactly their sizes: a_len, b_len and
+ * start_len are m, x_len and y_len are t, whatever stands behind them in memory. A longer
+ * one is refused, so that old entries behind the last are never taken for live ones. All
+ * other tables, those that a replay writes and those of the other calls, may be longer
+ * than they must be: entries past the stated sizes are ignored there, and none of them
+ * changes.
  *
  * REPLIES. `code` is 0 where the call is accepted, and `place` is then 0. Otherwise
  * `code` is the refusal's number, `place` its place, every other number of the reply
@@ -52,10 +57,12 @@
  *  LUM_NOT_OPEN     7   event    closes a closed segment (replay)
  *  LUM_ENTRY        8   entry    the first active entry not below n (contraction)
  *  LUM_START       11   segment  the first starting entry above 1 (replay)
+ *  LUM_LONG        12   0        a table that is only read is longer than its size (replay)
  *
- * The first that holds counts, in this order: 1, 2, 3, 4, then 8 in the contraction;
- * in the replay then 11, then the first event that shows 5, 6 or 7, and 5 precedes the
- * others at one event. Places are counted from 0. 9 and 10 are the program's alone.
+ * The first that holds counts, in this order: 1, 2, 4, 8 in the contraction; 1, 2, 12, 3,
+ * 4, 11 in the replay, then the first event that shows 5, 6 or 7, and 5 precedes the others
+ * at one event. So a table too short and another too long give 2. Places are counted from
+ * 0. 9 and 10 are the program's alone.
  */
 #ifndef LUMZHASEL_H
 #define LUMZHASEL_H
@@ -68,7 +75,7 @@ extern "C" {
 #endif
 
 /* The version of the calls below. */
-#define LUM_VERSION 8u
+#define LUM_VERSION 9u
 
 /* The limits. */
 #define LUM_MOST_JUNCTIONS 4096u
@@ -87,6 +94,7 @@ extern "C" {
 #define LUM_NOT_OPEN 7u
 #define LUM_ENTRY 8u
 #define LUM_START 11u
+#define LUM_LONG 12u
 
 /* The x of an event that opens or closes the segment in its y. */
 #define LUM_OPENS 65535u
@@ -268,12 +276,13 @@ struct lum_contract_reply lum_contract(struct lum_contract_lent lent);
  *  LUM_OPENS        segment    it opens
  *  LUM_CLOSES       segment    it closes
  *
- *  table        least length                afterwards, where the call is accepted
- *  a, b, start  m                           (read)
- *  x, y         t                           (read)
- *  answers      t                           the first t entries: the answer bytes
- *  names        t                           the first t entries: the roads to watch
+ *  table        length                      afterwards, where the call is accepted
+ *  a, b, start  m, and no more              (read)
+ *  x, y         t, and no more              (read)
+ *  answers      t at least                  the first t entries: the answer bytes
+ *  names        t at least                  the first t entries: the roads to watch
  *  work         256t + 32n + 8m + 2,048     0 over that length
+ *               at least
  *
  * No other entry changes. The answer byte of a query is 2 where the junctions are joined
  * and stay joined whichever single open road is lost, 1 where they are joined and the loss
@@ -284,7 +293,7 @@ struct lum_contract_reply lum_contract(struct lum_contract_lent lent);
  *
  * At a query with the answer 1, names[i] is the road to watch: the smallest name of an open
  * road whose loss parts the two junctions; at every other event it is LUM_NO_NAME. A road's
- * name is its smallest segment number, open or not. Refused by 1 to 7 and 11.
+ * name is its smallest segment number, open or not. Refused by 1 to 7, 11 and 12.
  */
 struct lum_replay_reply lum_replay(struct lum_replay_lent lent);
 

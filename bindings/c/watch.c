@@ -2,8 +2,9 @@
  * What planners watch: replays a list over a row of junctions with a ring in its middle, and
  * prints beside each answer 1 the road that it hangs on, by its ends. Then it contracts the
  * open roads to the ends of the row: the one edge has the smallest name along it. Tables of
- * names one entry short are refused before that and change nothing. The exit status is 1 where
- * something is not as the header says, and 2 where the archive has other calls.
+ * names one entry short are refused before that and change nothing, and so is the array of
+ * first ends as a whole, which has an old entry behind the last segment. The exit status is 1
+ * where something is not as the header says, and 2 where the archive has other calls.
  */
 #include <stdio.h>
 #include <string.h>
@@ -13,8 +14,9 @@
 enum { JUNCTIONS = 5, SEGMENTS = 6, EVENTS = 5, ENTRIES = 2 };
 
 /* 0 - 1 - (2, 3) - 4, where 1, 2 and 3 are a ring. Segments 1 and 5 are one road, road 1, of
- * which only segment 5 is open at the start. */
-static const uint16_t a[SEGMENTS] = {3, 0, 1, 2, 3, 1};
+ * which only segment 5 is open at the start. Behind segment 5 the array of first ends has room
+ * for one more, with what was left there. */
+static const uint16_t a[SEGMENTS + 1] = {3, 0, 1, 2, 3, 1, 4};
 static const uint16_t b[SEGMENTS] = {4, 1, 2, 3, 1, 0};
 static const uint16_t start[SEGMENTS] = {1, 0, 1, 1, 1, 1};
 static const uint16_t x[EVENTS] = {0, 1, 0, LUM_CLOSES, 2};
@@ -33,7 +35,7 @@ struct tables {
     uint32_t work[LUM_REPLAY_WORK(JUNCTIONS, SEGMENTS, EVENTS)];
 };
 
-static struct lum_replay_reply replay(struct tables *t, size_t names_len)
+static struct lum_replay_reply replay(struct tables *t, size_t a_len, size_t names_len)
 {
     struct lum_replay_lent lent = {
         .n = JUNCTIONS,
@@ -41,7 +43,7 @@ static struct lum_replay_reply replay(struct tables *t, size_t names_len)
         .t = EVENTS,
         .p = 8,
         .a = a,
-        .a_len = SEGMENTS,
+        .a_len = a_len,
         .b = b,
         .b_len = SEGMENTS,
         .start = start,
@@ -112,8 +114,14 @@ int main(void)
     /* Junk, so that an entry which changes is seen. */
     memset(&t, 0xA5, sizeof t);
     memcpy(&before, &t, sizeof t);
-    if (replay(&t, EVENTS - 1).code != LUM_SHORT) {
+    if (replay(&t, SEGMENTS, EVENTS - 1).code != LUM_SHORT) {
         return wrong("a short table of names is not refused by 2");
+    }
+    if (replay(&t, SEGMENTS + 1, EVENTS).code != LUM_LONG) {
+        return wrong("an entry behind the segments is not refused by 12");
+    }
+    if (replay(&t, SEGMENTS + 1, EVENTS - 1).code != LUM_SHORT) {
+        return wrong("12 comes before 2");
     }
     if (contract(&t, 4, 2 * ENTRIES).code != LUM_SHORT) {
         return wrong("a short table of names in is not refused by 2");
@@ -125,7 +133,7 @@ int main(void)
         return wrong("a refusal has changed a table");
     }
 
-    if (replay(&t, EVENTS + 1).code != LUM_ACCEPTED) {
+    if (replay(&t, SEGMENTS, EVENTS + 1).code != LUM_ACCEPTED) {
         return wrong("the list is refused");
     }
     for (size_t i = 0; i < EVENTS; i++) {

@@ -12,6 +12,8 @@ pub enum Reason {
     Sizes,
     /// 2: a table is shorter than its least length.
     Short,
+    /// 12: a table of a replay that is only read is longer than its size.
+    Long,
     /// 3: the share is below 4 or above 12.
     Share,
     /// 4: the first segment or edge, the place, with an end that is no junction or node.
@@ -43,6 +45,7 @@ impl Reason {
             Reason::NotOpen => 7,
             Reason::Entry => 8,
             Reason::Start => 11,
+            Reason::Long => 12,
             Reason::Other(code) => code,
         }
     }
@@ -58,6 +61,7 @@ impl Reason {
             7 => Reason::NotOpen,
             8 => Reason::Entry,
             11 => Reason::Start,
+            12 => Reason::Long,
             code => Reason::Other(code),
         }
     }
@@ -78,6 +82,7 @@ impl fmt::Display for Refusal {
         let reason = match self.reason {
             Reason::Sizes => "a size is over its limit",
             Reason::Short => "a table is too short",
+            Reason::Long => "a table is longer than its size",
             Reason::Share => "the share is not 4 to 12",
             Reason::End => "an end of the segment is no junction",
             Reason::Start => "the segment's starting entry is neither 0 nor 1",
@@ -156,18 +161,19 @@ mod tests {
         assert_eq!(Reason::from_code(8), Reason::Entry);
         assert_eq!(Reason::from_code(9), Reason::Other(9));
         assert_eq!(Reason::from_code(11), Reason::Start);
+        assert_eq!(Reason::from_code(12), Reason::Long);
         assert_eq!(Reason::from_code(usize::MAX).code(), usize::MAX);
     }
 
     #[test]
     fn a_number_that_is_new_is_said() {
         let refused = Refusal {
-            reason: Reason::from_code(12),
+            reason: Reason::from_code(13),
             place: 3,
         };
         assert_eq!(
             refused.to_string(),
-            "refused 12 at 3: this package has no name for the reason"
+            "refused 13 at 3: this package has no name for the reason"
         );
         assert_eq!(Error::from(refused).refusal(), Some(refused));
     }

@@ -149,7 +149,7 @@ pub const MOST_EVENTS: usize = 4096;
 pub const MOST_ENTRIES: usize = 8192;
 
 /// The version of the calls that this package was written for.
-pub const VERSION: u32 = 8;
+pub const VERSION: u32 = 9;
 
 /// The version of the calls in the archive.
 pub fn version() -> u32 {

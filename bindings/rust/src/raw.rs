@@ -1,5 +1,5 @@
 //! The exported calls of the archive, each lent a struct of numbers and tables, a table as a pointer and a length. All unsafe code
-//! stands here. These declarations are those of version 8, [`crate::VERSION`]: whoever changes one changes both.
+//! stands here. These declarations are those of version 9, [`crate::VERSION`]: whoever changes one changes both.
 #![allow(unsafe_code)]
 
 use crate::tables::{ContractTables, ReplayTables};

@@ -1,6 +1,7 @@
 //! The calls on tables that the caller lends. Nothing is allocated, and nothing is kept after a call.
 //!
-//! Tables may be longer than they must be. Entries past the stated sizes are ignored, and none of them
+//! The tables of a replay that are only read have exactly their sizes, m or t: slice a longer one, as `&a[..m]`. All
+//! other tables may be longer than they must be. Entries past the stated sizes are ignored there, and none of them
 //! changes. A refused call changes no table. A later version's call may take a table more: then its
 //! struct here has a field more, and a caller who lends none does not compile.
 //!
@@ -143,15 +144,15 @@ pub struct ReplayTables<'a> {
     pub t: usize,
     /// The share of a window's first part, in sixteenths. It changes `kept` and no answer.
     pub p: usize,
-    /// One end of each segment, at least m.
+    /// One end of each segment, exactly m.
     pub a: &'a [u16],
-    /// The other end of each segment, at least m.
+    /// The other end of each segment, exactly m.
     pub b: &'a [u16],
-    /// For each segment 1 where it is open at the start and 0 where it is closed, at least m.
+    /// For each segment 1 where it is open at the start and 0 where it is closed, exactly m.
     pub start: &'a [u16],
-    /// The first number of each event, at least t.
+    /// The first number of each event, exactly t.
     pub x: &'a [u16],
-    /// The second number of each event, at least t.
+    /// The second number of each event, exactly t.
     pub y: &'a [u16],
     /// At least t. An accepted replay fills the first t: [`NOT_JOINED`], [`JOINED_ONCE`], [`JOINED_TWICE`] or [`NO_QUERY`].
     pub answers: &'a mut [u8],
@@ -352,7 +353,7 @@ mod tests {
             let error = fits(archive).unwrap_err();
             assert_eq!(error, Error::Version { archive });
             assert_eq!(error.refusal(), None);
-            let words = format!("the archive has version {archive} of the calls, this package is for version 8");
+            let words = format!("the archive has version {archive} of the calls, this package is for version 9");
             assert_eq!(error.to_string(), words);
         }
     }

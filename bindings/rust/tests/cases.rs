@@ -316,8 +316,9 @@ fn starting_entries_above_1() {
     let wrong = list(3, 8, &TRIANGLE, &[(9, 9)]);
     assert_eq!(refusal(&wrong.clone().with_start(&[1, 2, 3])), (11, 1));
     assert_eq!(refusal(&wrong.clone().with_start(&[0, 1, 65535])), (11, 2));
-    // Entries past the segments are ignored.
-    assert_eq!(refusal(&wrong.with_start(&[0, 1, 0, 2])), (5, 0));
+    // An entry past the segments makes the table too long, whatever it is.
+    assert_eq!(refusal(&wrong.clone().with_start(&[0, 1, 0, 2])), (12, 0));
+    assert_eq!(refusal(&wrong.with_start(&[0, 1, 0, 0])), (12, 0));
 }
 
 #[test]
@@ -339,11 +340,14 @@ fn the_order_of_refusals() {
     // The second segment has the end that is no junction, the first the starting entry above 1.
     let mut l = list(2, 3, &[(0, 1), (0, 2)], &[(2, 0)]).with_start(&[2, 0]);
     l.work.pop();
+    l.y.push(0);
     l.n = 4097;
     assert_eq!(refusal(&l), (1, 0));
     l.n = 2;
     assert_eq!(refusal(&l), (2, 0));
     l.work.push(0);
+    assert_eq!(refusal(&l), (12, 0));
+    l.y.pop();
     assert_eq!(refusal(&l), (3, 0));
     l.p = 4;
     assert_eq!(refusal(&l), (4, 1));

@@ -93,7 +93,7 @@ fn pieces_tell_what_is_not_joined() {
 
 #[test]
 fn damaged_lists() {
-    let mut seen = [0; 12];
+    let mut seen = [0; 13];
     for seed in 0..6000 {
         let mut r = Numbers::from(50_000 + seed);
         let mut l = random_list(&mut r, 5, 6, 10);
@@ -104,7 +104,7 @@ fn damaged_lists() {
         let got = l.compare();
         seen[got.reply.map_or_else(|e| e.0, |_| 0)] += 1;
     }
-    for code in (0..8).chain([11]) {
+    for code in (0..8).chain([11, 12]) {
         assert!(seen[code] > 0, "a reply was never seen: {seen:?}");
     }
 }
@@ -119,7 +119,7 @@ fn damage(l: &mut common::List, r: &mut Numbers) {
         _ => r.below(8) as u16,
     };
     let place = r.below(12);
-    match r.below(13) {
+    match r.below(14) {
         0 => l.p = r.below(16),
         1 => l.n = r.below(8),
         2 => l.m = r.below(8),
@@ -129,11 +129,12 @@ fn damage(l: &mut common::List, r: &mut Numbers) {
         6 => l.answers.truncate(l.answers.len().saturating_sub(1 + r.below(3))),
         7 => l.start.truncate(l.start.len().saturating_sub(1 + r.below(3))),
         8 => l.names.truncate(l.names.len().saturating_sub(1 + r.below(3))),
+        9 => l.y.push(value),
         k => {
             let table = match k {
-                9 => &mut l.a,
-                10 => &mut l.start,
-                11 => &mut l.x,
+                10 => &mut l.a,
+                11 => &mut l.start,
+                12 => &mut l.x,
                 _ => &mut l.y,
             };
             if place < table.len() {

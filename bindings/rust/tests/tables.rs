@@ -1,8 +1,9 @@
-//! Each table one entry short, tables filled with junk, and refusals that leave every table as it was.
+//! Each table one entry short, each one that a replay only reads one entry longer, tables filled with junk, and refusals that leave every table as it was.
 
 mod common;
 
 use common::{random_graph, random_list, Graph, List, Numbers};
+use lumzhasel::tables::{CLOSES, OPENS};
 
 #[test]
 fn a_replay_with_one_table_short() {
@@ -33,6 +34,66 @@ fn a_replay_with_one_table_short() {
             }
         }
     }
+}
+
+/// Each of the five tables longer, alone and beside every other refusal: 1 and 2 before it, the others behind it.
+#[test]
+fn a_replay_with_one_table_longer() {
+    let lengthen: [fn(&mut List, u16); 5] = [
+        |l, v| l.a.push(v),
+        |l, v| l.b.push(v),
+        |l, v| l.start.push(v),
+        |l, v| l.x.push(v),
+        |l, v| l.y.push(v),
+    ];
+    // A fault, and its refusal where that comes before 12.
+    let faults: [(fn(&mut List), Option<usize>); 13] = [
+        (|_| (), None),
+        (|l| l.n = 4097, Some(1)),
+        (|l| l.m = 8193, Some(1)),
+        (|l| l.t = 4097, Some(1)),
+        (|l| l.answers.truncate(l.t - 1), Some(2)),
+        (|l| l.names.truncate(l.t - 1), Some(2)),
+        (|l| l.work.truncate(l.required() - 1), Some(2)),
+        (|l| l.p = 13, None),
+        (|l| l.b[0] = 5000, None),
+        (|l| l.start[0] = 2, None),
+        (|l| l.x[0] = 5000, None),
+        (|l| (l.start[0], l.x[0], l.y[0]) = (1, OPENS, 0), None),
+        (|l| (l.start[0], l.x[0], l.y[0]) = (0, CLOSES, 0), None),
+    ];
+    let mut lists = 0;
+    for seed in 0..300 {
+        let mut r = Numbers::from(60_000 + seed);
+        let mut l = random_list(&mut r, 6, 8, 12);
+        if l.m == 0 || l.t == 0 {
+            continue;
+        }
+        lists += 1;
+        l.fill_with_junk(&mut r);
+        for push in lengthen {
+            for (spoil, before) in faults {
+                let mut long = l.clone();
+                spoil(&mut long);
+                push(&mut long, r.below(65536) as u16);
+                let got = long.compare();
+                assert_eq!(got.reply, Err((before.unwrap_or(12), 0)));
+                assert_eq!((got.answers, got.names), (long.answers, long.names));
+                assert_eq!(got.work, long.work);
+            }
+        }
+        // One of them longer and another one short.
+        for short in 0..5 {
+            for long in (0..5).filter(|&long| long != short) {
+                let mut uneven = l.clone();
+                lengthen[long](&mut uneven, 0);
+                let l = &mut uneven;
+                [&mut l.a, &mut l.b, &mut l.start, &mut l.x, &mut l.y][short].pop();
+                assert_eq!(uneven.compare().reply, Err((2, 0)));
+            }
+        }
+    }
+    assert!(lists > 200, "{lists} lists have segments and events");
 }
 
 #[test]

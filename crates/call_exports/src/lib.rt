@@ -94,7 +94,7 @@ pub struct LumReplayReply {
 pub extern "C" fn lum_version() -> u32
     ensures { λ r. ⌜ r ≡ version ⌝ }
 {
-    8
+    9
 }
 
 // The kind of an event, by its number.

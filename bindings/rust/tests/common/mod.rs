@@ -212,7 +212,7 @@ impl List {
         List { start, ..self }
     }
 
-    fn required(&self) -> usize {
+    pub fn required(&self) -> usize {
         256 * self.t + 32 * self.n + 8 * self.m + 2048
     }
 
@@ -237,6 +237,10 @@ impl List {
         let short_list = self.x.len() < self.t || self.y.len() < self.t || self.answers.len() < self.t;
         if short_network || short_list || self.names.len() < self.t || self.work.len() < self.required() {
             return Some((2, 0));
+        }
+        let long_network = [&self.a, &self.b, &self.start].iter().any(|table| table.len() > self.m);
+        if long_network || self.x.len() > self.t || self.y.len() > self.t {
+            return Some((12, 0));
         }
         if self.p < 4 || self.p > 12 {
             return Some((3, 0));
@@ -651,12 +655,8 @@ pub fn random_graph(r: &mut Numbers, nodes: usize, edges: usize, entries: usize)
 }
 
 impl List {
-    /// Lengthens each table by some junk, and fills the written ones with it.
+    /// Lengthens each table that is written by some junk, and fills it with that.
     pub fn fill_with_junk(&mut self, r: &mut Numbers) {
-        for table in [&mut self.a, &mut self.b, &mut self.start, &mut self.x, &mut self.y] {
-            let more = r.below(4);
-            table.extend(r.junk(more));
-        }
         let (t, w) = (self.answers.len() + r.below(4), self.work.len() + r.below(4));
         self.answers = r.junk(t).iter().map(|v| *v as u8).collect();
         let t = self.names.len() + r.below(4);
