@@ -1,6 +1,6 @@
 -- What a reader of document 02, No. 3, expects: the byte and the name of a query are by the loss of roads, straight from the open segments and with no list
 -- of roads in sight; a window's network has just the roads that are open before it and that have no segment named in it; and what a step adds are new roads,
--- as demand 3 adds them. And of No. 6: the events of an accepted list have kinds.
+-- as demand 3 adds them. And of No. 6: the events of an accepted list have kinds. And of No. 7: its tables have just their sizes.
 -- Assumes nothing.
 use Prim.Native.Nat.{_+_, _<_, ℕ}
 use mathlib.Core.Bool.{_&&_, cond, false, not, true}
@@ -47,6 +47,11 @@ accepted-kinds l p h i u z =
     let (_, a) = replay-done l p h in
     let x : event (given l) i .0 ≡ getD (l .x) i 0 = ap (λ (e : Event). e .0) (pairs-at (l .x) (l .y) i (omega (arith, a .x-exact)) (omega (arith, a .y-exact))) in
     accepted-fine l p a i u .some (ap (kindOf (l .n)) x ∙ z)
+
+-- document 02, No. 7: what an accepted replay only reads has exactly its stated length
+pub accepted-lengths : (l : Lent) (p : ℕ) → (replay l p) .code ≡ 0
+    → (length (l .a) ≡ l .m) × (length (l .b) ≡ l .m) × (length (l .start) ≡ l .m) × (length (l .x) ≡ l .t) × (length (l .y) ≡ l .t)
+accepted-lengths l p h = let (_, a) = replay-done l p h in (a .a-exact, a .b-exact, a .start-exact, a .x-exact, a .y-exact)
 
 -- ---- a window's network, in terms of segments
 module _ (g : Timeline) (w : Window) where

@@ -60,10 +60,6 @@ replaySized m t start n a b x y p =
 abbrev pub replayFrom : List ℕ → ℕ → List ℕ → List ℕ → List ℕ → List ℕ → ℕ → Seen
 replayFrom start n a b x y p = replaySized (length a) (length x) start n a b x y p
 
--- a segment 0-1 that is open, and a query of its ends, with all entries past the sizes that the tables are given
-abbrev pub sized : ℕ → List ℕ → List ℕ → List ℕ → List ℕ → List ℕ → ℕ → Seen
-sized n a b start x y p = replaySized 1 1 (1 ∷ start) n (0 ∷ a) (1 ∷ b) (0 ∷ x) (1 ∷ y) p
-
 -- its names, with the share 8
 abbrev pub namesWith : List ℕ → List ℕ → ℕ → List ℕ → List ℕ → List ℕ → List ℕ → Seen
 namesWith names start n a b x y =
@@ -77,6 +73,10 @@ namesFrom start n a b x y = namesWith (replicate (suc (length x)) 9) start n a b
 -- with nothing open at the start, as document 01's cases are
 abbrev pub replayOf : ℕ → List ℕ → List ℕ → List ℕ → List ℕ → ℕ → Seen
 replayOf n a = replayFrom (replicate (length a) 0) n a
+
+-- an open segment 0-1 and a query of its ends: M and T are 1, and these entries stand behind those of A, B, the starting table, X and Y
+abbrev pub behind : ℕ → List ℕ → List ℕ → List ℕ → List ℕ → List ℕ → Seen
+behind n a b start x y = replaySized 1 1 (1 ∷ start) n (0 ∷ a) (1 ∷ b) (0 ∷ x) (1 ∷ y) 8
 
 -- with these tables of names, in and out, and of pieces; edge tables and map filled with 9
 abbrev pub contractionLent : List ℕ → List ℕ → List ℕ → ℕ → List ℕ → List ℕ → List ℕ → C.Lent
@@ -241,14 +241,14 @@ table =
     ∷ (replayOf 3 (0 ∷ []) (1 ∷ []) (65535 ∷ 65533 ∷ []) (0 ∷ 0 ∷ []) 8, replayed (5, 1, 0, 0, 0, 9 ∷ 9 ∷ []))
     ∷ (replayOf 0 [] [] (0 ∷ []) (0 ∷ []) 8, replayed (5, 0, 0, 0, 0, 9 ∷ []))
     -- A, B, the starting table, X and Y of just their sizes; then each of them with one entry more: 12
-    ∷ (sized 2 [] [] [] [] [] 8, replayed (0, 0, 1, 1, 2, 1 ∷ []))
-    ∷ (sized 2 (0 ∷ []) [] [] [] [] 8, replayed (12, 0, 0, 0, 0, 9 ∷ []))
-    ∷ (sized 2 [] (0 ∷ []) [] [] [] 8, replayed (12, 0, 0, 0, 0, 9 ∷ []))
-    ∷ (sized 2 [] [] (0 ∷ []) [] [] 8, replayed (12, 0, 0, 0, 0, 9 ∷ []))
-    ∷ (sized 2 [] [] [] (0 ∷ []) [] 8, replayed (12, 0, 0, 0, 0, 9 ∷ []))
-    ∷ (sized 2 [] [] [] [] (0 ∷ []) 8, replayed (12, 0, 0, 0, 0, 9 ∷ []))
-    -- A with one entry more, and N of 4,097: 1; and no entry in Y: 2; and the share 3, with ends, starting entry and event out of range: 12
-    ∷ (sized 4097 (0 ∷ []) [] [] [] [] 8, replayed (1, 0, 0, 0, 0, 9 ∷ []))
+    ∷ (behind 2 [] [] [] [] [], replayed (0, 0, 1, 1, 2, 1 ∷ []))
+    ∷ (behind 2 (0 ∷ []) [] [] [] [], replayed (12, 0, 0, 0, 0, 9 ∷ []))
+    ∷ (behind 2 [] (0 ∷ []) [] [] [], replayed (12, 0, 0, 0, 0, 9 ∷ []))
+    ∷ (behind 2 [] [] (0 ∷ []) [] [], replayed (12, 0, 0, 0, 0, 9 ∷ []))
+    ∷ (behind 2 [] [] [] (0 ∷ []) [], replayed (12, 0, 0, 0, 0, 9 ∷ []))
+    ∷ (behind 2 [] [] [] [] (0 ∷ []), replayed (12, 0, 0, 0, 0, 9 ∷ []))
+    -- A with one entry more, and N = 4,097: 1; and Y without an entry: 2; and p = 3, with ends, starting entry and event out of range: 12
+    ∷ (behind 4097 (0 ∷ []) [] [] [] [], replayed (1, 0, 0, 0, 0, 9 ∷ []))
     ∷ (replaySized 1 1 (1 ∷ []) 2 (0 ∷ 0 ∷ []) (1 ∷ []) (0 ∷ []) [] 8, replayed (2, 0, 0, 0, 0, 9 ∷ []))
     ∷ (replaySized 1 1 (2 ∷ []) 2 (9 ∷ 0 ∷ []) (9 ∷ []) (9 ∷ []) (9 ∷ []) 3, replayed (12, 0, 0, 0, 0, 9 ∷ []))
     -- the program: N = 177 is "refused 10 at 0"

@@ -43,9 +43,8 @@ pub record Faithful (g : Timeline) (w : Window) : Type 0 where
       → hangs (network g w ++ F) x y ≡ hangs (smallNamed g w ++ imageNamed (stands g w) F) (stands g w x) (stands g w y)
   pub nodes : (small g w) .nodes ≤ mostNodes (different (active g w))
 
--- lent alike but for the answer table, the name table and the work table. "Ignored entries", in which two replays may differ too, are from document 02,
--- No. 7, on only such as stand in these three: an accepted replay has none in the tables that it only reads (that M and T are the same follows where both
--- are accepted)
+-- lent alike but for the answer table, the name table and the work table. Only these three may have "ignored entries": an accepted replay has none in the
+-- tables that it only reads (document 02, No. 7). That M and T are the same follows where both are accepted
 pub record Alike (l k : Lent) : Type 0 where
   pub n : l .n ≡ k .n
   pub a : l .a ≡ k .a

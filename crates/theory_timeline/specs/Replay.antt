@@ -106,7 +106,7 @@ longTables l = longRows (readLengths l)
 abbrev pub shareFaults : ℕ → List Row
 shareFaults p = row (ltb p 4) 3 0 ∷ row (ltb 12 p) 3 0 ∷ []
 
--- then 4 at the first segment with an end not below N, then 11 at the first starting entry above 1, then the first event that shows 5, 6 or 7
+-- 4 at the first segment with an end not below N, then 11 at the first starting entry above 1, then the first event that shows 5, 6 or 7
 unfoldable pub listFaults : Lent → List Row
 listFaults l =
     let s : ℕ = seek (badEnds (l .n) (l .a) (l .b)) 0 (l .m) in
