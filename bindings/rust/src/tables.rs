@@ -333,8 +333,8 @@ pub fn contract(lent: ContractTables<'_>) -> Result<Contracted, Error> {
 ///
 /// # Errors
 ///
-/// [`Reason::Sizes`], [`Reason::Short`], [`Reason::Share`], [`Reason::End`] and [`Reason::Start`], in this
-/// order; then the first event that shows [`Reason::Event`], [`Reason::OpenTwice`] or [`Reason::NotOpen`].
+/// [`Reason::Sizes`], [`Reason::Short`], [`Reason::Long`], [`Reason::Share`], [`Reason::End`] and [`Reason::Start`], in
+/// this order; then the first event that shows [`Reason::Event`], [`Reason::OpenTwice`] or [`Reason::NotOpen`].
 pub fn replay(lent: ReplayTables<'_>) -> Result<Totals, Error> {
     check_version()?;
     let r = raw::replay(lent);
