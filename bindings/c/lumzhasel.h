@@ -14,9 +14,10 @@
  * refuses tables that are only read and longer than their sizes. A program that was built
  * with the header of one version and linked with the archive of another would hand over
  * its tables in the wrong places, and nothing else would notice. So compare lum_version()
- * with LUM_VERSION before the first other call, and make none where they differ. lum_version takes nothing and returns one
- * number in every version. Set the fields of a struct by their names, all of them. A code
- * above those below is a refusal too, by a reason that a later version names.
+ * with LUM_VERSION before the first other call, and make none where they differ.
+ * lum_version takes nothing and returns one number in every version. Set the fields of a
+ * struct by their names, all of them. A code above those below is a refusal too, by a
+ * reason that a later version names.
  *
  * WHAT THE CALLER OWES. The proofs begin where these hold, and no call can check them:
  *  - Each pointer points to at least as many entries as the length after it says,

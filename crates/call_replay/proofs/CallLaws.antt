@@ -145,14 +145,14 @@ module _ (l : Lent) (p : ℕ) (f : Faultless l p) where
   unfolding given
   list-need =
       let w = length-take-le need (l .work) (granted .work-long) in
-      let la = granted .a-exact in
-      let lx = granted .x-exact in
+      let la = granted .exact .a-exact in
+      let lx = granted .exact .x-exact in
       record {
         events = record {
           sound = accepted-sound l p granted;
-          segments = granted .b-exact ∙ sym la;
-          start-long = granted .start-exact ∙ sym la;
-          events = granted .y-exact ∙ sym lx;
+          segments = granted .exact .b-exact ∙ sym la;
+          start-long = granted .exact .start-exact ∙ sym la;
+          events = granted .exact .y-exact ∙ sym lx;
           much = omega (arith, granted .t-fits);
           room = omega arith;
         };
@@ -165,12 +165,12 @@ module _ (l : Lent) (p : ℕ) (f : Faultless l p) where
   queries-are : queriesBy (l .n) (l .x) (l .t) ≡ count (asksAt (given l)) 0 (l .t)
   unfolding given
   queries-are = queries-same (given l) (l .x) (l .t) (omega (arith, events-length l p granted)) λ i u.
-      sym (ap (λ (e : Event). e .0) (pairs-at (l .x) (l .y) i (omega (arith, granted .x-exact)) (omega (arith, granted .y-exact))))
+      sym (ap (λ (e : Event). e .0) (pairs-at (l .x) (l .y) i (omega (arith, granted .exact .x-exact)) (omega (arith, granted .exact .y-exact))))
 
   module _ {after : Written} {kept′ : ℕ} (d : RepliedOf l p after kept′) where
     replied : Replied (given l) 0 (l .t) p (written (l .answers) (l .names)) after kept′
     unfolding given
-    replied = rw (granted .x-exact) at d
+    replied = rw (granted .exact .x-exact) at d
 
     -- a table with an entry for each event written over its first entries
     table-is : (f : ℕ → ℕ) (before : List ℕ) → length (map f (range 0 (size (given l)))) ≤ length before

@@ -10,11 +10,12 @@ use lib.Seq.{length-sets, length-take-le, sets, take-suc}
 use native.Mathlib.Nat.{pow-suc}
 use native.Mathlib.Numerals.{add-one}
 use native.Mathlib.Omega.{arith}
-use borrow.Author.Tests.{le-ltb, lt-ltb, ltb-false, ltb-true}
+use borrow.Author.Tests.{ltb-false, ltb-true}
 use Rattle.theory_graph.proofs.Booleans.{onBool}
 use Rattle.theory_graph.proofs.TableLaws.{sets-append}
 use Rattle.call_kinds.specs.Kinds.{isQuery, kindOf}
 use Rattle.program_printing.specs.Printing.{Wrote}
+use Rattle.theory_timeline.proofs.Decimals.{spell-more, spell-one}
 use Rattle.theory_timeline.specs.Program.{decimal, queryLine, queryLines, spell}
 
 -- one byte more of a text
@@ -54,14 +55,6 @@ pub decimal-most : (n : ℕ) → length (decimal n) ≤ 20
 unfolding decimal
 decimal-most n = omega (arith, spell-most 20 n [])
 
-spell-one : (k n : ℕ) (rest : List ℕ) → n < 10 → spell (suc k) n rest ≡ (48 + n) ∷ rest
-unfolding spell
-spell-one k n rest l = ap (λ (b : Bool). elim b as (λ x. List ℕ) [ true ↦ (48 + n) ∷ rest | false ↦ spell k (n / 10) ((48 + n % 10) ∷ rest) ]) (lt-ltb n 10 l)
-
-spell-more : (k n : ℕ) (rest : List ℕ) → 10 ≤ n → spell (suc k) n rest ≡ spell k (n / 10) ((48 + n % 10) ∷ rest)
-unfolding spell
-spell-more k n rest l = ap (λ (b : Bool). elim b as (λ x. List ℕ) [ true ↦ (48 + n) ∷ rest | false ↦ spell k (n / 10) ((48 + n % 10) ∷ rest) ]) (le-ltb n 10 l)
-
 -- what follows stays behind
 spell-rest : (k n : ℕ) (rest : List ℕ) → spell k n rest ≡ spell k n [] ++ rest
 unfolding spell
@@ -81,10 +74,6 @@ spell-room (suc k) n rest l = onBool (ltb n 10)
     (λ t.
     let m = ltb-false n 10 t in
     spell-more (suc k) n rest m ∙ spell-room k (n / 10) ((48 + n % 10) ∷ rest) (omega (arith, pow-suc 10 (suc k))) ∙ sym (spell-more (suc (suc k)) n rest m))
-
-pub decimal-one : (n : ℕ) → n < 10 → decimal n ≡ (48 + n) ∷ []
-unfolding decimal
-decimal-one n l = spell-one 19 n [] l
 
 pub decimal-more : (n : ℕ) → 10 ≤ n → n < 18446744073709551616 → decimal n ≡ decimal (n / 10) ++ ((48 + n % 10) ∷ [])
 unfolding decimal

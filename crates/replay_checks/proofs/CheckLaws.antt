@@ -18,14 +18,13 @@ use Rattle.call_kinds.specs.declared.Kind.{Kind}
 use Rattle.call_kinds.specs.declared.Kind.the-variants.{Closes, None, Opens, Query}
 use Rattle.call_open_set.proofs.OpenSetLaws.{stored-length}
 use Rattle.call_open_set.specs.OpenSet.{bits, isOpen}
-use Rattle.call_sizes.proofs.RefusalLaws.{Numbered, below-long, fault-left, fault-right, fault-silent, long-numbered, numbered-append, seek-at, seek-end, short-numbered, silent-left, silent-right}
-use Rattle.call_sizes.proofs.RefusalLaws.{sizes-numbered}
+use Rattle.call_sizes.proofs.RefusalLaws.{Numbered, fault-left, fault-right, fault-silent, long-numbered, numbered-append, seek-at, seek-end, short-numbered, silent-left, silent-right, sizes-numbered}
 use Rattle.call_sizes.specs.Refusal.{Refusal, Row, badEnds, badStart, firstFault, row, seek}
 use Rattle.call_sizes.specs.Sizes.{sizeFaults}
 use Rattle.theory_graph.proofs.Booleans.{onBool}
 use Rattle.theory_graph.proofs.TableLaws.{pairs-at}
 use Rattle.theory_graph.specs.Lists.{pairs, sum}
-use Rattle.theory_timeline.proofs.Acceptance.{Accepted, accepted-from, accepted-sound, fault-fine, pairs-both}
+use Rattle.theory_timeline.proofs.Acceptance.{Accepted, accepted-from, accepted-sound, exact-from, fault-fine, pairs-both}
 use Rattle.theory_timeline.proofs.Networks.{after-append}
 use Rattle.theory_timeline.specs.Events.{Event, SegmentSet, after, afterAll, changes, closes, opens}
 use Rattle.theory_timeline.specs.Replay.{Lent, eventFault, fault, faultAt, faultOfKind, faults, given, listFaults, longTables, readLengths, shareFaults, shortTables, tableLengths}
@@ -46,7 +45,7 @@ ends-with l = ap (λ (k : List Event). afterAll (l .n) k (atStart (l .start))) (
 -- those open at the start are segments: the starting table is as long as the segments are many
 starts-below : (l : Lent) (p : ℕ) → Accepted l p → StartsBelow (given l)
 unfolding given
-starts-below l p a s h = omega (arith, start-below (l .start) s h, a .start-exact, pairs-both (l .a) (l .b) (a .a-exact) (a .b-exact))
+starts-below l p a s h = omega (arith, start-below (l .start) s h, a .exact .start-exact, pairs-both (l .a) (l .b) (a .exact .a-exact) (a .exact .b-exact))
 
 -- ---- 2, 12 and 3
 module _ (l : Lent) (p : ℕ) where
@@ -106,18 +105,12 @@ module _ (l : Lent) (p : ℕ) where
         can-check =
             let (a, b, c) = within in
             let s = fault-silent (boundFaults l p) (bounds-numbered l p) none in
-            let (la, (lb, (ls, (lx, (ly, _))))) = below-long 2 (tableLengths l) .0 (silent-left (shortTables l) (longTables l ++ shareFaults p) s) in
-            let (ma, (mb, (ms, (mx, (my, _))))) = below-long 12 (readLengths l) .0
-            (silent-left (longTables l) (shareFaults p) (silent-right (shortTables l) (longTables l ++ shareFaults p) s)) in
+            let v = silent-right (shortTables l) (longTables l ++ shareFaults p) s in
             record {
               n-fits = a;
               m-fits = b;
               t-fits = c;
-              a-exact = omega arith;
-              b-exact = omega arith;
-              start-exact = omega arith;
-              x-exact = omega arith;
-              y-exact = omega arith;
+              exact = exact-from l (silent-left (shortTables l) (longTables l ++ shareFaults p) s) (silent-left (longTables l) (shareFaults p) v);
             }
 
         -- what the check of the list finds is what the whole input has
@@ -187,7 +180,7 @@ module _ {n m t : ℕ} {a b start x y : List ℕ} (q : CanCheckList n m t a b st
           → {c i : ℕ} {held : List ℕ} → CheckedEvents n m (isOpen first) (pairs x y) t c i held
           → CheckedList n m t a b start x y (record { code = c; place = i; «open» = sum (bits held) })
       list-passed first o {held = held} k =
-          let o′ : isOpen first ≡ atStart start = o ∙ start-all m start (q .start-exact) in
+          let o′ : isOpen first ≡ atStart start = o ∙ start-all m start (q .exact .start-exact) in
           record {
             refusal = k .refusal ∙ ap (λ (o : SegmentSet). eventsFault n m o (pairs x y) t) o′ ∙ events-fault;
             last = λ z. (held, k .last z ∙ ap (afterAll n (pairs x y)) o′, refl);

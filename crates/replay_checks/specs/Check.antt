@@ -10,7 +10,7 @@ use Rattle.call_sizes.specs.Refusal.{Refusal, Row, firstFault, seek}
 use Rattle.theory_graph.specs.Lists.{pairs, sum}
 use Rattle.theory_timeline.specs.Call.{lent}
 use Rattle.theory_timeline.specs.Events.{Event, SegmentSet, afterAll}
-use Rattle.theory_timeline.specs.Replay.{Faultless, Lent, eventFault, fault, given, listFaults, longTables, openAtEnd, shareFaults, shortTables}
+use Rattle.theory_timeline.specs.Replay.{Exact, Faultless, Lent, eventFault, fault, given, listFaults, longTables, openAtEnd, shareFaults, shortTables}
 use Rattle.theory_timeline.specs.Windows.{atStart}
 use Rattle.replay_checks.specs.declared.Checked.{Checked}
 
@@ -47,11 +47,7 @@ pub record CanCheckList (n m t : ℕ) (a b start x y : List ℕ) : Type 0 where
   pub n-fits : n ≤ 4096
   pub m-fits : m ≤ 8192
   pub t-fits : t ≤ 4096
-  pub a-exact : length a ≡ m
-  pub b-exact : length b ≡ m
-  pub start-exact : length start ≡ m
-  pub x-exact : length x ≡ t
-  pub y-exact : length y ≡ t
+  pub exact : Exact m t a b start x y
 
 -- the tables that are read, which answers, names and work play no part in
 abbrev pub tablesOf : ℕ → ℕ → ℕ → List ℕ → List ℕ → List ℕ → List ℕ → List ℕ → Lent

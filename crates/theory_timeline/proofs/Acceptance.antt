@@ -28,7 +28,7 @@ use Rattle.call_sizes.specs.Refusal.{Refusal, Row, firstFault, badEnds, badStar
 use Rattle.call_sizes.specs.Sizes.{sizeFaults}
 use Rattle.theory_timeline.specs.DemandThree.{Allowed}
 use Rattle.theory_timeline.specs.Events.{Event, SegmentSet, activeOf, asks, changes, closes, ends, opens, pick}
-use Rattle.theory_timeline.specs.Replay.{Faultless, Lent, eventFault, fault, faultAt, faultOfKind, faults, given, listFaults, longTables, readLengths, required, shareFaults}
+use Rattle.theory_timeline.specs.Replay.{Exact, Faultless, Lent, eventFault, fault, faultAt, faultOfKind, faults, given, listFaults, longTables, readLengths, required, shareFaults}
 use Rattle.theory_timeline.specs.Replay.{shortTables, tableLengths}
 use Rattle.theory_timeline.specs.Steps.{Sound}
 use Rattle.theory_timeline.specs.Windows.{Timeline, Window, active, asksAt, changesAt, during, event, openBefore, size}
@@ -189,11 +189,7 @@ pub record Accepted (l : Lent) (p : ℕ) : Type 0 where
   pub n-fits : l .n ≤ 4096
   pub m-fits : l .m ≤ 8192
   pub t-fits : l .t ≤ 4096
-  pub a-exact : length (l .a) ≡ l .m
-  pub b-exact : length (l .b) ≡ l .m
-  pub start-exact : length (l .start) ≡ l .m
-  pub x-exact : length (l .x) ≡ l .t
-  pub y-exact : length (l .y) ≡ l .t
+  pub exact : Exact (l .m) (l .t) (l .a) (l .b) (l .start) (l .x) (l .y)
   pub answers-long : l .t ≤ length (l .answers)
   pub names-long : l .t ≤ length (l .names)
   pub work-long : required (l .t) (l .n) (l .m) ≤ length (l .work)
@@ -217,16 +213,22 @@ faults-numbered l p =
     (numbered-append (longTables l) (shareFaults p ++ listFaults l) (long-numbered (readLengths l))
     (numbered-append (shareFaults p) (listFaults l) (λ h. omega arith, (λ h. omega arith, tt)) (list-numbered l))))
 
+-- where neither 2 nor 12 refuses, what is only read has exactly its stated length
+pub exact-from : (l : Lent) → Silent (shortTables l) → Silent (longTables l) → Exact (l .m) (l .t) (l .a) (l .b) (l .start) (l .x) (l .y)
+exact-from l s v =
+    let (la, (lb, (ls, (lx, (ly, _))))) = below-long 2 (tableLengths l) .0 s in
+    let (ma, (mb, (ms, (mx, (my, _))))) = below-long 12 (readLengths l) .0 v in
+    record { a-exact = omega arith; b-exact = omega arith; start-exact = omega arith; x-exact = omega arith; y-exact = omega arith }
+
 pub accepted-from : (l : Lent) (p : ℕ) → Faultless l p → Accepted l p
 unfolding fault faults listFaults
 accepted-from l p h =
     let s = fault-silent (faults l p) (faults-numbered l p) h in
     let a = silent-left (sizeFaults (l .n) (l .m) (l .t) 0) (shortTables l ++ longTables l ++ shareFaults p ++ listFaults l) s in
     let r = silent-right (sizeFaults (l .n) (l .m) (l .t) 0) (shortTables l ++ longTables l ++ shareFaults p ++ listFaults l) s in
-    let least = below-long 2 (tableLengths l) .0 (silent-left (shortTables l) (longTables l ++ shareFaults p ++ listFaults l) r) in
-    let (la, (lb, (ls, (lx, (ly, (lr, (ln, (lw, _)))))))) = least in
+    let short = silent-left (shortTables l) (longTables l ++ shareFaults p ++ listFaults l) r in
+    let (_, (_, (_, (_, (_, (lr, (ln, (lw, _)))))))) = below-long 2 (tableLengths l) .0 short in
     let v = silent-right (shortTables l) (longTables l ++ shareFaults p ++ listFaults l) r in
-    let (ma, (mb, (ms, (mx, (my, _))))) = below-long 12 (readLengths l) .0 (silent-left (longTables l) (shareFaults p ++ listFaults l) v) in
     let q = silent-right (longTables l) (shareFaults p ++ listFaults l) v in
     let c = silent-left (shareFaults p) (listFaults l) q in
     let e = silent-right (shareFaults p) (listFaults l) q in
@@ -234,11 +236,7 @@ accepted-from l p h =
       n-fits = ltb-false 4096 (l .n) (a .0);
       m-fits = ltb-false 8192 (l .m) (a .1 .0);
       t-fits = ltb-false 4096 (l .t) (a .1 .1 .0);
-      a-exact = omega arith;
-      b-exact = omega arith;
-      start-exact = omega arith;
-      x-exact = omega arith;
-      y-exact = omega arith;
+      exact = exact-from l short (silent-left (longTables l) (shareFaults p ++ listFaults l) v);
       answers-long = lr;
       names-long = ln;
       work-long = lw;
@@ -251,17 +249,17 @@ accepted-from l p h =
 module _ (l : Lent) (p : ℕ) (a : Accepted l p) where
   pub events-length : size (given l) ≡ l .t
   unfolding given
-  events-length = pairs-both (l .x) (l .y) (a .x-exact) (a .y-exact)
+  events-length = pairs-both (l .x) (l .y) (a .exact .x-exact) (a .exact .y-exact)
 
   pub segments-length : length ((given l) .segments) ≡ l .m
   unfolding given
-  segments-length = pairs-both (l .a) (l .b) (a .a-exact) (a .b-exact)
+  segments-length = pairs-both (l .a) (l .b) (a .exact .a-exact) (a .exact .b-exact)
 
   pub accepted-ends : endsIn (λ v. ltb v (l .n)) ((given l) .segments) ≡ true
   unfolding given
   accepted-ends = endsIn-all (λ v. ltb v (l .n)) (pairs (l .a) (l .b)) λ k j.
-      let i : k < l .m = omega (arith, pairs-both (l .a) (l .b) (a .a-exact) (a .b-exact)) in
-      ap (λ (e : Edge). ltb (e .0) (l .n) && ltb (e .1) (l .n)) (pairs-at (l .a) (l .b) k (omega (arith, a .a-exact)) (omega (arith, a .b-exact)))
+      let i : k < l .m = omega (arith, pairs-both (l .a) (l .b) (a .exact .a-exact) (a .exact .b-exact)) in
+      ap (λ (e : Edge). ltb (e .0) (l .n) && ltb (e .1) (l .n)) (pairs-at (l .a) (l .b) k (omega (arith, a .exact .a-exact)) (omega (arith, a .exact .b-exact)))
       ∙ both (getD (l .a) k 0) (getD (l .b) k 0) (a .ends-fit k i)
     where
       both : (x y : ℕ) → (leb (l .n) x || leb (l .n) y) ≡ false → (ltb x (l .n) && ltb y (l .n)) ≡ true

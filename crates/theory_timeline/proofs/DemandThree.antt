@@ -161,7 +161,7 @@ both l k p q a b =
           let (e, c) = replay-done l p h in
           let (f, d) = replay-done k q j in
           let g = alike-given l k s in
-          let t : l .t ≡ k .t = sym (c .x-exact) ∙ ap length (s .x) ∙ d .x-exact in (
+          let t : l .t ≡ k .t = sym (c .exact .x-exact) ∙ ap length (s .x) ∙ d .exact .x-exact in (
             ap (λ (r : Outcome). take (l .t) (r .answers)) e ∙ answers-first l p c ∙ ap bytes g ∙ sym (answers-first k q d)
                 ∙ ap (λ (t : ℕ). take t ((done k q) .answers)) (sym t) ∙ ap (λ (r : Outcome). take (l .t) (r .answers)) (sym f),
             ap (λ (r : Outcome). take (l .t) (r .names)) e ∙ names-first l p c ∙ ap namesAt g ∙ sym (names-first k q d)

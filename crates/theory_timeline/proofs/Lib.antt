@@ -12,6 +12,7 @@ pub mod Steps
 pub mod Readers
 pub mod EmptyList
 pub mod ProgramLaws
+pub mod Decimals
 pub mod OutputLaws
 pub mod Leaves
 pub mod Cases

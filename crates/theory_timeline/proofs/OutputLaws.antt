@@ -8,9 +8,10 @@ use mathlib.Core.Path.{_∙_, _≡_, ap, refl, subst}
 use lib.Dec.{eqb, ltb}
 use lib.ListN.{getD, length-replicate, replicate}
 use native.Mathlib.Omega.{arith}
-use borrow.Author.Tests.{eqb-true, le-ltb, lt-ltb, ltb-false, ltb-true}
+use borrow.Author.Tests.{eqb-true, ltb-false, ltb-true}
 use Rattle.theory_graph.proofs.Booleans.{onBool}
 use Rattle.call_kinds.specs.Kinds.{isQuery, kindOf}
+use Rattle.theory_timeline.proofs.Decimals.{decimal-one, spell-more, spell-one}
 use Rattle.theory_timeline.proofs.ProgramLaws.{Said, fault-said, input-said}
 use Rattle.theory_timeline.specs.Program.{NeverAnswers, decimal, inputFault, inputLent, output, outputWith, printed, printedInput, queryLine, queryLines, refusedLine, shareOf, spell, totalsLine, words16}
 use Rattle.theory_timeline.specs.Replay.{Lent, Outcome, done, fault, refused, replay}
@@ -56,16 +57,9 @@ unfolding totalsLine
 totals-low q o k = omega arith
 
 -- ---- the number of a refusal's line
-decimal-one : (c : ℕ) → c < 10 → decimal c ≡ (48 + c) ∷ []
-unfolding decimal spell
-decimal-one c l = ap (λ (b : Bool). elim b as (λ x. List ℕ) [ true ↦ (48 + c) ∷ [] | false ↦ spell 19 (c / 10) ((48 + c % 10) ∷ []) ]) (lt-ltb c 10 l)
-
 decimal-two : (c : ℕ) → 10 ≤ c → c < 100 → decimal c ≡ (48 + c / 10) ∷ (48 + c % 10) ∷ []
-unfolding decimal spell
-decimal-two c h l =
-    let last : List ℕ = (48 + c % 10) ∷ [] in
-    ap (λ (b : Bool). elim b as (λ x. List ℕ) [ true ↦ (48 + c) ∷ [] | false ↦ spell 19 (c / 10) last ]) (le-ltb c 10 h)
-    ∙ ap (λ (b : Bool). elim b as (λ x. List ℕ) [ true ↦ (48 + c / 10) ∷ last | false ↦ spell 18 (c / 10 / 10) ((48 + c / 10 % 10) ∷ last) ]) (lt-ltb (c / 10) 10 (omega arith))
+unfolding decimal
+decimal-two c h l = spell-more 19 c [] h ∙ spell-one 18 (c / 10) ((48 + c % 10) ∷ []) (omega arith)
 
 -- a line with these digits
 abbrev line : List ℕ → ℕ → List ℕ

@@ -24,7 +24,7 @@ use Rattle.theory_timeline.proofs.RoadLaws.{road-same, road-twice, road
 use Rattle.theory_timeline.proofs.RoadNames.{roads-name}
 use Rattle.theory_timeline.specs.DemandThree.{NewRoads}
 use Rattle.theory_timeline.specs.Events.{Event, SegmentSet, named, namedRoads, networkOf, openRoads}
-use Rattle.theory_timeline.specs.Replay.{Lent, byte, given, nameAt, replay}
+use Rattle.theory_timeline.specs.Replay.{Exact, Lent, byte, given, nameAt, replay}
 use Rattle.theory_timeline.specs.Roads.{road, roadAnswer, roadName, sameEnds, sameRoad}
 use Rattle.theory_timeline.specs.Steps.{added}
 use Rattle.theory_timeline.specs.Windows.{Timeline, Window, asksAt, during, edgesOf, event, network, openBefore, segmentsOf}
@@ -45,13 +45,12 @@ pub accepted-kinds : (l : Lent) (p : ℕ) → (replay l p) .code ≡ 0 → (i : 
 unfolding given
 accepted-kinds l p h i u z =
     let (_, a) = replay-done l p h in
-    let x : event (given l) i .0 ≡ getD (l .x) i 0 = ap (λ (e : Event). e .0) (pairs-at (l .x) (l .y) i (omega (arith, a .x-exact)) (omega (arith, a .y-exact))) in
+    let x : event (given l) i .0 ≡ getD (l .x) i 0 = ap (λ (e : Event). e .0) (pairs-at (l .x) (l .y) i (omega (arith, a .exact .x-exact)) (omega (arith, a .exact .y-exact))) in
     accepted-fine l p a i u .some (ap (kindOf (l .n)) x ∙ z)
 
 -- document 02, No. 7: what an accepted replay only reads has exactly its stated length
-pub accepted-lengths : (l : Lent) (p : ℕ) → (replay l p) .code ≡ 0
-    → (length (l .a) ≡ l .m) × (length (l .b) ≡ l .m) × (length (l .start) ≡ l .m) × (length (l .x) ≡ l .t) × (length (l .y) ≡ l .t)
-accepted-lengths l p h = let (_, a) = replay-done l p h in (a .a-exact, a .b-exact, a .start-exact, a .x-exact, a .y-exact)
+pub accepted-lengths : (l : Lent) (p : ℕ) → (replay l p) .code ≡ 0 → Exact (l .m) (l .t) (l .a) (l .b) (l .start) (l .x) (l .y)
+accepted-lengths l p h = (replay-done l p h) .1 .exact
 
 -- ---- a window's network, in terms of segments
 module _ (g : Timeline) (w : Window) where

@@ -93,8 +93,15 @@ tableLengths l =
 abbrev pub shortTables : Lent → List Row
 shortTables l = shortRows (tableLengths l)
 
--- refusal 12 (document 02, No. 7): "A, B, the starting table, X and Y must have exactly their stated lengths", by each one's size and its length. The tables
--- that are written may be longer: entries past the sizes are ignored there, and stay
+-- document 02, No. 7: "A, B, the starting table, X and Y must have exactly their stated lengths"
+pub record Exact (m t : ℕ) (a b start x y : List ℕ) : Type 0 where
+  pub a-exact : length a ≡ m
+  pub b-exact : length b ≡ m
+  pub start-exact : length start ≡ m
+  pub x-exact : length x ≡ t
+  pub y-exact : length y ≡ t
+
+-- refusal 12: the size of each of these tables, and its length. The tables that are written may be longer: entries past the sizes are ignored there, and stay
 abbrev pub readLengths : Lent → List (ℕ × ℕ)
 readLengths l =
     (l .m, length (l .a)) ∷ (l .m, length (l .b)) ∷ (l .m, length (l .start)) ∷ (l .t, length (l .x)) ∷ (l .t, length (l .y)) ∷ []

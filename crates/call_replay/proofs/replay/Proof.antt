@@ -62,7 +62,7 @@ count-queries-requires : tie.Need-count-queries-requires
 count-queries-requires c κs =
     let at-replay-list = c .before .before .before .before .before .before in
     let checked = at-replay-list .before .before .before .before .before in
-    omega (arith, grants (checked .before .before .check .ensures) (zero checked) .x-exact)
+    omega (arith, grants (checked .before .before .check .ensures) (zero checked) .exact .x-exact)
 
 clear-requires : tie.Need-clear-requires
 clear-requires c κs =

@@ -6,7 +6,8 @@ use native.Mathlib.Omega.{arith}
 use borrow.Author.Needs.{needs}
 use borrow.Fn.Kinds.{In}
 use borrow.Fn.PlainCycle.{Measures, and, falls, is}
-use Rattle.program_printing.proofs.TextLaws.{decimal-length, decimal-more, decimal-one, wrote-as, wrote-length, wrote-then}
+use Rattle.program_printing.proofs.TextLaws.{decimal-length, decimal-more, wrote-as, wrote-length, wrote-then}
+use Rattle.theory_timeline.proofs.Decimals.{decimal-one}
 use Rattle.program_printing.proofs.+put_number.{statement}
 use Rattle.program_printing.proofs.+put_number.Tie.{close}
 use Rattle.theory_timeline.specs.Program.{decimal}
