@@ -22,6 +22,7 @@ use Rattle.theory_graph.specs.Graph.{Edge, answer}
 use Rattle.theory_graph.specs.Lists.{member, pairs, range, sum}
 use Rattle.theory_graph.specs.SmallGraph.{endsIn, image}
 use Rattle.theory_names.proofs.NamedContraction.{contract-is-named-small}
+use Rattle.theory_names.proofs.NamedCuts.{plain-append}
 use Rattle.theory_names.proofs.NamedSmallCuts.{named-small-carries}
 use Rattle.theory_names.proofs.NamedTransfer.{hangs-transfer}
 use Rattle.theory_names.specs.Names.{Named, classNode, hangs, plain}
@@ -30,10 +31,11 @@ use Rattle.call_sizes.specs.Refusal.{Refusal}
 use Rattle.theory_timeline.proofs.Acceptance.{Accepted, Good, accepted-from, accepted-good, events-length, fault-share, pick-inside}
 use Rattle.theory_timeline.proofs.Networks.{network-different}
 use Rattle.theory_timeline.proofs.RoadLaws.{different-answer, different-append}
+use Rattle.theory_timeline.proofs.RoadNames.{different-name}
 use Rattle.theory_timeline.specs.DemandThree.{Alike, Allowed, Among, Demand-3, Demand-3-of-calls, Demand3, Faithful, NewRoads, outcomeOf}
 use Rattle.theory_timeline.specs.Events.{networkOf}
 use Rattle.theory_timeline.specs.Replay.{Lent, Outcome, bytes, done, fault, given, namesAt, openAtEnd, queries, refused, replay}
-use Rattle.theory_timeline.specs.Roads.{DifferentRoads}
+use Rattle.theory_timeline.specs.Roads.{DifferentRoads, roadName}
 use Rattle.theory_timeline.specs.Windows.{Timeline, Window, active, atStart, kept, network, size, small, smallNamed, stands, windows}
 
 -- ---- one window
@@ -84,6 +86,10 @@ module _ (g : Timeline) (good : Good g) (w : Window) where
   pub added-different : (F : List Edge) → NewRoads (plain (network g w)) F → DifferentRoads (plain (network g w) ++ F)
   added-different F n = different-append (plain (network g w)) F (network-different g w) (n .different) (n .fresh)
 
+  -- so where new roads are added, as the answers ask, the names by entries are the names by the loss of roads
+  pub names-by-roads : (F : Named) → NewRoads (plain (network g w)) (plain F) → (x y : ℕ) → hangs (network g w ++ F) x y ≡ roadName (network g w ++ F) x y
+  names-by-roads F n x y = different-name (network g w ++ F) (subst DifferentRoads (sym (plain-append (network g w) F)) (added-different (plain F) n)) x y
+
   pub faithful : Faithful g w
   faithful = record {
     answers = λ F h n x y mx my. different-answer (plain (network g w) ++ F) (added-different F n) x y ∙ faithful-entries F h x y mx my;
@@ -92,27 +98,28 @@ module _ (g : Timeline) (good : Good g) (w : Window) where
   }
 
 -- ---- two replays
-pub replay-done : (l : Lent) (p : ℕ) → (replay l p) .code ≡ 0 → (replay l p ≡ done l p) × Accepted l p
+-- an accepted replay has the outcome `done`, and is one without a fault
+pub replay-done : (l : Lent) (p : ℕ) → (replay l p) .accepted ≡ true → (replay l p ≡ done l p) × Accepted l p
 unfolding replay refused
 replay-done l p = go (eqb (fault l p .0) 0) refl
   where
     go : (b : Bool) → eqb (fault l p .0) 0 ≡ b
-        → (elim b as (λ x. Outcome) [ true ↦ done l p | false ↦ refused l (fault l p) ]) .code ≡ 0
+        → (elim b as (λ x. Outcome) [ true ↦ done l p | false ↦ refused l (fault l p) ]) .accepted ≡ true
         → ((elim b as (λ x. Outcome) [ true ↦ done l p | false ↦ refused l (fault l p) ]) ≡ done l p) × Accepted l p
     go true e h = (refl, accepted-from l p (eqb-true (fault l p .0) 0 e))
-    go false e h = contradict (eq-eqb (fault l p .0) 0 h) e
+    go false e h = contradict h refl
 
 pub accepted-done : (l : Lent) (p : ℕ) → fault l p .0 ≡ 0 → replay l p ≡ done l p
 unfolding replay
 accepted-done l p h = ap (λ (b : Bool). elim b as (λ x. Outcome) [ true ↦ done l p | false ↦ refused l (fault l p) ]) (eq-eqb (fault l p .0) 0 h)
 
-done-verdict : (l : Lent) (p : ℕ) → (replay l p) .code ≡ 0 → fault l p .0 ≡ 0
+done-verdict : (l : Lent) (p : ℕ) → (replay l p) .accepted ≡ true → fault l p .0 ≡ 0
 unfolding replay refused
 done-verdict l p = go (eqb (fault l p .0) 0) refl
   where
-    go : (b : Bool) → eqb (fault l p .0) 0 ≡ b → (elim b as (λ x. Outcome) [ true ↦ done l p | false ↦ refused l (fault l p) ]) .code ≡ 0 → fault l p .0 ≡ 0
+    go : (b : Bool) → eqb (fault l p .0) 0 ≡ b → (elim b as (λ x. Outcome) [ true ↦ done l p | false ↦ refused l (fault l p) ]) .accepted ≡ true → fault l p .0 ≡ 0
     go true e h = eqb-true (fault l p .0) 0 e
-    go false e h = h
+    go false e h = contradict h refl
 
 range-length : (i n : ℕ) → length (range i n) ≡ n
 range-length i zero = refl
@@ -140,12 +147,12 @@ alike-given : (l k : Lent) → Alike l k → given l ≡ given k
 unfolding given
 alike-given l k h = λ i. record { junctions = h .n i; segments = pairs (h .a i) (h .b i); start = atStart (h .start i); events = pairs (h .x i) (h .y i) }
 
-code-done : (l : Lent) (p : ℕ) → (done l p) .code ≡ 0
+done-accepted : (l : Lent) (p : ℕ) → (done l p) .accepted ≡ true
 unfolding done
-code-done l p = refl
+done-accepted l p = refl
 
-share-done : (l : Lent) (p q : ℕ) → Allowed p → Allowed q → (replay l p) .code ≡ 0 → (replay l q) .code ≡ 0
-share-done l p q a b h = ap (λ (r : Outcome). r .code) (accepted-done l q (ap (λ (v : Refusal). v .0) (sym (fault-share l p q a b)) ∙ done-verdict l p h)) ∙ code-done l q
+share-done : (l : Lent) (p q : ℕ) → Allowed p → Allowed q → (replay l p) .accepted ≡ true → (replay l q) .accepted ≡ true
+share-done l p q a b h = ap (λ (r : Outcome). r .accepted) (accepted-done l q (ap (λ (v : Refusal). v .0) (sym (fault-share l p q a b)) ∙ done-verdict l p h)) ∙ done-accepted l q
 
 share-tables : (l : Lent) (p q : ℕ) → ((done l p) .answers ≡ (done l q) .answers) × ((done l p) .names ≡ (done l q) .names) × ((done l p) .work ≡ (done l q) .work)
 unfolding done
@@ -169,11 +176,11 @@ both l k p q a b =
             ap (λ (r : Outcome). r .queries) e ∙ ap queries g ∙ ap (λ (r : Outcome). r .queries) (sym f),
             ap (λ (r : Outcome). r .opened) e ∙ ap openAtEnd g ∙ ap (λ (r : Outcome). r .opened) (sym f),
           );
-      tables = λ e. subst (λ (k : Lent). ((replay l p) .code ≡ 0 ↔ (replay k q) .code ≡ 0)
-          × ((replay l p) .code ≡ 0 → ((replay l p) .answers ≡ (replay k q) .answers) × ((replay l p) .names ≡ (replay k q) .names) × ((replay l p) .work ≡ (replay k q) .work))) e same;
+      tables = λ e. subst (λ (k : Lent). ((replay l p) .accepted ≡ true ↔ (replay k q) .accepted ≡ true)
+          × ((replay l p) .accepted ≡ true → ((replay l p) .answers ≡ (replay k q) .answers) × ((replay l p) .names ≡ (replay k q) .names) × ((replay l p) .work ≡ (replay k q) .work))) e same;
     }
   where
-    same : ((replay l p) .code ≡ 0 ↔ (replay l q) .code ≡ 0) × ((replay l p) .code ≡ 0 → ((replay l p) .answers ≡ (replay l q) .answers) × ((replay l p) .names ≡ (replay l q) .names) × ((replay l p) .work ≡ (replay l q) .work))
+    same : ((replay l p) .accepted ≡ true ↔ (replay l q) .accepted ≡ true) × ((replay l p) .accepted ≡ true → ((replay l p) .answers ≡ (replay l q) .answers) × ((replay l p) .names ≡ (replay l q) .names) × ((replay l p) .work ≡ (replay l q) .work))
     same = (
       (share-done l p q a b, share-done l q p b a),
       λ h.

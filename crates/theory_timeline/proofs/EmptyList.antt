@@ -1,6 +1,7 @@
 -- A list without events: it returns 0, the segments that are open at the start, and 0.
 -- Assumes nothing.
 use Prim.Native.Nat.{ℕ}
+use mathlib.Core.Bool.{true}
 use mathlib.Core.List.{List, map}
 use mathlib.Core.Path.{_∙_, _≡_, ap, refl}
 use lib.ListN.{length}
@@ -28,7 +29,7 @@ start-of : (l : Lent) → (given l) .start ≡ atStart (l .start)
 unfolding given
 start-of l = refl
 
-module _ (l : Lent) (p : ℕ) (z : l .t ≡ 0) (a : (replay l p) .code ≡ 0) where
+module _ (l : Lent) (p : ℕ) (z : l .t ≡ 0) (a : (replay l p) .accepted ≡ true) where
   pub no-events : ((replay l p) .queries ≡ 0) × ((replay l p) .opened ≡ length (filter (atStart (l .start)) (range 0 (l .m)))) × ((replay l p) .kept ≡ 0)
   unfolding done
   no-events =

@@ -1,7 +1,7 @@
 -- Demand 3 on document 01's example, the triangle of three segments, with the shares 8 and 12: its hypotheses are met there, and its parts say what they
 -- should.
 -- Assumes nothing.
-use mathlib.Core.Bool.{false}
+use mathlib.Core.Bool.{false, true}
 use mathlib.Core.List.{List, List·Memᴰ, List·Memᴰ·head, List·Memᴰ·tail, [], _++_, _∷_}
 use mathlib.Core.Path.{_∙_, _≡_, ap, refl, subst, sym}
 use lib.ListN.{replicate}
@@ -40,7 +40,7 @@ triangle = record {
 abbrev both : Demand3 triangle triangle 8 12 (replay triangle 8) (replay triangle 12)
 both = demand-3 triangle triangle 8 12 (omega arith, omega arith) (omega arith, omega arith) (replay triangle 8) (replay triangle 12) refl refl
 
-accepted : (replay triangle 8) .code ≡ 0
+accepted : (replay triangle 8) .accepted ≡ true
 unfolding K.isQuery K.isOpening K.isClosing K.kindOf rep joined removals twoEdge answer without parts kept third linked keptClasses number contract activeOf road openRoads networkOf W.openBefore W.windowsFrom W.windows
     W.during W.network W.active W.small W.smallNamed W.stands W.kept hangs classNode contractNamed R.byte R.bytes R.nameAt R.namesAt R.queries R.openAtEnd R.given R.eventFault R.faultAt R.listFaults R.faults R.fault R.done R.refused R.replay
 accepted = refl
@@ -82,7 +82,7 @@ unfolding roadAnswer rep joined removals twoEdge answer
 repeated = (refl, refl)
 
 -- with the share 12 it is accepted too, and the tables hold the same afterwards
-pub example-shares : ((replay triangle 12) .code ≡ 0) × ((replay triangle 8) .answers ≡ (replay triangle 12) .answers)
+pub example-shares : ((replay triangle 12) .accepted ≡ true) × ((replay triangle 8) .answers ≡ (replay triangle 12) .answers)
     × ((replay triangle 8) .names ≡ (replay triangle 12) .names) × ((replay triangle 8) .work ≡ (replay triangle 12) .work)
 example-shares = let t = both .tables refl in (t .0 .0 accepted, t .1 accepted .0, t .1 accepted .1, t .1 accepted .2)
 

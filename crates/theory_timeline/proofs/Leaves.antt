@@ -79,10 +79,10 @@ map-from f zero j i l = absurd (omega arith)
 map-from f (suc k) j zero l = let e : j ≡ j + 0 = omega arith in ap f e
 map-from f (suc k) j (suc i) l = let e : suc j + i ≡ j + suc i = omega arith in map-from f k (suc j) i (omega arith) ∙ ap f e
 
-pub demand-2 : (l : Lent) (p : ℕ) (r : Outcome) → r ≡ replay l p → r .code ≡ 0 → Demand2 l p r
+pub demand-2 : (l : Lent) (p : ℕ) (r : Outcome) → r ≡ replay l p → r .accepted ≡ true → Demand2 l p r
 unfolding bytes byte namesAt nameAt
 demand-2 l p r e h =
-    let (f, a) = replay-done l p (ap (λ (r : Outcome). r .code) (sym e) ∙ h) in
+    let (f, a) = replay-done l p (ap (λ (r : Outcome). r .accepted) (sym e) ∙ h) in
     let good = accepted-good l p a in
     let n = events-length l p a in
     record {

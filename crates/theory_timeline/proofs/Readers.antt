@@ -41,7 +41,7 @@ unfolding nameAt
 name-roads g i = ap (λ (a : ℕ). cond (asksAt g i) a 65535) (roads-name (g .segments) (openBefore g i) (event g i .0) (event g i .1))
 
 -- document 02, No. 6: in an accepted list no event has the kind none
-pub accepted-kinds : (l : Lent) (p : ℕ) → (replay l p) .code ≡ 0 → (i : ℕ) → i < l .t → ¬ (kindOf (l .n) (getD (l .x) i 0) ≡ None)
+pub accepted-kinds : (l : Lent) (p : ℕ) → (replay l p) .accepted ≡ true → (i : ℕ) → i < l .t → ¬ (kindOf (l .n) (getD (l .x) i 0) ≡ None)
 unfolding given
 accepted-kinds l p h i u z =
     let (_, a) = replay-done l p h in
@@ -49,7 +49,7 @@ accepted-kinds l p h i u z =
     accepted-fine l p a i u .some (ap (kindOf (l .n)) x ∙ z)
 
 -- document 02, No. 7: what an accepted replay only reads has exactly its stated length
-pub accepted-lengths : (l : Lent) (p : ℕ) → (replay l p) .code ≡ 0 → Exact (l .m) (l .t) (l .a) (l .b) (l .start) (l .x) (l .y)
+pub accepted-lengths : (l : Lent) (p : ℕ) → (replay l p) .accepted ≡ true → Exact (l .m) (l .t) (l .a) (l .b) (l .start) (l .x) (l .y)
 accepted-lengths l p h = (replay-done l p h) .1 .exact
 
 -- ---- a window's network, in terms of segments

@@ -1,9 +1,12 @@
 -- Demand 3: one statement about two replays, with its parts (a) to (e). Its proof is proofs/DemandThree.
--- It cites, of Replay: Lent, given, Outcome, replay; of Call: outcome; of Windows: windows, network, active, small, smallNamed, stands; of Roads: roadAnswer, the
--- answer of two junctions by the loss of roads, DifferentRoads, Apart; of the crate theory_graph: answer, the answer of two nodes by the loss of edges, image,
--- the edges of a list with their ends moved, different, the number of different entries, and mostNodes, the bound 2k - 2 (k where k is below 2).
+-- It cites, of Replay: Lent, given, Outcome, replay; of Call: outcome, with the reply's type ReplayReply; of Windows: Timeline, Window, windows, network, active,
+-- small, smallNamed, stands; of Roads: roadAnswer, the answer of two junctions by the loss of roads, DifferentRoads, Apart; of the crate theory_graph: Edge,
+-- answer, the answer of two nodes by the loss of edges, image, the edges of a list with their ends moved, different, the number of different entries, mostNodes,
+-- the bound 2k - 2 (k where k is below 2), and sum; of the crate theory_names: Named, a list of edges with names, plain, the edges alone, hangs, the smallest
+-- name of an edge whose loss parts two nodes, and imageNamed, the edges of a list with their ends moved and their names kept.
 -- Assumes nothing: these are definitions.
 use Prim.Native.Nat.{_≤_, ℕ}
+use mathlib.Core.Bool.{true}
 use mathlib.Core.List.{List, List·Memᴰ, _++_, map}
 use mathlib.Core.Logic.{_↔_}
 use mathlib.Core.Path.{_≡_}
@@ -16,7 +19,7 @@ use Rattle.theory_names.specs.NamedSmallGraph.{imageNamed}
 use Rattle.theory_timeline.specs.Call.{outcome}
 use Rattle.theory_timeline.specs.Replay.{Lent, Outcome, given, replay}
 use Rattle.theory_timeline.specs.Roads.{Apart, DifferentRoads, roadAnswer}
-use Rattle.theory_timeline.specs.Windows.{Timeline, Window, active, kept, network, small, smallNamed, stands, windows}
+use Rattle.theory_timeline.specs.Windows.{Timeline, Window, active, network, small, smallNamed, stands, windows}
 use Rattle.theory_timeline.specs.declared.ReplayReply.{ReplayReply}
 
 -- ---- the words of the statement
@@ -53,18 +56,19 @@ pub record Alike (l k : Lent) : Type 0 where
   pub x : l .x ≡ k .x
   pub y : l .y ≡ k .y
 
--- ---- the statement: r is the outcome of lending l with the share p, s that of lending k with the share q; code 0 is acceptance
+-- ---- the statement: r is the outcome of lending l with the share p, s that of lending k with the share q
 pub record Demand3 (l k : Lent) (p q : ℕ) (r s : Outcome) : Type 0 where
   -- (a), (b)
-  pub faithful : r .code ≡ 0 → (w : Window) → List·Memᴰ w (windows p (l .t)) → Faithful (given l) w
+  pub faithful : r .accepted ≡ true → (w : Window) → List·Memᴰ w (windows p (l .t)) → Faithful (given l) w
   -- (c)
-  pub kept : r .code ≡ 0 → r .kept ≡ sum (map (λ w. (small (given l) w) .nodes) (windows p (l .t)))
+  pub kept : r .accepted ≡ true → r .kept ≡ sum (map (λ w. (small (given l) w) .nodes) (windows p (l .t)))
   -- (d)
-  pub alike : r .code ≡ 0 → s .code ≡ 0 → Alike l k
+  pub alike : r .accepted ≡ true → s .accepted ≡ true → Alike l k
       → (take (l .t) (r .answers) ≡ take (l .t) (s .answers)) × (take (l .t) (r .names) ≡ take (l .t) (s .names))
       × (r .queries ≡ s .queries) × (r .opened ≡ s .opened)
   -- (e)
-  pub tables : l ≡ k → (r .code ≡ 0 ↔ s .code ≡ 0) × (r .code ≡ 0 → (r .answers ≡ s .answers) × (r .names ≡ s .names) × (r .work ≡ s .work))
+  pub tables : l ≡ k → (r .accepted ≡ true ↔ s .accepted ≡ true)
+      × (r .accepted ≡ true → (r .answers ≡ s .answers) × (r .names ≡ s .names) × (r .work ≡ s .work))
 
 abbrev pub Demand-3 : Type 0
 Demand-3 = (l k : Lent) (p q : ℕ) → Allowed p → Allowed q → (r s : Outcome) → r ≡ replay l p → s ≡ replay k q → Demand3 l k p q r s
