@@ -50,9 +50,10 @@ pub fn closed(held: [u64; 128], s: usize) -> [u64; 128]
     next
 }
 
-// Whether segment s is in the set.
-pub fn is_open(held: [u64; 128], s: usize) -> bool
-    ensures { λ r. ⌜ r ≡ isOpen held s ⌝ }
+// Internal: whether segment s is in a set that is only looked at, so that 1 KB is not copied for it.
+pub fn contains(held: &[u64; 128], s: usize) -> bool
+    requires { ⌜ length (now held) ≡ 128 ⌝ }
+    ensures { λ r. ⌜ r ≡ isOpen (now (held .entry)) s ⌝ }
 {
     if s >= 8192 {
         return false;
@@ -60,6 +61,13 @@ pub fn is_open(held: [u64; 128], s: usize) -> bool
     let i = s / 64;
     let b = s % 64;
     (held[i] >> b) % 2 == 1
+}
+
+// Whether segment s is in the set.
+pub fn is_open(held: [u64; 128], s: usize) -> bool
+    ensures { λ r. ⌜ r ≡ isOpen held s ⌝ }
+{
+    contains(&held, s)
 }
 
 // Internal: the set of those of the first m segments whose entry in a starting table is 1. It is filled in place: no event changes it yet.
@@ -85,6 +93,7 @@ pub fn count(held: [u64; 128]) -> usize
     ensures { λ r. ⌜ r ≡ sum (bits held) ⌝ }
 {
     let mut n: usize = 0;
+    // n is the number of ones in the first i words.
     for i in 0..128 {
         n += u64::count_ones(held[i]) as usize;
     }

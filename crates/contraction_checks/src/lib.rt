@@ -65,6 +65,7 @@ fn first_bad_entry(n: usize, k: usize, active: &[u16]) -> usize
     ensures { λ r. ⌜ r ≡ seek (badEntry n (now (active .entry))) 0 k ⌝ }
 {
     let mut i: usize = 0;
+    // The entries before i are nodes.
     while i < k {
         if n <= active[i] as usize {
             return i;

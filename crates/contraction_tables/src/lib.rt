@@ -14,6 +14,7 @@ fn enter_active(work: &mut [u32], n: usize, k: usize, active: &[u16]) -> usize
     ensures { λ r. ⌜ Entries n (take k (now (active .entry))) (now (work .entry)) (now (work .exit)) r ⌝ }
 {
     let mut d: usize = 0;
+    // The first i entries are entered, and d is how many different nodes they are.
     for i in 0..k {
         let v = active[i] as usize;
         d = core_loading::enter(work, n, d, v);
@@ -27,6 +28,7 @@ fn put_edges(work: &mut [u32], n: usize, m: usize, from: &[u16], to: &[u16], nam
         × (m ≤ length (now from)) × (m ≤ length (now to)) × (m ≤ length (now names)) ⌝ }
     ensures { λ _. ⌜ Edges n m (now (from .entry)) (now (to .entry)) (now (names .entry)) (now (work .entry)) (now (work .exit)) m ⌝ }
 {
+    // The first s edges stand in the half-edges, with their names.
     for s in 0..m {
         let a = from[s] as usize;
         let b = to[s] as usize;
@@ -62,6 +64,7 @@ pub fn fill_map(work: &[u32], n: usize, k: usize, active: &[u16], map: &mut [u16
         × ((i : ℕ) → i < k → (getD (now active) i 0 < n) × (node MAPPED (now work) (getD (now active) i 0) < 65536)) ⌝ }
     ensures { λ _. ⌜ now (map .exit) ≡ over (table (λ i. node MAPPED (now (work .entry)) (getD (now (active .entry)) i 0)) 0 k) (now (map .entry)) ⌝ }
 {
+    // The first i entries of the map are written, and the others are as they were.
     for i in 0..k {
         let x = core_words::get(work, active[i] as usize, MAPPED);
         map[i] = x as u16;
@@ -73,6 +76,7 @@ pub fn fill_ends(work: &[u32], e: usize, j: usize, out: &mut [u16])
     requires { ⌜ (16 * e ≤ length (now work)) × (e ≤ length (now out)) × (j < 16) × ((i : ℕ) → i < e → node j (now work) i < 65536) ⌝ }
     ensures { λ _. ⌜ now (out .exit) ≡ over (table (node j (now (work .entry))) 0 e) (now (out .entry)) ⌝ }
 {
+    // The first i entries are written, and the others are as they were.
     for i in 0..e {
         let x = core_words::get(work, i, j);
         out[i] = x as u16;
@@ -86,6 +90,7 @@ fn number_trees(work: &mut [u32], n: usize, k: usize, active: &[u16], pieces: &m
     ensures { λ _. ⌜ TreesNumbered n k (now (active .entry)) (now (work .entry)) (now (work .exit)) (now (pieces .entry)) (now (pieces .exit)) ⌝ }
 {
     let mut trees: usize = 0;
+    // The first j entries have their pieces, and `trees` is how many trees they lie in: the roots of these are marked by their numbers.
     for j in 0..k {
         let r = core_words::get(work, active[j] as usize, ROOT);
         trees = core_loading::enter(work, n, trees, r);

@@ -1,3 +1,5 @@
+// The pass that finds the kept classes: those of active nodes are numbered first, then those with two branches below them to active nodes. Last, the way up
+// from each kept class to the nearest one above, with the smallest name along it.
 use core_words::*;
 ghost use mathlib.Core.Path.{_≡_};
 ghost use Prim.Native.Nat.{_+_, min};
@@ -37,6 +39,7 @@ fn number_actives(work: &mut [u32], n: usize, k: usize) -> usize
     ensures { λ h. ⌜ NumberingActives n k (now (work .entry)) k h (now (work .exit)) ⌝ }
 {
     let mut h = 0;
+    // The classes of the first i active nodes have the numbers below h, in order of first appearance.
     for i in 0..k {
         let v = core_words::get(work, i, ACTIVE);
         h = number_active(work, n, h, v);
@@ -75,6 +78,7 @@ fn count_branches(work: &mut [u32], n: usize, seen: usize)
     ensures { λ _. ⌜ Counting n seen (now (work .entry)) 0 (now (work .exit)) ⌝ }
 {
     let mut i = seen;
+    // The nodes of the order from place i on have reported.
     while i != 0 {
         i -= 1;
         let v = core_words::get(work, i, ORDER);
@@ -110,6 +114,7 @@ fn number_others(work: &mut [u32], n: usize, h: usize) -> usize
     ensures { λ r. ⌜ NumberingOthers n h (now (work .entry)) n r (now (work .exit)) ⌝ }
 {
     let mut r = h;
+    // Of the classes without an active node those that are kept and hold a node below v have a number, and r classes have one.
     for v in 0..n {
         r = number_other(work, n, r, v);
     }
@@ -164,6 +169,7 @@ fn way_up(work: &[u32], n: usize, m: usize, v: usize) -> Way
     let mut q = first.top;
     let mut x = first.number;
     let mut c = first.name;
+    // The way has come to the class of q, c is the smallest name on it, and x is one more than the number of that class, 0 where it has none.
     while x == 0 {
         let next = step_up(work, n, m, q);
         q = next.top;
@@ -195,6 +201,7 @@ fn parent_numbers(work: &mut [u32], n: usize, m: usize, h: usize)
     requires { ⌜ CanSetParents n m h (now work) ⌝ }
     ensures { λ _. ⌜ ParentLoop n (now (work .entry)) h (now (work .exit)) ⌝ }
 {
+    // The numbers below x have the number above them and the smallest name on the way to it.
     for x in 0..h {
         parent_number(work, n, m, x);
     }

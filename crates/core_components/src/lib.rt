@@ -1,3 +1,5 @@
+// The pass that finds the classes, the 2-edge-connected components: for each edge that is no tree edge the classes on the tree path between its ends are
+// merged, by union with path halving. A class is told by its top, its node that comes first in the order.
 use core_words::*;
 ghost use mathlib.Core.Path.{_≡_};
 ghost use Prim.Native.Nat.{_+_, _*_, _<_, _≤_};
@@ -15,6 +17,7 @@ fn find(work: &mut [u32], n: usize, v: usize) -> usize
 {
     let mut v = v;
     let mut u = core_words::get(work, v, TOP);
+    // v is reached from the first v along tops, u is v's top, and no node has another final top than before.
     while u != v {
         let t = core_words::get(work, u, TOP);
         core_words::put(work, v, TOP, t);
@@ -42,6 +45,7 @@ fn merge_tops(work: &mut [u32], n: usize, a: usize, b: usize)
 {
     let mut a = a;
     let mut b = b;
+    // What is left to merge of the tree path is the part between the tops a and b; each turn brings the later of the two to an earlier place of the order.
     while a != b {
         let pa = core_words::get(work, a, POSITION);
         let pb = core_words::get(work, b, POSITION);
@@ -90,6 +94,7 @@ fn merge_edges(work: &mut [u32], n: usize, m: usize)
     requires { ⌜ CanMerge n m (now work) ⌝ }
     ensures { λ _. ⌜ EdgesMerged n m (now (work .entry)) m (now (work .exit)) ⌝ }
 {
+    // The tree paths of the first e edges are merged.
     for e in 0..m {
         merge_edge(work, n, m, e);
     }
@@ -100,6 +105,7 @@ fn start_tops(work: &mut [u32], n: usize)
     requires { ⌜ (16 * n ≤ length (now work)) × (n ≤ 65536) ⌝ }
     ensures { λ _. ⌜ OwnTops n n (now (work .entry)) (now (work .exit)) ⌝ }
 {
+    // The nodes below v are their own tops.
     for v in 0..n {
         core_words::put(work, v, TOP, v);
     }
@@ -120,6 +126,7 @@ fn compress_all(work: &mut [u32], n: usize, seen: usize)
     requires { ⌜ CanCompress n seen (now work) ⌝ }
     ensures { λ _. ⌜ Compressed n seen (now (work .entry)) (now (work .exit)) ⌝ }
 {
+    // The first i nodes of the order have their final tops.
     for i in 0..seen {
         let v = core_words::get(work, i, ORDER);
         compress(work, n, v);

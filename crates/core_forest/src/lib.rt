@@ -1,3 +1,5 @@
+// The first passes of the contraction: the adjacency list of each node, then a spanning forest of all that the active nodes reach, breadth first, each tree
+// with an active root. The order of the search is its queue.
 use core_words::*;
 ghost use mathlib.Core.Path.{_≡_};
 ghost use Prim.Native.Nat.{_+_, _*_, _<_};
@@ -21,6 +23,7 @@ pub fn link_edges(work: &mut [u32], n: usize, m: usize)
     requires { ⌜ CanLink n m (now work) ⌝ }
     ensures { λ _. ⌜ Linking n m (now (work .entry)) (now (work .exit)) (2 * m) × AdjacencyLists n m (now (work .exit)) ⌝ }
 {
+    // The half-edges of the first e edges are linked.
     for e in 0..m {
         let x = core_words::get_half(work, n, 2 * e, TO);
         let y = core_words::get_half(work, n, 2 * e + 1, TO);
@@ -72,6 +75,7 @@ fn scan_node(work: &mut [u32], n: usize, m: usize, done: usize, seen: usize, r: 
     let v = core_words::get(work, done, ORDER);
     let mut seen = seen;
     let mut cur = core_words::get(work, v, HEAD);
+    // The half-edges of v from `cur` on have been followed, and `cur` is one more than the next in v's list, 0 at its end.
     while cur != 0 {
         seen = visit_half(work, n, m, done, seen, r, v, cur - 1);
         cur = core_words::get_half(work, n, cur - 1, NEXT);
@@ -86,6 +90,7 @@ fn grow_tree(work: &mut [u32], n: usize, m: usize, done: usize, seen: usize, r: 
 {
     let mut done = done;
     let mut seen = seen;
+    // The far ends of all half-edges out of the first `done` nodes of the order are seen.
     while done < seen {
         seen = scan_node(work, n, m, done, seen, r);
         done += 1;
@@ -114,6 +119,7 @@ pub fn spanning_forest(work: &mut [u32], n: usize, m: usize, k: usize) -> usize
     ensures { λ s. ⌜ SearchKeeps n (now (work .entry)) (now (work .exit)) × BetweenTrees n m k (now (work .exit)) s k × ForestAt n m (now (work .exit)) ⌝ }
 {
     let mut seen = 0;
+    // The first j active nodes are seen, with all that they reach.
     for j in 0..k {
         seen = start_tree(work, n, m, k, seen, j);
     }

@@ -34,6 +34,7 @@ pub fn name_edges(work: &mut [u32], n: usize, e: usize)
     requires { ⌜ CanNameEdges n e (now work) ⌝ }
     ensures { λ _. ⌜ NamingEdges n (now (work .entry)) e (now (work .exit)) ⌝ }
 {
+    // The first j edges have their names.
     for j in 0..e {
         name_edge(work, n, j);
     }

@@ -67,6 +67,7 @@ fn push_children(work: &mut [u32], n: usize, h: usize)
     ensures { λ _. ⌜ Pushing n h (now (work .entry)) (now (work .exit)) 0 ⌝ }
 {
     let mut x = h;
+    // The numbers from x on stand in the lists of their parents, where these are smaller, and each list ascends.
     while x != 0 {
         x -= 1;
         push_child(work, n, h, x);
@@ -93,6 +94,7 @@ fn write_row(work: &mut [u32], n: usize, h: usize, s: usize, m: usize) -> usize
     let mut m = m;
     let o = if_above(u, f);
     let mut t = least_nonzero(c, o);
+    // The edges of s up to the larger end f - 1 are written; t is one more than the next larger end, 0 where there is none, and c the next of the list.
     while t != 0 {
         write_edge(work, n, h, m, s, f, t);
         m += 1;
@@ -110,6 +112,7 @@ fn write_rows(work: &mut [u32], n: usize, h: usize) -> usize
     ensures { λ r. ⌜ Writing n h (now (work .entry)) (now (work .exit)) r h (h + 1) ⌝ }
 {
     let mut m: usize = 0;
+    // The m edges whose smaller end is below s are written.
     for s in 0..h {
         m = write_row(work, n, h, s, m);
     }

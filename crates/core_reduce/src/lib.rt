@@ -57,6 +57,7 @@ fn clear_nodes(work: &mut [u32], n: usize)
     requires { ⌜ (16 * n ≤ length (now work)) × (n ≤ 65536) ⌝ }
     ensures { λ _. ⌜ Cleared startFields n n (now (work .entry)) (now (work .exit)) ⌝ }
 {
+    // The nodes below v are cleared.
     for v in 0..n {
         clear_node(work, n, v);
     }
@@ -77,6 +78,7 @@ fn write_numbers(work: &mut [u32], n: usize, k: usize)
     requires { ⌜ CanWrite n k (now work) ⌝ }
     ensures { λ _. ⌜ WritingNumbers n (now (work .entry)) k (now (work .exit)) ⌝ }
 {
+    // MAPPED of the first i active nodes is the number of their class.
     for i in 0..k {
         let v = core_words::get(work, i, ACTIVE);
         let x = class_number(work, n, v);

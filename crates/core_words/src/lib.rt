@@ -1,7 +1,9 @@
+// The words of a graph that is contracted: sixteen for each node, told by the names of fields, then three for each half-edge. They are read, set and cleared
+// here, and what is proved of the crates above is said of these fields. In order: the fields' names, one word, fields of nodes, fields of half-edges, clearing.
 ghost use mathlib.Core.Path.{_≡_};
 ghost use mathlib.Core.List.{[], _∷_};
 ghost use Prim.Native.Nat.{_+_, _*_, _<_, _≤_};
-ghost use lib.ListN.{length, replicate};
+ghost use lib.ListN.{getD, length, replicate};
 ghost use Rattle.theory_graph.specs.Lists.{over};
 ghost use Rattle.core_words.specs.Clearing.{Cleared};
 ghost use Rattle.core_words.specs.Fields.{node, half, Put, PutHalf};
@@ -58,6 +60,14 @@ pub const NEXT: usize = 1;
 
 pub const NAME: usize = 2;
 
+// Internal: the word at place i.
+pub fn word(work: &[u32], i: usize) -> usize
+    requires { ⌜ i < length (now work) ⌝ }
+    ensures { λ r. ⌜ (r ≡ getD (now (work .entry)) i 0) × (r < 4294967296) ⌝ }
+{
+    work[i] as usize
+}
+
 // Internal: field k of node v.
 pub fn get(work: &[u32], v: usize, k: usize) -> usize
     requires { ⌜ 16 * v + k < length (now work) ⌝ }
@@ -95,6 +105,7 @@ pub fn clear_field(work: &mut [u32], n: usize, k: usize, h: usize)
     requires { ⌜ (16 * n ≤ length (now work)) × (n ≤ 65536) × (h ≤ n) × (k < 16) ⌝ }
     ensures { λ _. ⌜ Cleared (k ∷ []) n h (now (work .entry)) (now (work .exit)) ⌝ }
 {
+    // Field k of the nodes below v is 0.
     for v in 0..h {
         put(work, v, k, 0);
     }
@@ -105,6 +116,7 @@ pub fn clear(work: &mut [u32], count: usize)
     requires { ⌜ count ≤ length (now work) ⌝ }
     ensures { λ _. ⌜ now (work .exit) ≡ over (replicate count 0) (now (work .entry)) ⌝ }
 {
+    // The first i words are 0, and the others are as they were.
     for i in 0..count {
         work[i] = 0;
     }

@@ -10,6 +10,7 @@ fn put_text(out: &mut [u8], at: usize, text: &[u8]) -> usize
     ensures { λ r. ⌜ Wrote at (now (text .entry)) (now (out .entry)) (now (out .exit)) r ⌝ }
 {
     let mut i: usize = 0;
+    // The first i bytes of the text are written.
     while i < text.len() {
         out[at + i] = text[i];
         i += 1;

@@ -52,6 +52,7 @@ pub fn fill(input: &[u8], i: usize, k: usize, table: &mut [u16])
     requires { ⌜ (2 * (i + k) ≤ length (now input)) × (k ≤ length (now table)) × (k ≤ 65536) × (i ≤ 65536) ⌝ }
     ensures { λ _. ⌜ Filled (words16 (now (input .entry))) i k (now (table .entry)) (now (table .exit)) ⌝ }
 {
+    // The first j entries are filled.
     for j in 0..k {
         table[j] = number(input, i + j);
     }

@@ -27,19 +27,6 @@ pub(crate) struct Held {
     pub held: [u64; 128],
 }
 
-// Whether segment s is in the set. Only read, so that no event copies the set for it.
-fn contains(words: &[u64; 128], s: usize) -> bool
-    requires { ⌜ length (now words) ≡ 128 ⌝ }
-    ensures { λ r. ⌜ r ≡ isOpen (now (words .entry)) s ⌝ }
-{
-    if s >= 8192 {
-        return false;
-    }
-    let i = s / 64;
-    let b = s % 64;
-    (words[i] >> b) % 2 == 1
-}
-
 // The fault of an event that names segment y: 5 where there is no such segment, else `if_open` where it is open and `if_closed` where it is closed.
 fn segment_fault(m: usize, held: &[u64; 128], y: usize, if_open: usize, if_closed: usize) -> usize
     requires { ⌜ length (now held) ≡ 128 ⌝ }
@@ -48,7 +35,7 @@ fn segment_fault(m: usize, held: &[u64; 128], y: usize, if_open: usize, if_close
     if m <= y {
         return 5;
     }
-    let open = contains(held, y);
+    let open = call_open_set::contains(held, y);
     if open {
         return if_open;
     }
@@ -89,9 +76,9 @@ fn check_events(n: usize, m: usize, t: usize, x: &[u16], y: &[u16], first: [u64;
     let mut i: usize = 0;
     // No event before i has a fault, and the set is what is open before i.
     while i < t {
-        let kind = x[i];
+        let event_x = x[i];
         let s = y[i] as usize;
-        let code = event_fault(n, m, &held, kind, s);
+        let code = event_fault(n, m, &held, event_x, s);
         if code > 0 {
             return Held {
                 code: code,
@@ -100,7 +87,7 @@ fn check_events(n: usize, m: usize, t: usize, x: &[u16], y: &[u16], first: [u64;
             };
         }
         // The set is copied where it changes, and not at a query.
-        match call_kinds::kind_of(kind, n) {
+        match call_kinds::kind_of(event_x, n) {
             Kind::Query => {}
             Kind::Opens => {
                 held = call_open_set::opened(held, s);

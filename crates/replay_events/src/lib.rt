@@ -40,9 +40,9 @@ fn put_junctions(n: usize, a: &[u16], b: &[u16], x: &[u16], y: &[u16], work: &mu
     let mut i: usize = 0;
     // The junctions of the first i events are written.
     while i < x.len() {
-        let kind = x[i];
+        let event_x = x[i];
         let other = y[i];
-        put_ends(n, a, b, kind, other, i, work);
+        put_ends(n, a, b, event_x, other, i, work);
         i += 1;
     }
 }

@@ -99,9 +99,9 @@ pub(crate) fn put_tags(
     let mut i: usize = 0;
     // The tags of the first i events are written, and the counts are those before event i.
     while i < t {
-        let kind = x[i];
+        let event_x = x[i];
         let s = y[i] as usize;
-        put_tag(n, kind, s, names, counts, 2 * t + 3 * i, work);
+        put_tag(n, event_x, s, names, counts, 2 * t + 3 * i, work);
         i += 1;
     }
 }

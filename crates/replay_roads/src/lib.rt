@@ -14,14 +14,6 @@ struct Ends {
     high: usize,
 }
 
-// The word at place p.
-fn get(work: &[u32], p: usize) -> usize
-    requires { ⌜ p < length (now work) ⌝ }
-    ensures { λ r. ⌜ (r ≡ getD (now (work .entry)) p 0) × (r < 4294967296) ⌝ }
-{
-    work[p] as usize
-}
-
 // The word at place p becomes x.
 fn put(work: &mut [u32], p: usize, x: usize)
     requires { ⌜ (p < length (now work)) × (x < 4294967296) ⌝ }
@@ -62,7 +54,7 @@ fn thread_segment(n: usize, a: &[u16], b: &[u16], work: &mut [u32], q: usize, s:
     let m = a.len();
     let ends = ends_of(a, b, s);
     let v = ends.low;
-    let next = get(work, q + m + v);
+    let next = core_words::word(work, q + m + v);
     put(work, q + m + 2 * n + s, next);
     put(work, q + m + v, s);
 }
@@ -89,7 +81,7 @@ fn name_segment(n: usize, a: &[u16], b: &[u16], work: &mut [u32], q: usize, v: u
     let m = a.len();
     let ends = ends_of(a, b, s);
     let h = ends.high;
-    let f = get(work, q + m + n + h);
+    let f = core_words::word(work, q + m + n + h);
     if f < m {
         let first = ends_of(a, b, f);
         let u = first.low;
@@ -108,11 +100,11 @@ fn walk(n: usize, a: &[u16], b: &[u16], work: &mut [u32], q: usize, v: usize)
     ensures { λ _. ⌜ RoadWords n (now (a .entry)) (now (b .entry)) q (now (work .exit)) 0 (v + 1) 0 ⌝ }
 {
     let m = a.len();
-    let mut s = get(work, q + m + v);
+    let mut s = core_words::word(work, q + m + v);
     // The segments of the thread before s are named, and s is the next of it, or m.
     while s < m {
         name_segment(n, a, b, work, q, v, s);
-        s = get(work, q + m + 2 * n + s);
+        s = core_words::word(work, q + m + 2 * n + s);
     }
 }
 
@@ -146,8 +138,8 @@ fn count_segment(start: &[u16], work: &mut [u32], q: usize, s: usize)
 {
     let m = start.len();
     if start[s] == 1 {
-        let r = get(work, q + s);
-        let c = get(work, q + m + r);
+        let r = core_words::word(work, q + s);
+        let c = core_words::word(work, q + m + r);
         put(work, q + m + r, c + 1);
     }
 }

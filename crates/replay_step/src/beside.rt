@@ -7,14 +7,6 @@ ghost use Rattle.theory_timeline.specs.Tags.{adds};
 ghost use Rattle.replay_step.specs.Area.{span};
 ghost use Rattle.replay_step.specs.Load.{AddReady, Added, addsIn};
 
-// The word at place i.
-pub(crate) fn word(work: &[u32], i: usize) -> usize
-    requires { ⌜ i < length (now work) ⌝ }
-    ensures { λ r. ⌜ (r ≡ getD (now (work .entry)) i 0) × (r < 4294967296) ⌝ }
-{
-    work[i] as usize
-}
-
 // Whether event e of the window, beside the part, adds its key, by its three words.
 pub(crate) fn adds_key(
     w: crate::Window,
@@ -48,9 +40,9 @@ pub(crate) fn event_adds(w: crate::Window, part: crate::Part, i: usize, work: &[
     ensures { λ r. ⌜ r ≡ addsIn w part (now (work .entry)) i ⌝ }
 {
     let at = 2 * w.events + 3 * i;
-    let tag = word(work, at);
-    let next = word(work, at + 1);
-    let last = word(work, at + 2);
+    let tag = core_words::word(work, at);
+    let next = core_words::word(work, at + 1);
+    let last = core_words::word(work, at + 2);
     adds_key(w, part, w.at + i, tag, next, last)
 }
 
@@ -69,9 +61,9 @@ pub(crate) fn add_event(
     if !adds {
         return m;
     }
-    let a = word(work, 2 * i);
-    let b = word(work, 2 * i + 1);
-    let tag = word(work, 2 * w.events + 3 * i);
+    let a = core_words::word(work, 2 * i);
+    let b = core_words::word(work, 2 * i + 1);
+    let tag = core_words::word(work, 2 * w.events + 3 * i);
     let c = (tag - 1) / 4;
     let s = part.area + 17 * part.events;
     let n = w.nodes;

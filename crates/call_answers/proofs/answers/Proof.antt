@@ -1,3 +1,5 @@
+-- `answers` meets its contract: both parts begin where the table does, and the test is the definition's own.
+-- Assumes nothing.
 use mathlib.Core.Path.{sym}
 use lib.ListN.{length}
 use lib.Seq.{length-take-le}

@@ -1,3 +1,5 @@
+-- `closed` meets its contract: past the last segment nothing changes, else the bit of s is 0 and all others are as they were.
+-- Assumes nothing.
 use borrow.Author.Needs.{needs}
 use Rattle.call_open_set.proofs.OpenSetLaws.{set-at-segment, set-past}
 use Rattle.call_open_set.proofs.closed.Statement.{statement}

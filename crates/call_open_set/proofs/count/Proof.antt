@@ -1,3 +1,5 @@
+-- `count` meets its contract. The loop's invariant: n and the ones of the words that are left make the ones of the set.
+-- Assumes nothing.
 use Prim.Native.Nat.{_*_, _+_, _-_, _<_, _≤_, suc}
 use mathlib.Core.Path.{_≡_}
 use lib.Count.{ones, ones-le}

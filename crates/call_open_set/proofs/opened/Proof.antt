@@ -1,3 +1,5 @@
+-- `opened` meets its contract: past the last segment nothing changes, else the bit of s is 1 and all others are as they were.
+-- Assumes nothing.
 use borrow.Author.Needs.{needs}
 use Rattle.call_open_set.proofs.OpenSetLaws.{set-at-segment, set-past}
 use Rattle.call_open_set.proofs.opened.Statement.{statement}

@@ -1,3 +1,5 @@
+-- `with_bit` meets its contract: of the word's digits only that of b changes, to 1.
+-- Assumes nothing.
 use mathlib.Core.Path.{_∙_, ap}
 use lib.Bits.{bitOr}
 use borrow.Author.Needs.{needs}

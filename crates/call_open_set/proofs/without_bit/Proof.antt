@@ -1,3 +1,5 @@
+-- `without_bit` meets its contract: of the word's digits only that of b changes, to 0.
+-- Assumes nothing.
 use borrow.Author.Needs.{needs}
 use Rattle.call_open_set.proofs.OpenSetLaws.{off-digit, one-bit}
 use Rattle.call_open_set.proofs.without_bit.Statement.{statement}

@@ -1,3 +1,5 @@
+-- `put_number` meets its contract, by the number that falls: the digits in front of the last one are those of a tenth of it.
+-- Assumes nothing.
 use Prim.Native.Nat.{_%_, _+_, _/_, _<_, ℕ}
 use mathlib.Core.List.{[], _∷_}
 use mathlib.Core.Path.{ap, refl, sym}

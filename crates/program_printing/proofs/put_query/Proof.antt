@@ -1,3 +1,5 @@
+-- `put_query` meets its contract: two numbers and two texts, each written where the one before ends, within the longest line.
+-- Assumes nothing.
 use mathlib.Core.List.{[], _++_, _∷_}
 use native.Mathlib.Omega.{arith}
 use borrow.Author.Needs.{needs}

@@ -1,3 +1,5 @@
+-- `put_refused` meets its contract: two texts and two numbers by turns, each written where the one before ends, and the line's end.
+-- Assumes nothing.
 use mathlib.Core.List.{[], _∷_}
 use native.Mathlib.Omega.{arith}
 use borrow.Author.Needs.{needs}

@@ -1,3 +1,5 @@
+-- `put_text` meets its contract. The loop's invariant: the first i bytes of the text are written, and nothing else has changed.
+-- Assumes nothing.
 use Prim.Native.Nat.{_+_, _-_, _≤_, ℕ}
 use mathlib.Core.List.{List}
 use mathlib.Core.Path.{_∙_, _≡_, ap, refl}

@@ -1,3 +1,5 @@
+-- `put_totals` meets its contract: three texts and three numbers by turns, each written where the one before ends, and the line's end.
+-- Assumes nothing.
 use Prim.Native.Nat.{_+_, _≤_}
 use mathlib.Core.List.{[], _∷_}
 use lib.ListN.{length}

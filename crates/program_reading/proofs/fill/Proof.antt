@@ -1,3 +1,5 @@
+-- `fill` meets its contract. The loop's invariant: the first j entries are filled, and nothing else has changed.
+-- Assumes nothing.
 use Prim.Native.Nat.{_+_, _-_, _≤_, ℕ}
 use mathlib.Core.Path.{_≡_, subst, sym}
 use lib.ListN.{set}

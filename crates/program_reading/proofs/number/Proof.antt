@@ -1,3 +1,5 @@
+-- `number` meets its contract: two bytes, the lower first, are the definition's number and fit in 16 bits.
+-- Assumes nothing.
 use Prim.Native.Nat.{_*_, _+_}
 use mathlib.Core.Path.{sym}
 use native.Mathlib.Omega.{arith}

@@ -1,3 +1,5 @@
+-- `read_header` meets its contract: a return for each row of the definition, in its order.
+-- Assumes nothing.
 use Prim.Native.Nat.{_*_, ℕ}
 use mathlib.Core.Path.{_∙_, ap₂, sym}
 use native.Mathlib.Omega.{arith}

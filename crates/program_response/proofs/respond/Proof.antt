@@ -1,3 +1,5 @@
+-- `respond` meets its contract: by the header, the reply of the replay or the refusal of the program is written.
+-- Assumes nothing.
 use mathlib.Core.Path.{_∙_, ap, sym}
 use native.Mathlib.Omega.{arith}
 use borrow.Author.Needs.{needs}

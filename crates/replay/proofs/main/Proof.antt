@@ -1,3 +1,5 @@
+-- `main` stays within its tables: what is written is a front part of the output.
+-- Assumes the contracts of the C library's functions, as io and libc state them.
 use mathlib.Core.Path.{sym}
 use lib.Seq.{length-take-le}
 use native.Mathlib.Omega.{arith}

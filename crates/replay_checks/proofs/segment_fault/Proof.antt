@@ -1,3 +1,5 @@
+-- `segment_fault` meets its contract: a return for each case of the definition.
+-- Assumes nothing.
 use mathlib.Core.Path.{_∙_, sym}
 use borrow.Author.Needs.{needs}
 use borrow.Author.Tests.{le-ltb, lt-ltb}

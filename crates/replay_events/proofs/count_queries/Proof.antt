@@ -1,5 +1,6 @@
+-- `count_queries` meets its contract. The loop's invariant: k is the number of queries among the first i events.
+-- Assumes nothing.
 use borrow.Author.Needs.{needs}
--- Event by event.
 use Prim.Native.Nat.{_-_, _≤_}
 use mathlib.Core.Path.{_≡_}
 use lib.ListN.{getD}

@@ -1,5 +1,6 @@
+-- `link_lasts` meets its contract. The loop's invariant: the first i events have their words, and `heads` has one more than the last event before i of each key.
+-- Assumes nothing.
 use borrow.Author.Needs.{needs}
--- Event by event, forwards.
 use Prim.Native.Nat.{_-_}
 use mathlib.Core.Path.{_≡_, refl}
 use native.Mathlib.Omega.{arith}

@@ -1,5 +1,6 @@
+-- `link_nexts` meets its contract. The loop's invariant: the events from i on have their words, and `heads` has the first event from i on of each key.
+-- Assumes nothing.
 use borrow.Author.Needs.{needs}
--- Event by event, backwards.
 use mathlib.Core.Path.{_≡_, refl}
 use native.Mathlib.Omega.{arith}
 use Rattle.replay_events.proofs.WritingLaws.{Nexts, nexts-at, nexts-more, nexts-need, nexts-none}

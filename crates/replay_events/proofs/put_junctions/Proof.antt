@@ -1,5 +1,6 @@
+-- `put_junctions` meets its contract. The loop's invariant: the junctions of the first i events are written.
+-- Assumes nothing.
 use borrow.Author.Needs.{needs}
--- Event by event.
 use Prim.Native.Nat.{_-_}
 use lib.ListN.{length}
 use native.Mathlib.Omega.{arith}

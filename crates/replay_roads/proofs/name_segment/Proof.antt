@@ -6,23 +6,23 @@ use Rattle.replay_roads.proofs.RoadWordLaws.{name-fits, name-found, nam
 use Rattle.replay_roads.proofs.name_segment.Statement.{statement}
 use Rattle.replay_roads.proofs.name_segment.Tie as tie
 
-add-get : tie.Need-add-get-3
-add-get c =
+add-word : tie.Need-add-word-3
+add-word c =
     let start = c .before .before .before .before .before in
     omega (arith, name-fits (start .pre .0) (start .pre .1) (start .pre .2) (c .before .ends-of .ensures .1), start .pre .0 .room)
 
-get-requires : tie.Need-get-requires
-get-requires c κs =
+word-requires : tie.Need-word-requires
+word-requires c κs =
     let start = c .before .before .before .before .before in
     omega (arith, name-fits (start .pre .0) (start .pre .1) (start .pre .2) (c .before .ends-of .ensures .1), start .pre .0 .room)
 
 returns : tie.Need-returns
 returns c =
     let at-if1 = c .before .before .before .before .before .before in
-    let at-get = at-if1 .before in
-    let at-ends = at-get .before .before in
+    let at-word = at-if1 .before in
+    let at-ends = at-word .before .before in
     let start = at-ends .before .before .before .before in
-    name-found (start .pre .0) (start .pre .1) (start .pre .2) (at-ends .ends-of .ensures .1) (at-get .get .ensures .0) (at-if1 .if1 .taken)
+    name-found (start .pre .0) (start .pre .1) (start .pre .2) (at-ends .ends-of .ensures .1) (at-word .word .ensures .0) (at-if1 .if1 .taken)
     (omega (arith, c .before .before .before .before .before .ends-of2 .ensures .0)) (c .before .before .put .ensures)
 
 add-put : tie.Need-add-put-5
@@ -41,10 +41,10 @@ put-requires c κs =
 returns-2 : tie.Need-returns-2
 returns-2 c =
     let at-if1 = c .before .before .before .before .before .before .before .before in
-    let at-get = at-if1 .before in
-    let at-ends = at-get .before .before in
+    let at-word = at-if1 .before in
+    let at-ends = at-word .before .before in
     let start = at-ends .before .before .before .before in
-    name-new (start .pre .0) (start .pre .1) (start .pre .2) (at-ends .ends-of .ensures .1) (at-get .get .ensures .0)
+    name-new (start .pre .0) (start .pre .1) (start .pre .2) (at-ends .ends-of .ensures .1) (at-word .word .ensures .0)
     (λ k z. ⊎-elim (λ w. omega (arith, w .2 .left, w .1 .ensures .0)) (λ w. omega (arith, w .left)) (at-if1 .if1 .came))
     (c .before .before .before .before .before .before .put2 .ensures) (c .before .before .put3 .ensures)
 
@@ -55,8 +55,8 @@ name-segment-spec =
     (λ c κs. search needs)
     (λ c. search needs)
     (λ c. search needs)
-    add-get
-    get-requires
+    add-word
+    word-requires
     (λ c κs. search needs)
     (λ c. search needs)
     (λ c κs. search needs)

@@ -5,13 +5,13 @@ use Rattle.replay_roads.proofs.RoadWordLaws.{thread-fits, thread-more}
 use Rattle.replay_roads.proofs.thread_segment.Statement.{statement}
 use Rattle.replay_roads.proofs.thread_segment.Tie as tie
 
-add-get : tie.Need-add-get-2
-add-get c =
+add-word : tie.Need-add-word-2
+add-word c =
     let start = c .before .before .before .before .before in
     omega (arith, thread-fits (start .pre .0) (start .pre .1) (c .before .ends-of .ensures .0), start .pre .0 .room)
 
-get-requires : tie.Need-get-requires
-get-requires c κs =
+word-requires : tie.Need-word-requires
+word-requires c κs =
     let start = c .before .before .before .before .before in
     omega (arith, thread-fits (start .pre .0) (start .pre .1) (c .before .ends-of .ensures .0), start .pre .0 .room)
 
@@ -30,10 +30,10 @@ put-requires c κs =
 
 returns : tie.Need-returns
 returns c =
-    let at-get = c .before .before .before .before .before .before .before .before in
-    let at-ends = at-get .before .before in
+    let at-word = c .before .before .before .before .before .before .before .before in
+    let at-ends = at-word .before .before in
     let start = at-ends .before .before .before .before in
-    thread-more (start .pre .0) (start .pre .1) (at-ends .ends-of .ensures .0) (at-get .get .ensures .0)
+    thread-more (start .pre .0) (start .pre .1) (at-ends .ends-of .ensures .0) (at-word .word .ensures .0)
     (c .before .before .before .before .before .before .put .ensures) (c .before .before .put2 .ensures)
 
 pub thread-segment-spec : {M : Type 1} → statement M
@@ -42,8 +42,8 @@ thread-segment-spec =
     (tie.spec
     (λ c κs. search needs)
     (λ c. search needs)
-    add-get
-    get-requires
+    add-word
+    word-requires
     (λ c. search needs)
     (λ c. search needs)
     (λ c. search needs)

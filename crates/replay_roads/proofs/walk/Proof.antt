@@ -14,29 +14,29 @@ Inv-loop n a b work₀ q v m s₀ work s = (length work ≡ length work₀) × A
 abbrev μ-loop : tie.MeasureT-loop
 μ-loop n a b work₀ q v m s₀ work s = m - s
 
-get-requires : tie.Need-get-requires Inv-loop μ-loop
-get-requires c κs = omega (arith, c .before .before .before .before .pre .0 .room)
+word-requires : tie.Need-word-requires Inv-loop μ-loop
+word-requires c κs = omega (arith, c .before .before .before .before .pre .0 .room)
 
 loop-holds : tie.Need-loop-holds Inv-loop μ-loop
-loop-holds c = (refl, along-start (c .before .before .before .before .before .pre .0) (c .before .before .before .before .before .pre .1) (c .get .ensures .0))
+loop-holds c = (refl, along-start (c .before .before .before .before .before .pre .0) (c .before .before .before .before .before .pre .1) (c .word .ensures .0))
 
 name-segment-requires : tie.Need-name-segment-requires Inv-loop μ-loop
 name-segment-requires c κs = let l = c .before .before .loop in (l .inv .1 .words, omega arith, l .inv .1 .at (omega arith))
 
-get-requires-2 : tie.Need-get-requires-2 Inv-loop μ-loop
-get-requires-2 c κs = omega (arith, c .before .before .before .name-segment .ensures .room)
+word-requires-2 : tie.Need-word-requires-2 Inv-loop μ-loop
+word-requires-2 c κs = omega (arith, c .before .before .before .name-segment .ensures .room)
 
 loop-less : tie.Need-loop-less Inv-loop μ-loop
 loop-less c =
     let at-name = c .before .before .before .before in
     let at-loop = at-name .before .before .before in
-    omega (arith, along-more (at-loop .loop .inv .1) (omega arith) (at-name .name-segment .ensures) (c .get2 .ensures .0) .1)
+    omega (arith, along-more (at-loop .loop .inv .1) (omega arith) (at-name .name-segment .ensures) (c .word2 .ensures .0) .1)
 
 loop-again : tie.Need-loop-again Inv-loop μ-loop
 loop-again c =
     let at-name = c .before .before .before .before in
     let at-loop = at-name .before .before .before in
-    (search needs, along-more (at-loop .loop .inv .1) (omega arith) (at-name .name-segment .ensures) (c .get2 .ensures .0) .0)
+    (search needs, along-more (at-loop .loop .inv .1) (omega arith) (at-name .name-segment .ensures) (c .word2 .ensures .0) .0)
 
 same-length : tie.Need-same-length Inv-loop μ-loop
 same-length c = c .before .loop .inv .0
@@ -52,14 +52,14 @@ walk-spec =
     μ-loop
     (λ c. omega (arith, c .before .before .before .before .pre .0 .room))
     (λ c. omega (arith, c .before .before .before .before .pre .0 .room))
-    get-requires
+    word-requires
     loop-holds
     name-segment-requires
     (λ c. omega (arith, c .before .before .before .name-segment .ensures .room))
     (λ c. omega (arith, c .before .before .before .name-segment .ensures .room))
     (λ c. omega (arith, c .before .before .before .name-segment .ensures .room))
     (λ c. omega (arith, c .before .before .before .name-segment .ensures .room))
-    get-requires-2
+    word-requires-2
     loop-less
     loop-again
     same-length

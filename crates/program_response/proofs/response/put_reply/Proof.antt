@@ -1,3 +1,5 @@
+-- `put_reply` meets its contract: the lines of the queries and the totals, or the line of the refusal.
+-- Assumes nothing.
 use mathlib.Core.Path.{ap, sym}
 use lib.ListN.{length}
 use native.Mathlib.Omega.{arith}

@@ -1,3 +1,5 @@
+-- `beside::add_event` meets its contract: an event that adds nothing leaves the words, any other stores one edge with its key as the name.
+-- Assumes nothing.
 use mathlib.Core.Path.{_∙_, sym}
 use native.Mathlib.Omega.{arith}
 use borrow.Author.Tests.{not-false, not-true}

@@ -1,3 +1,5 @@
+-- `beside::event_adds` meets its contract: the three words read are those of the event.
+-- Assumes nothing.
 use mathlib.Core.Path.{_∙_}
 use borrow.Author.Needs.{needs}
 use Rattle.replay_step.proofs.BesideLaws.{adds-same}

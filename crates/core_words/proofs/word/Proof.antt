@@ -1,8 +1,10 @@
+-- `word` meets its contract: the word, which fits.
+-- Assumes nothing.
 use mathlib.Core.Path.{refl}
 use native.Mathlib.Omega.{arith}
 use borrow.Author.Needs.{needs}
-use Rattle.replay_step.proofs.beside.word.Statement.{statement}
-use Rattle.replay_step.proofs.beside.word.Tie as tie
+use Rattle.core_words.proofs.word.Statement.{statement}
+use Rattle.core_words.proofs.word.Tie as tie
 
 cast-result : tie.Need-cast-result
 cast-result c = omega (arith, c .shared-slice-known .given (c .before .args .i))
