@@ -57,11 +57,12 @@ int main(int argc, char **argv)
 
     if (r.code != LUM_ACCEPTED) {
         printf("refused %zu at %zu\n", r.code, r.place);
+        fprintf(stderr, "%s\n", lum_refusal_text(r.code));
         return 1;
     }
     size_t given = lum_answers(answers, EVENTS, EVENTS);
     for (size_t i = 0; i < given; i++) {
-        if (answers[i] != 3) {
+        if (answers[i] != LUM_NO_QUERY) {
             printf("%zu %u\n", i, (unsigned)answers[i]);
         }
     }

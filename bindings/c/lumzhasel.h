@@ -2,22 +2,19 @@
  * Lumzhasel from C and C++: the replay of a road network, the contraction, the
  * check of sizes, the kind of an event, the reader's call and the check number of
  * answers. Each call is proved, for all inputs, to return and to leave in the lent tables
- * exactly what the definitions say (crates/call_exports/src/lib.rt). Link
- * target/staticlib/libcall_exports.a, which `rt staticlib call_exports` writes; it is for
- * x86-64 Linux and needs only memcpy and memset of the C library.
+ * exactly what the definitions say (crates/call_exports/src/lib.rt). Link the archive,
+ * which `rt staticlib call_exports` writes to target/staticlib/libcall_exports.a and
+ * `bindings/c/install` puts beside this header as liblumzhasel.a; it is for x86-64 Linux and
+ * needs only memcpy and memset of the C library.
  *
  * VERSIONS. What a call is lent gains fields, and replies gain numbers, from one version
- * to the next; their names stay. Version 5 has the tables of version 4, but its answers
- * are about roads (lum_replay), where those before were about segments; version 6 has one
- * call more, lum_check_number; version 7 has the tables of names of both calls; version 8
- * has one call more, lum_kind_of; version 9 has the tables of version 8, but its replay
- * refuses tables that are only read and longer than their sizes. A program that was built
- * with the header of one version and linked with the archive of another would hand over
- * its tables in the wrong places, and nothing else would notice. So compare lum_version()
- * with LUM_VERSION before the first other call, and make none where they differ.
- * lum_version takes nothing and returns one number in every version. Set the fields of a
- * struct by their names, all of them. A code above those below is a refusal too, by a
- * reason that a later version names.
+ * to the next; their names stay (docs/integrate.md says what each version brought). A
+ * program that was built with the header of one version and linked with the archive of
+ * another would hand over its tables in the wrong places, and nothing else would notice. So
+ * compare lum_version() with LUM_VERSION before the first other call, and make none where
+ * they differ. lum_version takes nothing and returns one number in every version. Set the
+ * fields of a struct by their names, all of them. A code above those below is a refusal
+ * too, by a reason that a later version names.
  *
  * WHAT THE CALLER OWES. The proofs begin where these hold, and no call can check them:
  *  - Each pointer points to at least as many entries as the length after it says,
@@ -63,7 +60,7 @@
  * The first that holds counts, in this order: 1, 2, 4, 8 in the contraction; 1, 2, 12, 3,
  * 4, 11 in the replay, then the first event that shows 5, 6 or 7, and 5 precedes the others
  * at one event. So a table too short and another too long give 2. Places are counted from
- * 0. 9 and 10 are the program's alone.
+ * 0. 9 and 10 are the program's alone. lum_refusal_text(code) says each in words.
  */
 #ifndef LUMZHASEL_H
 #define LUMZHASEL_H
@@ -96,6 +93,36 @@ extern "C" {
 #define LUM_ENTRY 8u
 #define LUM_START 11u
 #define LUM_LONG 12u
+
+/*
+ * A refusal in words. The text is static, without a full stop. 0 is "accepted", and a code
+ * that a later version names has a text too.
+ */
+static inline const char *lum_refusal_text(size_t code)
+{
+    switch (code) {
+    case 0: return "accepted";
+    case 1: return "a size is over its limit";
+    case 2: return "a table is too short";
+    case 3: return "the share is not 4 to 12";
+    case 4: return "an end of the segment or edge is no junction or node";
+    case 5: return "the event names no junction, segment or kind of event";
+    case 6: return "the event opens an open segment";
+    case 7: return "the event closes a closed segment";
+    case 8: return "the active entry is no node";
+    case 9: return "the input is not exactly as long as its sizes say";
+    case 10: return "a size is over the program's limit";
+    case 11: return "the segment's starting entry is neither 0 nor 1";
+    case 12: return "a table is longer than its size";
+    default: return "this version has no name for the reason";
+    }
+}
+
+/* The answer bytes: of a query, and of an event that opens or closes. */
+#define LUM_NOT_JOINED 0u
+#define LUM_JOINED_ONCE 1u
+#define LUM_JOINED_TWICE 2u
+#define LUM_NO_QUERY 3u
 
 /* The x of an event that opens or closes the segment in its y. */
 #define LUM_OPENS 65535u
@@ -285,12 +312,12 @@ struct lum_contract_reply lum_contract(struct lum_contract_lent lent);
  *  work         256t + 32n + 8m + 2,048     0 over that length
  *               at least
  *
- * No other entry changes. The answer byte of a query is 2 where the junctions are joined
- * and stay joined whichever single open road is lost, 1 where they are joined and the loss
- * of some single road parts them, 0 where they are not joined; an event that opens or
- * closes has 3. So two open segments between the same junctions are no second way. `open`
- * counts segments, and 6 and 7 are about segments. The share changes `kept`, no answer and
- * no name.
+ * No other entry changes. The answer byte of a query is LUM_JOINED_TWICE, 2, where the
+ * junctions are joined and stay joined whichever single open road is lost, LUM_JOINED_ONCE,
+ * 1, where they are joined and the loss of some single road parts them, LUM_NOT_JOINED, 0,
+ * where they are not joined; an event that opens or closes has LUM_NO_QUERY, 3. So two open
+ * segments between the same junctions are no second way. `open` counts segments, and 6 and
+ * 7 are about segments. The share changes `kept`, no answer and no name.
  *
  * At a query with the answer 1, names[i] is the road to watch: the smallest name of an open
  * road whose loss parts the two junctions; at every other event it is LUM_NO_NAME. A road's

@@ -67,32 +67,60 @@ impl Reason {
     }
 }
 
+impl fmt::Display for Reason {
+    /// In the words of the header's `lum_refusal_text`.
+    fn fmt(&self, f: &mut fmt::Formatter<'_>) -> fmt::Result {
+        f.write_str(match self {
+            Reason::Sizes => "a size is over its limit",
+            Reason::Short => "a table is too short",
+            Reason::Long => "a table is longer than its size",
+            Reason::Share => "the share is not 4 to 12",
+            Reason::End => "an end of the segment or edge is no junction or node",
+            Reason::Start => "the segment's starting entry is neither 0 nor 1",
+            Reason::Event => "the event names no junction, segment or kind of event",
+            Reason::OpenTwice => "the event opens an open segment",
+            Reason::NotOpen => "the event closes a closed segment",
+            Reason::Entry => "the active entry is no node",
+            Reason::Other(_) => "this version has no name for the reason",
+        })
+    }
+}
+
+/// The call that is refused, by which its words are chosen: a replay has segments and junctions, a contraction edges
+/// and nodes.
+#[derive(Clone, Copy, Debug, PartialEq, Eq, Hash)]
+#[non_exhaustive]
+pub enum Call {
+    /// [`tables::check_sizes`](crate::tables::check_sizes).
+    Sizes,
+    /// [`tables::check_number`](crate::tables::check_number).
+    CheckNumber,
+    /// [`tables::contract`](crate::tables::contract), and the calls of [`Network`](crate::Network) over it.
+    Contract,
+    /// [`tables::replay`](crate::tables::replay), and [`Network::replay`](crate::Network::replay) over it.
+    Replay,
+}
+
 /// A refused call: the reason and its place, which is 0 where the reason names none. No table was changed.
 #[derive(Clone, Copy, Debug, PartialEq, Eq, Hash)]
 pub struct Refusal {
-    /// Why the call is refused.
+    /// The call.
+    pub call: Call,
+    /// Why it is refused.
     pub reason: Reason,
     /// The segment, edge, event or active entry, counted from 0.
     pub place: usize,
 }
 
 impl fmt::Display for Refusal {
-    /// In the words of the program `replay`, and then the reason.
+    /// In the words of the program `replay`, and then the reason in those of the call.
     fn fmt(&self, f: &mut fmt::Formatter<'_>) -> fmt::Result {
-        let reason = match self.reason {
-            Reason::Sizes => "a size is over its limit",
-            Reason::Short => "a table is too short",
-            Reason::Long => "a table is longer than its size",
-            Reason::Share => "the share is not 4 to 12",
-            Reason::End => "an end of the segment is no junction",
-            Reason::Start => "the segment's starting entry is neither 0 nor 1",
-            Reason::Event => "the event names no junction, segment or kind of event",
-            Reason::OpenTwice => "the event opens an open segment",
-            Reason::NotOpen => "the event closes a closed segment",
-            Reason::Entry => "the active entry is no node",
-            Reason::Other(_) => "this package has no name for the reason",
-        };
-        write!(f, "refused {} at {}: {}", self.reason.code(), self.place, reason)
+        write!(f, "refused {} at {}: ", self.reason.code(), self.place)?;
+        match (self.reason, self.call) {
+            (Reason::End, Call::Replay) => f.write_str("an end of the segment is no junction"),
+            (Reason::End, Call::Contract) => f.write_str("an end of the edge is no node"),
+            (reason, _) => reason.fmt(f),
+        }
     }
 }
 
@@ -167,14 +195,36 @@ mod tests {
 
     #[test]
     fn a_number_that_is_new_is_said() {
-        let refused = Refusal {
-            reason: Reason::from_code(13),
-            place: 3,
-        };
+        let refused = refusal(Call::Replay, Reason::from_code(13));
         assert_eq!(
             refused.to_string(),
-            "refused 13 at 3: this package has no name for the reason"
+            "refused 13 at 3: this version has no name for the reason"
         );
         assert_eq!(Error::from(refused).refusal(), Some(refused));
+    }
+
+    fn refusal(call: Call, reason: Reason) -> Refusal {
+        Refusal { call, reason, place: 3 }
+    }
+
+    #[test]
+    fn a_contraction_has_edges() {
+        let words = |call, reason| refusal(call, reason).to_string();
+        assert_eq!(
+            words(Call::Replay, Reason::End),
+            "refused 4 at 3: an end of the segment is no junction"
+        );
+        assert_eq!(
+            words(Call::Contract, Reason::End),
+            "refused 4 at 3: an end of the edge is no node"
+        );
+        assert_eq!(
+            words(Call::Contract, Reason::Entry),
+            "refused 8 at 3: the active entry is no node"
+        );
+        assert_eq!(
+            words(Call::Sizes, Reason::Sizes),
+            "refused 1 at 3: a size is over its limit"
+        );
     }
 }

@@ -118,8 +118,9 @@
 //!
 //! What each call returns and leaves in its tables is proved, for all inputs, in the crate
 //! `call_exports` of the repository, of which this package links the archive: run
-//! `rt staticlib call_exports` at the repository's top first. The package itself is not proved. It
-//! hands slices on as pointers and lengths, in one module, and names the refusals.
+//! `rt staticlib call_exports` at the repository's top first, or name the archive's folder in the
+//! variable `LUMZHASEL_ARCHIVE_DIR`. The package itself is not proved. It hands slices on as pointers
+//! and lengths, in one module, and names the refusals.
 //!
 //! Before its first call it asks the archive for the version of its calls ([`version`]). Where that is
 //! not [`VERSION`], no other call is made, and each function returns [`Error::Version`].
@@ -130,12 +131,18 @@
 #![deny(missing_docs)]
 #![deny(unsafe_code)]
 
+#[cfg(all(archive_missing, not(doc)))]
+compile_error!(
+    "the archive libcall_exports.a is not there: run `rt staticlib call_exports` at the repository's top, or name its \
+     folder in the variable LUMZHASEL_ARCHIVE_DIR"
+);
+
 mod error;
 mod raw;
 pub mod tables;
 mod values;
 
-pub use error::{Error, Reason, Refusal};
+pub use error::{Call, Error, Reason, Refusal};
 pub use tables::{Contracted, Kind, Sizes, Totals};
 pub use values::{Answer, Event, List, Network, Replayed, SmallGraph};
 

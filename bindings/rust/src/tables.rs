@@ -31,7 +31,7 @@
 //! # Ok::<(), lumzhasel::Error>(())
 //! ```
 
-use crate::error::{Error, Reason, Refusal};
+use crate::error::{Call, Error, Reason, Refusal};
 use crate::raw;
 use std::sync::OnceLock;
 
@@ -209,13 +209,13 @@ fn check_version() -> Result<(), Error> {
     fits(*ARCHIVE.get_or_init(raw::version))
 }
 
-// The reply of a code and a place, where 0 is accepted.
-fn reply<T>(code: usize, place: usize, accepted: T) -> Result<T, Error> {
+// The reply of a call by its code and its place, where 0 is accepted.
+fn reply<T>(call: Call, code: usize, place: usize, accepted: T) -> Result<T, Error> {
     if code == 0 {
         return Ok(accepted);
     }
     let reason = Reason::from_code(code);
-    Err(Error::Refused(Refusal { reason, place }))
+    Err(Error::Refused(Refusal { call, reason, place }))
 }
 
 /// The kind of an event, from its `x` and the number of junctions alone, as the replay itself decides it. It is that
@@ -244,10 +244,15 @@ pub fn kind_of(x: u16, n: usize) -> Result<Kind, Error> {
 ///
 /// [`Reason::Sizes`] at place 0.
 pub fn check_sizes(n: usize, m: usize, t: usize, k: usize) -> Result<Sizes, Error> {
+    sizes_of(Call::Sizes, n, m, t, k)
+}
+
+// The same for a call that is to be made, which the refusal then names.
+pub(crate) fn sizes_of(call: Call, n: usize, m: usize, t: usize, k: usize) -> Result<Sizes, Error> {
     check_version()?;
     let r = raw::sizes(n, m, t, k);
     let (n, m, t, k) = (r.n, r.m, r.t, r.k);
-    reply(r.code, r.place, Sizes { n, m, t, k })
+    reply(call, r.code, r.place, Sizes { n, m, t, k })
 }
 
 /// The table's own first `t` bytes, or its empty part where `t` is larger than the table.
@@ -282,7 +287,7 @@ pub fn answers(table: &[u8], t: usize) -> Result<&[u8], Error> {
 pub fn check_number(table: &[u8], t: usize) -> Result<u32, Error> {
     check_version()?;
     let r = raw::check_number(table, t);
-    reply(r.code, r.place, r.number)
+    reply(Call::CheckNumber, r.code, r.place, r.number)
 }
 
 /// Contracts a graph to its active entries. The new nodes are numbered from 0: those that hold an active node in
@@ -326,7 +331,7 @@ pub fn contract(lent: ContractTables<'_>) -> Result<Contracted, Error> {
     check_version()?;
     let r = raw::contract(lent);
     let (nodes, edges) = (r.nodes, r.edges);
-    reply(r.code, r.place, Contracted { nodes, edges })
+    reply(Call::Contract, r.code, r.place, Contracted { nodes, edges })
 }
 
 /// Replays a list. What is not said to be written does not change.
@@ -339,7 +344,7 @@ pub fn replay(lent: ReplayTables<'_>) -> Result<Totals, Error> {
     check_version()?;
     let r = raw::replay(lent);
     let (queries, open, kept) = (r.queries, r.open, r.kept);
-    reply(r.code, r.place, Totals { queries, open, kept })
+    reply(Call::Replay, r.code, r.place, Totals { queries, open, kept })
 }
 
 #[cfg(test)]
@@ -360,8 +365,8 @@ mod tests {
 
     #[test]
     fn a_code_that_is_new() {
-        let refused = reply(14, 5, ()).unwrap_err().refusal().unwrap();
+        let refused = reply(Call::Replay, 14, 5, ()).unwrap_err().refusal().unwrap();
         assert_eq!((refused.reason, refused.place), (Reason::Other(14), 5));
-        assert_eq!(reply(0, 0, 7), Ok(7));
+        assert_eq!(reply(Call::Replay, 0, 0, 7), Ok(7));
     }
 }

@@ -1,6 +1,6 @@
 //! Networks, lists and results as values. Each call makes the tables that it lends.
 
-use crate::error::Error;
+use crate::error::{Call, Error};
 use crate::tables::{self, ContractTables, ReplayTables, Totals, CLOSES, OPENS};
 
 /// Junctions and the segments between them; or nodes and edges, for a contraction. Both are numbered from 0.
@@ -95,7 +95,7 @@ impl Network {
     pub fn replay(&self, list: &List) -> Result<Replayed, Error> {
         let (n, m, t) = (self.junctions, self.segments.len(), list.events.len());
         // Before any table is made, which must have a length within reason.
-        tables::check_sizes(n, m, t, 0)?;
+        tables::sizes_of(Call::Replay, n, m, t, 0)?;
         let (a, b) = self.ends();
         let start: Vec<u16> = self.start.iter().map(|&open| open.into()).collect();
         let (x, y): (Vec<u16>, Vec<u16>) = list.events.iter().map(|e| e.entries()).unzip();
@@ -115,7 +115,8 @@ impl Network {
             work: &mut vec![0; tables::replay_work(n, m, t)],
         })?;
         let answers = tables::answers(&answers, t)?.iter().map(|&b| Answer::from_byte(b));
-        let names = names.into_iter().map(|name| (name != tables::NO_NAME).then_some(name));
+        let road = |name: u16| (name != tables::NO_NAME).then_some(name.into());
+        let names = names.into_iter().map(road);
         Ok(Replayed {
             totals,
             answers: answers.collect(),
@@ -132,7 +133,7 @@ impl Network {
     /// [`Reason::Entry`](crate::Reason::Entry), in this order.
     pub fn contract(&self, active: &[usize]) -> Result<SmallGraph, Error> {
         let (n, m, k) = (self.junctions, self.segments.len(), active.len());
-        tables::check_sizes(n, m, 0, k)?;
+        tables::sizes_of(Call::Contract, n, m, 0, k)?;
         // The sizes are within the limits, so that each number fits.
         let names: Vec<u16> = (0..m).map(|s| s as u16).collect();
         self.contract_named(active, &names)
@@ -157,7 +158,7 @@ impl Network {
     pub fn contract_named(&self, active: &[usize], names: &[u16]) -> Result<SmallGraph, Error> {
         let (n, m, k) = (self.junctions, self.segments.len(), active.len());
         // Before any table is made, which must have a length within reason.
-        tables::check_sizes(n, m, 0, k)?;
+        tables::sizes_of(Call::Contract, n, m, 0, k)?;
         let (from, to) = self.ends();
         let active: Vec<u16> = active.iter().map(|&v| entry(v)).collect();
         let (mut map, mut pieces) = (vec![0; k], vec![0; k]);
@@ -358,7 +359,7 @@ pub struct Replayed {
     /// For each query with the answer [`JoinedOnce`](Answer::JoinedOnce) the road to watch: the smallest name of an open
     /// road whose loss parts the two junctions; none at all other events. A road's name is its smallest segment, open or
     /// not.
-    pub names: Vec<Option<u16>>,
+    pub names: Vec<Option<usize>>,
 }
 
 impl Replayed {
@@ -369,10 +370,10 @@ impl Replayed {
     }
 
     /// Each query with the answer [`JoinedOnce`](Answer::JoinedOnce), in order: its event, and the road to watch by the
-    /// number of its smallest segment.
+    /// number of its smallest segment, as in `names`.
     pub fn watched(&self) -> impl Iterator<Item = (usize, usize)> + '_ {
         let each = self.names.iter().enumerate();
-        each.filter_map(|(i, name)| name.map(|road| (i, road.into())))
+        each.filter_map(|(i, name)| name.map(|road| (i, road)))
     }
 
     /// The check number of the first `events` answers, by their bytes, to compare them by voice; see

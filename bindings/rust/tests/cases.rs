@@ -4,7 +4,7 @@ mod common;
 
 use common::{graph, list, List};
 use lumzhasel::tables::{answers, check_sizes, CLOSES, NO_NAME, OPENS};
-use lumzhasel::{Error, Reason, Refusal};
+use lumzhasel::{Call, Error, Reason, Refusal};
 
 // The answer bytes of an accepted list with the share 8, and kept aside its numbers.
 fn bytes(n: usize, segments: &[(u16, u16)], events: &[(u16, u16)]) -> Vec<u8> {
@@ -279,6 +279,7 @@ fn the_sizes() {
     assert_eq!(numbers(4096, 8192, 4096, 8192), Ok((4096, 8192, 4096, 8192)));
     assert_eq!(numbers(1, 2, 3, 4), Ok((1, 2, 3, 4)));
     let refused = Err(Error::Refused(Refusal {
+        call: Call::Sizes,
         reason: Reason::Sizes,
         place: 0,
     }));
@@ -395,6 +396,7 @@ fn where_replays_go_astray() {
 #[test]
 fn a_refusal_in_words() {
     let refused = Refusal {
+        call: Call::Replay,
         reason: Reason::OpenTwice,
         place: 4,
     };

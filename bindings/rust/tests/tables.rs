@@ -36,6 +36,9 @@ fn a_replay_with_one_table_short() {
     }
 }
 
+// A change of a list, and the number by which it is refused where that is before 12.
+type Fault = (fn(&mut List), Option<usize>);
+
 /// Each of the five tables longer, alone and beside every other refusal: 1 and 2 before it, the others behind it.
 #[test]
 fn a_replay_with_one_table_longer() {
@@ -47,7 +50,7 @@ fn a_replay_with_one_table_longer() {
         |l, v| l.y.push(v),
     ];
     // A fault, and its refusal where that comes before 12.
-    let faults: [(fn(&mut List), Option<usize>); 13] = [
+    let faults: [Fault; 13] = [
         (|_| (), None),
         (|l| l.n = 4097, Some(1)),
         (|l| l.m = 8193, Some(1)),

@@ -4,10 +4,10 @@ mod common;
 
 use common::{random_graph, random_list, refusal, Graph, List, Numbers};
 use lumzhasel::tables::{CLOSES, NO_NAME, OPENS};
-use lumzhasel::{Answer, Error, Event, Network, Reason, Refusal};
+use lumzhasel::{Answer, Call, Error, Event, Network, Reason, Refusal};
 
-fn refused<T>(reason: Reason, place: usize) -> Result<T, Error> {
-    Err(Error::Refused(Refusal { reason, place }))
+fn refused<T>(call: Call, reason: Reason, place: usize) -> Result<T, Error> {
+    Err(Error::Refused(Refusal { call, reason, place }))
 }
 
 fn network(n: usize, from: &[u16], to: &[u16]) -> Network {
@@ -37,8 +37,9 @@ fn compare_list(l: &List) {
             assert_eq!(Ok((totals.queries, totals.open, totals.kept)), want.reply, "{l:?}");
             let bytes: Vec<u8> = replayed.answers.iter().map(|a| a.map_or(3, Answer::byte)).collect();
             assert_eq!(bytes, want.answers, "{l:?}");
-            let names: Vec<u16> = replayed.names.iter().map(|name| name.unwrap_or(NO_NAME)).collect();
-            assert_eq!(names, want.names, "{l:?}");
+            let road = |&name: &u16| (name != NO_NAME).then_some(usize::from(name));
+            let names: Vec<Option<usize>> = want.names.iter().map(road).collect();
+            assert_eq!(replayed.names, names, "{l:?}");
             let watched: Vec<usize> = replayed.watched().map(|(i, _)| i).collect();
             let once: Vec<usize> = (0..l.t).filter(|&i| want.answers[i] == 1).collect();
             assert_eq!(watched, once);
@@ -90,7 +91,10 @@ fn the_example() {
     assert_eq!((eight.totals.queries, eight.totals.open, eight.totals.kept), (2, 3, 19));
     let twelve = network.replay(&list.clone().with_share(12)).unwrap();
     assert_eq!((twelve.answers, twelve.totals.kept), (eight.answers, 20));
-    assert_eq!(network.replay(&list.with_share(3)), refused(Reason::Share, 0));
+    assert_eq!(
+        network.replay(&list.with_share(3)),
+        refused(Call::Replay, Reason::Share, 0)
+    );
 }
 
 #[test]
@@ -112,7 +116,7 @@ fn open_at_the_start() {
     // Those that are named, and no other.
     let one = network.clone().with_open([1]);
     assert_eq!(one.start(), [false, true, false]);
-    assert_eq!(one.replay(&list), refused(Reason::NotOpen, 1));
+    assert_eq!(one.replay(&list), refused(Call::Replay, Reason::NotOpen, 1));
     assert_eq!(one.with_open([]), triangle);
     assert_eq!(triangle.start(), [false; 3]);
     assert_eq!(network.contract(&[0, 1]), triangle.contract(&[0, 1]));
@@ -152,7 +156,10 @@ fn names_of_a_contraction() {
     // More names than segments are no fault, fewer are.
     let given = row.contract_named(&[0, 2, 3], &[65535, 9, 7, 1]).unwrap();
     assert_eq!((given.edges, given.names), (vec![(0, 1), (1, 2)], vec![7, 65535]));
-    assert_eq!(row.contract_named(&[0, 3], &[0, 1]), refused(Reason::Short, 0));
+    assert_eq!(
+        row.contract_named(&[0, 3], &[0, 1]),
+        refused(Call::Contract, Reason::Short, 0)
+    );
 }
 
 #[test]
@@ -253,15 +260,18 @@ fn numbers_that_fit_no_table() {
         ];
         for event in events {
             let list = lumzhasel::List::from(vec![Event::Open(0), event]);
-            assert_eq!(pair.replay(&list), refused(Reason::Event, 1), "{event:?}");
+            assert_eq!(pair.replay(&list), refused(Call::Replay, Reason::Event, 1), "{event:?}");
         }
         let list = lumzhasel::List::new().with_share(far);
-        assert_eq!(pair.replay(&list), refused(Reason::Share, 0));
-        assert_eq!(pair.contract(&[0, far]), refused(Reason::Entry, 1));
+        assert_eq!(pair.replay(&list), refused(Call::Replay, Reason::Share, 0));
+        assert_eq!(pair.contract(&[0, far]), refused(Call::Contract, Reason::Entry, 1));
         for ends in [(far, 0), (0, far)] {
             let torn = Network::with_segments(2, [(0, 1), ends]);
-            assert_eq!(torn.replay(&lumzhasel::List::new()), refused(Reason::End, 1));
-            assert_eq!(torn.contract(&[0]), refused(Reason::End, 1));
+            assert_eq!(
+                torn.replay(&lumzhasel::List::new()),
+                refused(Call::Replay, Reason::End, 1)
+            );
+            assert_eq!(torn.contract(&[0]), refused(Call::Contract, Reason::End, 1));
         }
     }
 }
@@ -271,15 +281,21 @@ fn sizes_over_the_limits() {
     for n in [4097, 65536, usize::MAX] {
         assert_eq!(
             Network::new(n).replay(&lumzhasel::List::new()),
-            refused(Reason::Sizes, 0)
+            refused(Call::Replay, Reason::Sizes, 0)
         );
-        assert_eq!(Network::new(n).contract(&[]), refused(Reason::Sizes, 0));
+        assert_eq!(Network::new(n).contract(&[]), refused(Call::Contract, Reason::Sizes, 0));
     }
     let many = Network::with_segments(1, vec![(0, 0); 8193]);
-    assert_eq!(many.replay(&lumzhasel::List::new()), refused(Reason::Sizes, 0));
+    assert_eq!(
+        many.replay(&lumzhasel::List::new()),
+        refused(Call::Replay, Reason::Sizes, 0)
+    );
     let long = lumzhasel::List::from(vec![Event::Query(0, 0); 4097]);
-    assert_eq!(Network::new(1).replay(&long), refused(Reason::Sizes, 0));
-    assert_eq!(Network::new(1).contract(&[0; 8193]), refused(Reason::Sizes, 0));
+    assert_eq!(Network::new(1).replay(&long), refused(Call::Replay, Reason::Sizes, 0));
+    assert_eq!(
+        Network::new(1).contract(&[0; 8193]),
+        refused(Call::Contract, Reason::Sizes, 0)
+    );
     let most = lumzhasel::List::from(vec![Event::Query(0, 0); 4096]);
     assert_eq!(Network::new(4096).replay(&most).unwrap().totals.queries, 4096);
 }
