@@ -358,7 +358,8 @@ mod tests {
             let error = fits(archive).unwrap_err();
             assert_eq!(error, Error::Version { archive });
             assert_eq!(error.refusal(), None);
-            let words = format!("the archive has version {archive} of the calls, this package is for version 9");
+            let ours = crate::VERSION;
+            let words = format!("the archive has version {archive} of the calls, this package is for version {ours}");
             assert_eq!(error.to_string(), words);
         }
     }
