@@ -31,10 +31,10 @@ use denote.Ref.{now, ptr}
 use denote.Slice.{sliceTy, sliceVal}
 use denote.Struct.Struct.{toTys}
 use denote.Triple.Call.{calls-from}
-use Rattle.call_exports.proofs.LentFields.{Kind, number, read, rows, vals, written}
+use Rattle.call_exports.proofs.LentFields.{FieldKind, number, read, rows, vals, written}
 
 -- ---- the code: each field of the struct, which is local 1, into a local of its own; a table that may be written by its pointer, and then with its length
-abbrev localsOf : List Kind → List Local
+abbrev localsOf : List FieldKind → List Local
 localsOf [] = []
 localsOf (number w ∷ ks) = local (tyInt w) valueLocal ∷ localsOf ks
 localsOf (read w ∷ ks) = local (sliceTy (tyRef erased imm (tyInt w))) valueLocal ∷ localsOf ks
@@ -44,7 +44,7 @@ abbrev copies : ℕ → ℕ → Body
 copies k l = assign (place l []) (rvOpd (copy (place 1 (field k ∷ []))))
 
 -- the fields from k on, into the locals from l on
-abbrev takes : ℕ → ℕ → List Kind → Body → Body
+abbrev takes : ℕ → ℕ → List FieldKind → Body → Body
 takes k l [] after = after
 takes k l (number w ∷ ks) after = seq (copies k l) (takes (suc k) (suc l) ks after)
 takes k l (read w ∷ ks) after = seq (copies k l) (takes (suc k) (suc l) ks after)
@@ -53,14 +53,14 @@ takes k l (written w ∷ ks) after =
     (seq (assign (place (suc l) []) (aggregate (copy (place l []) ∷ copy (place 1 (field k ∷ field 1 ∷ [])) ∷ [])))
     (takes (suc k) (suc (suc l)) ks after))
 
-abbrev handed : ℕ → List Kind → List Operand
+abbrev handed : ℕ → List FieldKind → List Operand
 handed l [] = []
 handed l (number w ∷ ks) = copy (place l []) ∷ handed (suc l) ks
 handed l (read w ∷ ks) = copy (place l []) ∷ handed (suc l) ks
 handed l (written w ∷ ks) = copy (place (suc l) []) ∷ handed (suc (suc l)) ks
 
 -- from a struct of the type S to a reply of the type R, by the function f
-abbrev pub handsOn : Ty → Ty → Name → List Kind → Fn
+abbrev pub handsOn : Ty → Ty → Name → List FieldKind → Fn
 handsOn R S f ks = record {
   lifetimes = 1;
   outlives = [];
@@ -113,13 +113,13 @@ here : (δ : Cells) (e : Ty × ℕ) (X : List (Ty × ℕ)) (d : Ty × ℕ) → g
 here δ e X d = ap (λ (n : ℕ). getD (envOf δ (e ∷ X)) n d) (sym (shift-zero δ)) ∙ behind δ (e ∷ X) zero d
 
 -- the blocks that a list of kinds is given
-abbrev Blocks : List Kind → Type 0
+abbrev Blocks : List FieldKind → Type 0
 Blocks [] = Unit {0}
 Blocks (number w ∷ ks) = ℕ × Blocks ks
 Blocks (read w ∷ ks) = ℕ × Blocks ks
 Blocks (written w ∷ ks) = ℕ × (ℕ × Blocks ks)
 
-abbrev envFor : (ks : List Kind) → Blocks ks → List (Ty × ℕ)
+abbrev envFor : (ks : List FieldKind) → Blocks ks → List (Ty × ℕ)
 envFor [] bs = []
 envFor (number w ∷ ks) bs = (tyInt w, bs .0) ∷ envFor ks (bs .1)
 envFor (read w ∷ ks) bs = (sliceTy (tyRef erased imm (tyInt w)), bs .0) ∷ envFor ks (bs .1)
@@ -145,7 +145,7 @@ module _ {M : Type 1} (𝓤 : URA M) (H : Heap 𝓤) (A : Atoms 𝓤) (W : Given
       → Step (Go {0}) W (raw (Todo ((τ, b) ∷ X)) ∷ Γ) G (raw (Todo X) ∷ ‵ (froom τ b zero) ∷ ‵ (fdies τ b) ∷ Γ) G
   allocated-one τ b X = use3 W (raw (Todo ((τ, b) ∷ X))) (qed W (raw (Todo X) ∷ ‵ (froom τ b zero) ∷ ‵ (fdies τ b) ∷ []) ∵ move ! (1 ∷ 2 ∷ []) $ join ! $ done !)
 
-  allocated : (ks : List Kind) {Γ : List (Item 𝓤)} (Kt : Env 𝓤 H → Goal 𝓤 H)
+  allocated : (ks : List FieldKind) {Γ : List (Item 𝓤)} (Kt : Env 𝓤 H → Goal 𝓤 H)
       → ((bs : Blocks ks) → Seq (Go {0}) W (raw (Todo (envFor ks bs)) ∷ Γ) (Kt (envFor ks bs))) → Seq (Go {0}) W Γ (allocs (localsOf ks) Kt)
   allocated [] Kt k = alloc0 ! $ use0 W (raw (emp 𝓤)) (id⊢ 𝓤 (emp 𝓤)) $ k tt
   allocated (number w ∷ ks) Kt k = alloc1 ! (λ b. allocated ks (λ E. Kt ((tyInt w, b) ∷ E)) (λ bs. allocated-one (tyInt w) b (envFor ks bs) $ k (b, bs)))
@@ -275,7 +275,7 @@ module _ {M : Type 1} (𝓤 : URA M) (H : Heap 𝓤) (A : Atoms 𝓤) (W : Given
 
     -- ---- the fields from k on, the first of which begins at or after o
     module _ (κs : Lfts 1) where
-      took : {q : Post 𝓤 H} (ks : List Kind) (x : Denots (rows κs ks)) (bs : Blocks ks) (δ : Cells) (k o : ℕ) (after : Body) → envOf δ (envFor ks bs) ≡ E′
+      took : {q : Post 𝓤 H} (ks : List FieldKind) (x : Denots (rows κs ks)) (bs : Blocks ks) (δ : Cells) (k o : ℕ) (after : Body) → envOf δ (envFor ks bs) ≡ E′
           → ((j : ℕ) → fieldAt zero τs (k ⊕ j) ≡ fieldAt o (toTys (mirs (rows κs ks))) j) → ((j : ℕ) → getV vs (k ⊕ j) ≡ getV (ofList (vals κs ks x)) j)
           → WTs (ofList (vals κs ks x)) → Then δ (handed (suc (suc (length δ))) ks) (vals κs ks x) after q
           → Seq (Go {0}) W (Γ δ (envFor ks bs)) (runs C Λ E (takes k (suc (suc (length δ))) ks after) q)
@@ -321,7 +321,7 @@ module _ {M : Type 1} (𝓤 : URA M) (H : Heap 𝓤) (A : Atoms 𝓤) (W : Given
         by ! (subst (λ (F : List (Ty × ℕ)). ent 𝓤 (sep 𝓤 (Done δ) (Kf u)) (release 𝓤 H F (Kf u))) at (freed δ [] (Kf u)))))
 
   -- ---- the law
-  module _ (C : Calls 𝓤 H) (Λ : Loops 𝓤 H) (fm : FmC 𝓤 H (W .laws) C) (κs : Lfts 1) (ks : List Kind) (ν : Sym) (R : Ty) (f : Name) (x : Denots (rows κs ks)) where
+  module _ (C : Calls 𝓤 H) (Λ : Loops 𝓤 H) (fm : FmC 𝓤 H (W .laws) C) (κs : Lfts 1) (ks : List FieldKind) (ν : Sym) (R : Ty) (f : Name) (x : Denots (rows κs ks)) where
     abbrev τs : Tys
     τs = toTys (mirs (rows κs ks))
 

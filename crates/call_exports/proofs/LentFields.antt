@@ -17,40 +17,40 @@ use denote.Signature.{Slot, mutSlice, plain, shrSlice, typesAt}
 use denote.Slice.{mut-slice-lawful, mut-slice-tells, shr-slice-lawful, shr-slice-tells, slice-vals}
 
 -- an unsigned number, a table of such numbers that is only read, and one that may be written. A usize is a number of 64 bits.
-pub data Kind : Type 0 where
-  number read written : Width → Kind
+pub data FieldKind : Type 0 where
+  number read written : Width → FieldKind
 
-abbrev slotOf : Kind → Slot 1
+abbrev slotOf : FieldKind → Slot 1
 slotOf (number w) = plain (λ _. UInt w)
 slotOf (read w) = shrSlice 0 tt (λ _. UInt w)
 slotOf (written w) = mutSlice 0 tt (λ _. UInt w)
 
-abbrev pub slots : List Kind → List (Slot 1)
+abbrev pub slots : List FieldKind → List (Slot 1)
 slots [] = []
 slots (k ∷ ks) = slotOf k ∷ slots ks
 
 module _ (κs : Lfts 1) where
-  abbrev pub rows : List Kind → List RattleType
+  abbrev pub rows : List FieldKind → List RattleType
   rows ks = typesAt (slots ks) κs
 
   -- ---- machine values: a number's, and a slice's pointer and length
-  abbrev pub spelled : (ks : List Kind) → Spells (rows ks)
+  abbrev pub spelled : (ks : List FieldKind) → Spells (rows ks)
   spelled [] = tt
   spelled (number w ∷ ks) = (uint-vals w, spelled ks)
   spelled (read w ∷ ks) = (slice-vals, spelled ks)
   spelled (written w ∷ ks) = (slice-vals, spelled ks)
 
-  abbrev pub vals : (ks : List Kind) → Denots (rows ks) → List Val
+  abbrev pub vals : (ks : List FieldKind) → Denots (rows ks) → List Val
   vals ks x = flat (rows ks) (valss (rows ks) (spelled ks) x)
 
-  pub spelled-tell : (ks : List Kind) → Tellss (rows ks) (Ises (rows ks)) (spelled ks)
+  pub spelled-tell : (ks : List FieldKind) → Tellss (rows ks) (Ises (rows ks)) (spelled ks)
   spelled-tell [] = tt
   spelled-tell (number w ∷ ks) = (uint-tells w, spelled-tell ks)
   spelled-tell (read w ∷ ks) = (shr-slice-tells (named 0) (lftAt 1 0 tt κs) (UInt w), spelled-tell ks)
   spelled-tell (written w ∷ ks) = (mut-slice-tells (named 0) (lftAt 1 0 tt κs) (UInt w), spelled-tell ks)
 
   module _ {M : Type 1} (𝓤 : URA M) (H : Heap 𝓤) (A : Atoms 𝓤) (W : Given 𝓤 H A) where
-    pub rows-lawful : (ks : List Kind) → Lawfuls 𝓤 H A (rows ks)
+    pub rows-lawful : (ks : List FieldKind) → Lawfuls 𝓤 H A (rows ks)
     rows-lawful [] = tt
     rows-lawful (number w ∷ ks) = (uint-lawful 𝓤 H A W w, rows-lawful ks)
     rows-lawful (read w ∷ ks) = (shr-slice-lawful 𝓤 H A W (named 0) (lftAt 1 0 tt κs) (UInt w), rows-lawful ks)

@@ -1,6 +1,6 @@
--- `lum_replay` meets its contract: it hands the fields of the struct that it is lent on to `replay_tables`, in their order, and the law `lent-call` says of
--- every such function that it meets the contract at the struct where the other meets its own at the fields. Here stand the kinds of the fields, that the
--- clauses of `replay_tables` are by computation those of `lum_replay`, and that the code is of the law's form. A new field is a new entry of `kinds`.
+-- `lum_replay` meets its contract: it hands the fields of the struct that it is lent on to `replay_tables`, in their order. The law `lent-call` says of every such
+-- function that it meets its contract where the other meets its own. Here stand the kinds of the fields, in their order, that the clauses of `replay_tables` at the
+-- fields are by computation those of `lum_replay`, and that the code is of the law's form. A new field is a new entry of `kinds`.
 -- Assumes nothing.
 use mathlib.Core.List.{List, [], _∷_}
 use mathlib.Core.Path.{refl}
@@ -9,7 +9,7 @@ use base.Logic.{id⊢}
 use denote.Signature.{namedLft}
 use Rattle.call_exports.specs.declared.LumReplayLent.{LumReplayLent}
 use Rattle.call_exports.proofs.LentCall.{lent-call}
-use Rattle.call_exports.proofs.LentFields.{Kind, number, read, written}
+use Rattle.call_exports.proofs.LentFields.{FieldKind, number, read, written}
 use Rattle.call_exports.proofs.LumReplayLent as lent
 use Rattle.call_exports.proofs.LumReplayReply as reply
 use Rattle.call_exports.proofs.LumReplayReply.Laws as reply-laws
@@ -21,7 +21,7 @@ use Rattle.call_exports.proofs.lum_replay.Key.{name as #caller}
 use Rattle.call_exports.proofs.lum_replay.Statement as stated
 use Rattle.call_exports.proofs.lum_replay.Code as code
 
-abbrev kinds : List Kind
+abbrev kinds : List FieldKind
 kinds =
     number w64 ∷ number w64 ∷ number w64 ∷ number w64 ∷ read w16 ∷ read w16 ∷ read w16 ∷ read w16 ∷ read w16 ∷
     written w8 ∷ written w16 ∷ written w32 ∷ []
