@@ -1,27 +1,17 @@
 -- The structs of the exported calls in the words of the product's own definitions. In order: what a returned struct says as an outcome, where the call
--- is accepted if the code is 0; what a struct of tables lends; and the outcome with the tables as a call leaves them.
+-- is accepted if the code is 0 (those of the small calls stand in call_replies/specs/Replies); what a struct of tables lends; and the outcome with the tables as a call leaves them.
 -- Assumes nothing: these are definitions.
 use mathlib.Core.List.{List}
 use Prim.Native.Nat.{ℕ}
 use lib.Dec.{eqb}
 use denote.Ref.{RefT, now}
 use Rattle.theory_contraction.specs.Contraction as contraction
-use Rattle.call_check_number.specs.CheckNumber.{CheckNumberOutcome}
-use Rattle.call_sizes.specs.Sizes.{SizesOutcome}
 use Rattle.theory_timeline.specs.Replay as timeline
 use Rattle.theory_timeline.specs.Call as replaying
-use Rattle.call_exports.specs.declared.LumCheckNumberReply.{LumCheckNumberReply}
 use Rattle.call_exports.specs.declared.LumContractLent.{LumContractLent}
 use Rattle.call_exports.specs.declared.LumContractReply.{LumContractReply}
 use Rattle.call_exports.specs.declared.LumReplayLent.{LumReplayLent}
 use Rattle.call_exports.specs.declared.LumReplayReply.{LumReplayReply}
-use Rattle.call_exports.specs.declared.LumSizesReply.{LumSizesReply}
-
-abbrev pub sizesOf : LumSizesReply → SizesOutcome
-sizesOf r = record { accepted = eqb (r .code) 0; code = r .code; place = r .place; n = r .n; m = r .m; t = r .t; k = r .k }
-
-abbrev pub checkNumberOf : LumCheckNumberReply → CheckNumberOutcome
-checkNumberOf r = record { accepted = eqb (r .code) 0; code = r .code; place = r .place; number = r .number }
 
 -- with the tables that may be written as they are afterwards
 abbrev pub contractedOf : LumContractReply → List ℕ → List ℕ → List ℕ → List ℕ → List ℕ → List ℕ → contraction.Outcome

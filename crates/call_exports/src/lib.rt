@@ -1,9 +1,8 @@
 // The calls as C sees them: a slice is a pointer and a length, what a call is lent is a struct of numbers and slices, a reply a struct of numbers.
 // Each call hands on to the product's own and writes its reply out.
-use call_check_number::CheckNumberReply;
 use call_contract::ContractReply;
-use call_sizes::Sizes;
-use call_sizes::SizesReply;
+use call_replies::LumCheckNumberReply;
+use call_replies::LumSizesReply;
 use theory_timeline::ReplayReply;
 ghost use mathlib.Core.Path.{_≡_};
 ghost use lib.ListN.{length, take};
@@ -15,8 +14,9 @@ ghost use Rattle.call_kinds.specs.Kinds.{kindNumber, kindOf};
 ghost use Rattle.call_sizes.specs.Sizes.{checkSizes};
 ghost use Rattle.theory_timeline.specs.Call as replaying;
 ghost use Rattle.theory_timeline.specs.Replay.{replay};
-ghost use Rattle.call_exports.specs.Exports.{sizesOf, checkNumberOf, contractedOf, replayedOf, contractLent, contractLeft, replayLent, replayLeft};
-ghost use Rattle.call_exports.specs.Version.{version};
+ghost use Rattle.call_replies.specs.Replies.{sizesOf, checkNumberOf};
+ghost use Rattle.call_replies.specs.Version.{version};
+ghost use Rattle.call_exports.specs.Exports.{contractedOf, replayedOf, contractLent, contractLeft, replayLent, replayLeft};
 
 // What a contraction is lent.
 #[repr(C)]
@@ -55,23 +55,6 @@ pub struct LumReplayLent<'a> {
 
 // In each reply the code is 0 where the call is accepted, else the refusal's number; then place is its place and the other numbers are 0.
 #[repr(C)]
-pub struct LumSizesReply {
-    pub code: usize,
-    pub place: usize,
-    pub n: usize,
-    pub m: usize,
-    pub t: usize,
-    pub k: usize,
-}
-
-#[repr(C)]
-pub struct LumCheckNumberReply {
-    pub code: usize,
-    pub place: usize,
-    pub number: u32,
-}
-
-#[repr(C)]
 pub struct LumContractReply {
     pub code: usize,
     pub place: usize,
@@ -94,7 +77,7 @@ pub struct LumReplayReply {
 pub extern "C" fn lum_version() -> u32
     ensures { λ r. ⌜ r ≡ version ⌝ }
 {
-    9
+    call_replies::version()
 }
 
 // The kind of an event, by its number.
@@ -102,8 +85,7 @@ pub extern "C" fn lum_version() -> u32
 pub extern "C" fn lum_kind_of(x: u16, n: usize) -> u32
     ensures { λ r. ⌜ r ≡ kindNumber (kindOf n x) ⌝ }
 {
-    let kind = call_kinds::kind_of(x, n);
-    call_kinds::kind_number(kind)
+    call_replies::kind(x, n)
 }
 
 // The sizes' check.
@@ -111,29 +93,7 @@ pub extern "C" fn lum_kind_of(x: u16, n: usize) -> u32
 pub extern "C" fn lum_sizes(n: usize, m: usize, t: usize, k: usize) -> LumSizesReply
     ensures { λ r. ⌜ sizesOf r ≡ checkSizes n m t k ⌝ }
 {
-    let reply = Sizes::check(n, m, t, k);
-    match reply {
-        SizesReply::Within(s) => {
-            return LumSizesReply {
-                code: 0,
-                place: 0,
-                n: s.n,
-                m: s.m,
-                t: s.t,
-                k: s.k,
-            };
-        }
-        SizesReply::Refused(code, place) => {
-            return LumSizesReply {
-                code: code,
-                place: place,
-                n: 0,
-                m: 0,
-                t: 0,
-                k: 0,
-            };
-        }
-    }
+    call_replies::sizes(n, m, t, k)
 }
 
 // The reader's call. The part that it hands back begins where the table does, so that its length says all.
@@ -142,8 +102,7 @@ pub extern "C" fn lum_answers(table: &[u8], t: usize) -> usize
     ensures { λ r. ⌜ r ≡ length (firstOrNone (now (table .entry)) t) ⌝ }
     ensures { λ r. ⌜ take r (now (table .entry)) ≡ firstOrNone (now (table .entry)) t ⌝ }
 {
-    let part = call_answers::answers(table, t);
-    part.len()
+    call_replies::answers(table, t)
 }
 
 // The check number of the table's first t bytes.
@@ -151,23 +110,7 @@ pub extern "C" fn lum_answers(table: &[u8], t: usize) -> usize
 pub extern "C" fn lum_check_number(table: &[u8], t: usize) -> LumCheckNumberReply
     ensures { λ r. ⌜ checkNumberOf r ≡ numberOfFirst (now (table .entry)) t ⌝ }
 {
-    let reply = call_check_number::check_number(table, t);
-    match reply {
-        CheckNumberReply::Number(number) => {
-            return LumCheckNumberReply {
-                code: 0,
-                place: 0,
-                number: number,
-            };
-        }
-        CheckNumberReply::Refused(code, place) => {
-            return LumCheckNumberReply {
-                code: code,
-                place: place,
-                number: 0,
-            };
-        }
-    }
+    call_replies::check_number(table, t)
 }
 
 // The contraction on the fields of the struct that it is lent, in their order.

@@ -1,8 +1,8 @@
 -- The struct says what the reply of the sizes' check says.
-use Rattle.call_exports.proofs.ReplyLaws.{sizes-refused, sizes-within}
+use Rattle.call_replies.proofs.ReplyLaws.{sizes-refused, sizes-within}
 use borrow.Author.Needs.{needs}
-use Rattle.call_exports.proofs.lum_sizes.Statement.{statement}
-use Rattle.call_exports.proofs.lum_sizes.Tie as tie
+use Rattle.call_replies.proofs.sizes.Statement.{statement}
+use Rattle.call_replies.proofs.sizes.Tie as tie
 
 returns : tie.Need-returns
 returns c =
@@ -14,6 +14,6 @@ returns-2 c =
     let args = c .before .before .before .before .args in
     sizes-refused (args .n) (args .m) (args .t) (args .k) (c .before .before .before .check .ensures) (c .before .reply2 .given .1)
 
-pub lum-sizes-spec : {M : Type 1} → statement M
-lum-sizes-spec =
+pub sizes-spec : {M : Type 1} → statement M
+sizes-spec =
     tie.close (tie.spec (λ c κs. search needs) (λ c. search needs) returns (λ c. search needs) returns-2)

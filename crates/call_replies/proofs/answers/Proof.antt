@@ -2,15 +2,15 @@
 use Prim.Native.Nat.{ℕ}
 use lib.ListN.{length, take}
 use mathlib.Core.Path.{_∙_, ap}
-use Rattle.call_exports.proofs.ReplyLaws.{part-first}
+use Rattle.call_replies.proofs.ReplyLaws.{part-first}
 use borrow.Author.Needs.{needs}
-use Rattle.call_exports.proofs.lum_answers.Statement.{statement}
-use Rattle.call_exports.proofs.lum_answers.Tie as tie
+use Rattle.call_replies.proofs.answers.Statement.{statement}
+use Rattle.call_replies.proofs.answers.Tie as tie
 
 returns : tie.Need-returns
 returns c =
     let e = ap length (c .answers .ensures) in
     (e, ap (λ (k : ℕ). take k (c .before .before .args .table .now)) e ∙ part-first (c .before .before .args .table .now) (c .before .before .args .t))
 
-pub lum-answers-spec : {M : Type 1} → statement M
-lum-answers-spec = tie.close (tie.spec (λ c κs. search needs) returns)
+pub answers-spec : {M : Type 1} → statement M
+answers-spec = tie.close (tie.spec (λ c κs. search needs) returns)
