@@ -4,8 +4,9 @@ use bench::random::Random;
 use bench::{
     check_number, contraction, lists, replay, roads, search, Refusal, CLOSES, NO_NAME, OPENS,
 };
-use std::fmt::Debug;
-use std::str::FromStr;
+
+#[path = "../../bindings/rust/tests/common/vectors.rs"]
+mod vectors;
 
 /// A number for each node's piece, by the edges of these numbers.
 fn pieces(n: usize, edges: &[(usize, usize)], counts: impl Fn(usize) -> bool) -> Vec<usize> {
@@ -486,113 +487,69 @@ fn longer_tables() {
     }
 }
 
-/// A vector: rows of numbers, each behind its name.
-struct Vector<'a>(&'a str);
-
-impl Vector<'_> {
-    fn row<T: FromStr<Err: Debug>>(&self, name: &str) -> Option<Vec<T>> {
-        let line = self.0.lines().find(|l| l.split(' ').next() == Some(name))?;
-        let numbers = line.split_whitespace().skip(1);
-        Some(numbers.map(|w| w.parse().unwrap()).collect())
-    }
-
-    fn numbers<T: FromStr<Err: Debug>>(&self, name: &str) -> Vec<T> {
-        self.row(name).unwrap()
-    }
+fn refusal((code, place): vectors::Refused) -> Refusal {
+    Refusal::new(code, place)
 }
 
-fn vectors(text: &str) -> impl Iterator<Item = Vector<'_>> {
-    text.split("\n\n")
-        .filter(|b| !b.trim().is_empty())
-        .map(Vector)
-}
-
+/// Some with tables that are longer than they must be, and refused ones.
 #[test]
 fn contraction_vectors() {
-    let mut count = 0;
-    for vector in vectors(include_str!("vectors/contraction.txt")) {
-        let row = |name: &str| vector.numbers::<usize>(name);
-        let pairs =
-            |a: &str, b: &str| -> Vec<(usize, usize)> { row(a).into_iter().zip(row(b)).collect() };
-        let edges = pairs("from", "to");
-        let small = plain_small(row("n")[0], &edges, &vec![0; edges.len()], &row("active"));
-        assert_eq!(small.nodes, row("nodes")[0]);
-        assert_eq!(small.edges, pairs("out-from", "out-to"));
-        assert_eq!(small.map, row("map"));
-        count += 1;
+    let all = vectors::contractions();
+    assert_eq!(all.len(), 110);
+    for v in all {
+        let small = plain_contract(&Lent {
+            n: v.n,
+            m: v.m,
+            k: v.k,
+            from: &v.from,
+            to: &v.to,
+            names: &v.names,
+            active: &v.active,
+            lengths: v.lengths,
+        });
+        let numbers = |table: Vec<u16>| table.into_iter().map(usize::from);
+        let expected = v.reply.map_err(refusal).map(|r| Small {
+            nodes: r.nodes,
+            edges: numbers(r.out_from).zip(numbers(r.out_to)).collect(),
+            names: r.out_names,
+            map: numbers(r.map).collect(),
+            pieces: numbers(r.pieces).collect(),
+        });
+        assert_eq!(small, expected);
     }
-    assert_eq!(count, 60);
 }
 
-/// Contractions with pieces and names, with tables that are longer than they must be, and refused ones.
-#[test]
-fn name_vectors() {
-    let mut count = 0;
-    for vector in vectors(include_str!("vectors/names.txt")) {
-        let row = |name: &str| vector.numbers::<usize>(name);
-        let tables = ["from", "to", "names", "active"].map(|name| vector.numbers::<u16>(name));
-        let sizes = row("sizes");
-        let small = plain_contract(&Lent {
-            n: sizes[0],
-            m: sizes[1],
-            k: sizes[2],
-            from: &tables[0],
-            to: &tables[1],
-            names: &tables[2],
-            active: &tables[3],
-            lengths: row("lengths").try_into().unwrap(),
-        });
-        let expected = match vector.row("refused") {
-            Some(refused) => Err(Refusal::new(refused[0], refused[1])),
-            None => Ok(Small {
-                nodes: row("nodes")[0],
-                edges: row("out-from").into_iter().zip(row("out-to")).collect(),
-                names: vector.numbers("out-names"),
-                map: row("map"),
-                pieces: row("pieces"),
-            }),
+fn run_replay_vector(v: vectors::Replay) {
+    let l = lists::List {
+        n: v.n,
+        m: v.m,
+        a: v.a,
+        b: v.b,
+        start: v.start,
+        x: v.x,
+        y: v.y,
+    };
+    let reply = plain_replay(&l, v.t, v.p, v.lengths);
+    let expected = v.reply.map_err(refusal).map(|r| {
+        let totals = replay::Totals {
+            queries: r.queries,
+            open: r.open,
+            kept: r.kept,
         };
-        assert_eq!(small, expected);
-        count += 1;
-    }
-    assert_eq!(count, 50);
+        let names = r.names.unwrap_or_else(|| reply.as_ref().unwrap().1.clone());
+        (r.answers, names, totals)
+    });
+    assert_eq!(reply, expected);
 }
 
 #[test]
 fn replay_vectors() {
-    let mut count = 0;
-    for vector in vectors(include_str!("vectors/replay.txt")) {
-        let sizes: Vec<usize> = vector.numbers("sizes");
-        let lengths: Vec<usize> = vector.numbers("lengths");
-        let l = lists::List {
-            n: sizes[0],
-            m: sizes[1],
-            a: vector.numbers("a"),
-            b: vector.numbers("b"),
-            start: vector.numbers("start"),
-            x: vector.numbers("x"),
-            y: vector.numbers("y"),
-        };
-        let reply = plain_replay(&l, sizes[2], sizes[3], lengths.try_into().unwrap());
-        let expected = match vector.row("refused") {
-            Some(refused) => Err(Refusal::new(refused[0], refused[1])),
-            None => {
-                let totals: Vec<usize> = vector.numbers("totals");
-                let totals = replay::Totals {
-                    queries: totals[0],
-                    open: totals[1],
-                    kept: totals[2],
-                };
-                // The vectors of the program have no names.
-                let names = vector.row("names");
-                let names = names.unwrap_or_else(|| reply.as_ref().unwrap().1.clone());
-                Ok((vector.numbers("answers"), names, totals))
-            }
-        };
-        assert_eq!(reply, expected);
-        count += 1;
-    }
-    assert_eq!(count, 115);
+    let (calls, programs) = (vectors::replays(), vectors::programs());
+    assert_eq!((calls.len(), programs.len()), (50, 65));
+    calls
+        .into_iter()
+        .chain(programs)
+        .for_each(run_replay_vector);
 }
 
 #[test]

@@ -2,6 +2,8 @@
 //! and calls held to the slow version in their reply and in every lent entry afterwards.
 #![allow(dead_code)]
 
+pub mod vectors;
+
 use lumzhasel::tables::{contract, replay, ContractTables, ReplayTables, CLOSES, NO_NAME, OPENS};
 use lumzhasel::Error;
 
