@@ -1,9 +1,10 @@
 // Runs the small calls: the sizes at their limits, the open set against a table of marks, the reader's call, the check number against a fold by the
 // remainder, the kinds of all numbers against the rows of document 01's table. Prints replies and counts.
-use test_library::calls::Bytes;
 use test_library::counts;
 use test_library::print;
 use test_library::random;
+use test_library::replays;
+use test_library::replays::Answers;
 use test_library::tables;
 use test_library::tables::Marks;
 
@@ -69,38 +70,43 @@ fn number_code(table: &[u8], t: usize) -> usize {
 }
 
 // The same of a large table. Here its length is known by its type; within the loop below it is not.
-fn number(table: &Bytes, t: usize) -> usize {
+fn number(table: &Answers, t: usize) -> usize {
     check_number(table, t)
 }
 
 // The check number by document 02's words: it starts at 1, and each byte a turns h into 31h + a + 1, reduced modulo 4,294,967,296.
-fn fold(table: &Bytes, t: usize) -> usize {
+fn fold(table: &Answers, t: usize) -> usize {
     let mut h: usize = 1;
     for i in 0..t {
-        let a = counts::byte(table[i % 4104]);
+        let a = replays::answer_at(table, i);
         h = (31 * (h % 4294967296) + a % 256 + 1) % 4294967296;
     }
     h
 }
 
 // Random bytes below `most`.
-fn fill(table: &mut Bytes, seed: usize, most: usize) {
+fn fill(table: &mut Answers, seed: usize, most: usize) {
     for i in 0..4104 {
         table[i] = (random::at(seed, 2, i, most) % 256) as u8;
     }
 }
 
 // Changes one of the first t bytes.
-fn change_byte(table: &mut Bytes, seed: usize, t: usize) {
+fn change_byte(table: &mut Answers, seed: usize, t: usize) {
     let i = random::at(seed, 5, 0, t) % 4104;
     let a = counts::byte(table[i]) % 256;
     let more = random::at(seed, 6, 0, 255) % 255 + 1;
     table[i] = ((a + more) % 256) as u8;
 }
 
-// Of 512 random tables: how many have a check number that differs from the fold, and how many keep theirs where one byte is changed. Half of them have any
-// bytes and half have answers; t is 1 to 4,096.
-fn compare_numbers() -> [usize; 2] {
+// Of random tables: how many have a check number that differs from the fold, and how many keep theirs where one byte is changed.
+struct Numbers {
+    differing: usize,
+    staying: usize,
+}
+
+// Of 512 tables half have any bytes and half have answers; t is 1 to 4,096.
+fn compare_numbers() -> Numbers {
     let mut table = [0u8; 4104];
     let mut differing: usize = 0;
     let mut staying: usize = 0;
@@ -112,7 +118,7 @@ fn compare_numbers() -> [usize; 2] {
         change_byte(&mut table, seed, t);
         staying = counts::counted(staying, before == number(&table, t));
     }
-    [differing, staying]
+    Numbers { differing, staying }
 }
 
 // The place of the row of document 01's table whose first column holds x, 3 where none does. The rows are tried from the last to the first, so that a number
@@ -152,47 +158,21 @@ fn compare_kinds() -> usize {
     counts::plus(few, counts::plus(kinds_wrong(176), many))
 }
 
-fn main() {
+// The sizes at their limits, the open set and the reader's call.
+fn report_small() {
     let table = [2u8, 0, 1, 3];
-    let differing = counts::plus(compare(1), counts::plus(compare(2), compare(3)));
-    let example = [3u8, 3, 1, 3, 2];
-    let largest = [117u8, 30, 18, 28, 23, 2];
-    let one = [0u8, 1, 2, 0, 2, 0, 0, 0, 0, 1, 0, 0, 1];
-    let other = [1u8, 0, 0, 0, 0, 0, 2, 1, 0, 0, 2, 1, 0];
-    let numbers = compare_numbers();
-    let mut t = [0u32; 512];
-    print::add(
-        &mut t,
-        [
-            code(4096, 8192, 4096, 8192),
-            code(4097, 0, 0, 0),
-            code(0, 8193, 0, 0),
-            code(0, 0, 4097, 0),
-            code(0, 0, 0, 8193),
-            code(0, 0, 0, 0),
-            differing,
-            call_answers::answers(&table, 3).len(),
-            call_answers::answers(&table, 4).len(),
-            call_answers::answers(&table, 5).len(),
-            numbers[0],
-            numbers[1],
-            0,
-            0,
-            0,
-            0,
-        ],
-    );
-    // Check numbers, which `add` would cut.
-    tables::put(&mut t, 12, check_number(&example, 0));
-    tables::put(&mut t, 13, check_number(&example, 1));
-    tables::put(&mut t, 14, check_number(&example, 5));
-    tables::put(&mut t, 15, check_number(&largest, 6));
-    tables::put(&mut t, 16, check_number(&one, 13));
-    tables::put(&mut t, 17, check_number(&other, 13));
-    tables::put(&mut t, 18, number_code(&example, 6));
-    tables::put(&mut t, 19, number_code(&example, 4096));
-    tables::put(&mut t, 20, number_code(&example, 4097));
-    tables::put(&mut t, 21, compare_kinds());
+    let numbers = [
+        code(4096, 8192, 4096, 8192),
+        code(4097, 0, 0, 0),
+        code(0, 8193, 0, 0),
+        code(0, 0, 4097, 0),
+        code(0, 0, 0, 8193),
+        code(0, 0, 0, 0),
+        counts::plus(compare(1), counts::plus(compare(2), compare(3))),
+        call_answers::answers(&table, 3).len(),
+        call_answers::answers(&table, 4).len(),
+        call_answers::answers(&table, 5).len(),
+    ];
     print::report(
         b"\
 4096 junctions refused by #\n\
@@ -205,6 +185,32 @@ open sets that differ from a table: #\n\
 first 3 of 4 answers: #\n\
 first 4 of 4 answers: #\n\
 first 5 of 4 answers: #\n\
+",
+        &numbers,
+    );
+}
+
+fn report_numbers() {
+    let example = [3u8, 3, 1, 3, 2];
+    let largest = [117u8, 30, 18, 28, 23, 2];
+    let one = [0u8, 1, 2, 0, 2, 0, 0, 0, 0, 1, 0, 0, 1];
+    let other = [1u8, 0, 0, 0, 0, 0, 2, 1, 0, 0, 2, 1, 0];
+    let random = compare_numbers();
+    let numbers = [
+        random.differing,
+        random.staying,
+        check_number(&example, 0),
+        check_number(&example, 1),
+        check_number(&example, 5),
+        check_number(&largest, 6),
+        check_number(&one, 13),
+        check_number(&other, 13),
+        number_code(&example, 6),
+        number_code(&example, 4096),
+        number_code(&example, 4097),
+    ];
+    print::report(
+        b"\
 check numbers that differ from a fold: #\n\
 check numbers that stay where one byte changes: #\n\
 check number of no bytes: #\n\
@@ -216,8 +222,23 @@ of thirteen other answers: #\n\
 first 6 of 5 bytes refused by #\n\
 first 4096 of 5 bytes refused by #\n\
 first 4097 of 5 bytes refused by #\n\
+",
+        &numbers,
+    );
+}
+
+fn report_kinds() {
+    let numbers = [compare_kinds()];
+    print::report(
+        b"\
 kinds that differ from the table's rows, of all numbers with 0, 1, 2, 176, 4095 and 4096 junctions: #\n\
 ",
-        &t,
+        &numbers,
     );
+}
+
+fn main() {
+    report_small();
+    report_numbers();
+    report_kinds();
 }

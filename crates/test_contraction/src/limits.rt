@@ -1,96 +1,178 @@
 // Calls at the limits: the path of all nodes with each node active, all nodes without an edge, sizes of one more, tables of one entry less, and the order of
 // the refusals.
 use crate::calls;
-use test_library::calls::Reply;
+use crate::calls::Contracted;
+use test_library::contractions;
+use test_library::contractions::Graph;
+use test_library::contractions::Sizes;
+use test_library::contractions::Small;
 use test_library::counts;
-use test_library::lists;
-use test_library::lists::List;
+use test_library::entries;
+use test_library::print;
 use test_random::graphs;
 
-// The path of these sizes, of which edge 0 begins at this end, and the first active entry is this one. The path itself, with its names, is the result that is
-// wanted, and all entries are in piece 0.
-fn path(n: usize, m: usize, k: usize, short: usize, end: usize, entry: usize) -> Reply {
-    let mut l = [65000u16; 40968];
-    graphs::path(&mut l, n, m, k);
-    lists::set(&mut l, lists::A, 0, end);
-    lists::set(&mut l, lists::X, 0, entry);
-    let mut want = [0u16; 40968];
-    graphs::path(&mut want, n, m, k);
-    calls::run(&l, calls::lengths(&l, short), &want)
+// A path: its sizes, the table that is one entry short, or 0, the end at which edge 0 begins, and the first active entry.
+struct Case {
+    sizes: Sizes,
+    short: usize,
+    end: usize,
+    entry: usize,
+}
+
+impl Case {
+    fn sized(n: usize, m: usize, k: usize) -> Case {
+        Case {
+            sizes: Sizes { n, m, k },
+            short: 0,
+            end: 0,
+            entry: 0,
+        }
+    }
+
+    fn with_short(mut self, table: usize) -> Case {
+        self.short = table;
+        self
+    }
+
+    fn with_bad_end(mut self) -> Case {
+        self.end = 65000;
+        self
+    }
+
+    fn with_bad_entry(mut self) -> Case {
+        self.entry = 65000;
+        self
+    }
+}
+
+// The small graph that is wanted of a path is the path itself, with its names, and all entries are in piece 0.
+fn itself(g: Graph) -> Small {
+    let map = g.active;
+    let from = g.from;
+    let to = g.to;
+    let names = g.names;
+    let mut w = contractions::empty(contractions::accepted(0, 0));
+    w.map = map;
+    w.from = from;
+    w.to = to;
+    w.names = names;
+    w
+}
+
+fn contracted(c: Case) -> Contracted {
+    let mut g = graphs::path(c.sizes);
+    let want = itself(g);
+    entries::set(&mut g.from, 0, c.end);
+    entries::set(&mut g.active, 0, c.entry);
+    calls::run(g, calls::lengths(c.sizes, c.short), want)
 }
 
 // The number by which it is refused, or 99 where it is refused and changed an entry.
-fn code(n: usize, m: usize, k: usize, short: usize, end: usize, entry: usize) -> usize {
-    test_library::calls::code(path(n, m, k, short, end, entry))
+fn code(c: Case) -> usize {
+    let r = contracted(c);
+    contractions::code(r.reply, r.wrong)
 }
 
 // How many of the ten tables are refused by 2 where they are one entry short.
 fn short_refused() -> usize {
     let mut count: usize = 0;
     for i in 1..11 {
-        count = counts::counted(count, code(3, 2, 2, i, 0, 0) == 2);
+        let c = Case::sized(3, 2, 2).with_short(i);
+        count = counts::counted(count, code(c) == 2);
     }
     count
 }
 
 // Sizes are refused before lengths, lengths before ends, ends before entries: calls with all four faults, all but the first, and so on.
-pub(crate) fn refusals() -> [usize; 16] {
-    [
-        code(3, 2, 2, 0, 0, 0),
+pub(crate) fn report_refusals() {
+    let entry = Case::sized(1, 1, 1).with_bad_entry();
+    let end = entry.with_bad_end();
+    let short = end.with_short(1);
+    let all = Case::sized(4097, 1, 1).with_bad_entry().with_bad_end();
+    let numbers = [
+        code(Case::sized(3, 2, 2)),
         short_refused(),
-        code(4097, 1, 1, 1, 65000, 65000),
-        code(1, 1, 1, 1, 65000, 65000),
-        code(1, 1, 1, 0, 65000, 65000),
-        code(1, 1, 1, 0, 0, 65000),
-        code(4097, 8192, 8192, 0, 0, 0),
-        code(4096, 8193, 8192, 0, 0, 0),
-        code(4096, 8192, 8193, 0, 0, 0),
-        code(0, 0, 0, 0, 0, 0),
-        0,
-        0,
-        0,
-        0,
-        0,
-        0,
-    ]
+        code(all.with_short(1)),
+        code(short),
+        code(end),
+        code(entry),
+        code(Case::sized(4097, 8192, 8192)),
+        code(Case::sized(4096, 8193, 8192)),
+        code(Case::sized(4096, 8192, 8193)),
+        code(Case::sized(0, 0, 0)),
+    ];
+    print::report(
+        b"\
+least lengths, reply: #\n\
+of 10 tables one entry short, refused by 2 with all entries kept: #\n\
+faults of size, length, edge and entry at once, reply: #\n\
+of length, edge and entry: #\n\
+of edge and entry: #\n\
+of entry: #\n\
+4097 nodes, reply: #\n\
+8193 edges, reply: #\n\
+8193 entries, reply: #\n\
+nothing at all, reply: #\n\
+",
+        &numbers,
+    );
 }
 
-// Numbers the pieces where no node has an edge and each node in turn is active: as the nodes.
-fn number_alone(l: &mut List) {
-    for i in 0..8192 {
-        let v = lists::at(l, lists::X, i);
-        lists::set(l, lists::Y, i, v);
-    }
-}
-
-// All nodes without an edge.
-fn alone() -> Reply {
-    let mut l = [65000u16; 40968];
-    graphs::path(&mut l, 4096, 0, 8192);
-    number_alone(&mut l);
-    calls::run(&l, calls::lengths(&l, 0), &l)
+// All nodes without an edge, each node in turn active: the pieces are numbered as the nodes.
+fn alone() -> Contracted {
+    let sizes = Sizes {
+        n: 4096,
+        m: 0,
+        k: 8192,
+    };
+    let g = graphs::path(sizes);
+    let pieces = g.active;
+    let mut want = itself(g);
+    want.pieces = pieces;
+    calls::run(g, calls::lengths(sizes, 0), want)
 }
 
 // Calls with all nodes, of the path and without an edge: the replies, and how much of the tables is as it must be.
-pub(crate) fn full() -> [usize; 16] {
-    let r = path(4096, 8192, 8192, 0, 0, 0);
-    let q = alone();
-    [
-        r[0],
-        r[2],
-        r[3],
-        counts::minus(8192, r[5]),
-        counts::minus(8190, r[6]),
-        counts::minus(4095, r[7]),
-        counts::minus(8192, r[8]),
-        counts::minus(131584, r[9]),
-        q[0],
-        q[2],
-        q[3],
-        counts::minus(8192, q[5]),
-        q[7],
-        counts::minus(8192, q[8]),
-        0,
-        0,
-    ]
+pub(crate) fn report_full() {
+    let path = contracted(Case::sized(4096, 8192, 8192));
+    let r = path.reply;
+    let w = path.wrong;
+    let none = alone();
+    let q = none.reply;
+    let v = none.wrong;
+    let numbers = [
+        r.code,
+        r.nodes,
+        r.edges,
+        counts::minus(8192, w.map),
+        counts::minus(8190, w.ends),
+        counts::minus(4095, w.names),
+        counts::minus(8192, w.pieces),
+        counts::minus(131584, w.work),
+        q.code,
+        q.nodes,
+        q.edges,
+        counts::minus(8192, v.map),
+        v.names,
+        counts::minus(8192, v.pieces),
+    ];
+    print::report(
+        b"\
+4096 nodes, 8192 edges, 8192 entries, reply: #\n\
+nodes: #\n\
+edges: #\n\
+map entries right: #\n\
+ends of edges right: #\n\
+names right: #\n\
+pieces right: #\n\
+words 0: #\n\
+4096 nodes, no edge, 8192 entries, reply: #\n\
+nodes: #\n\
+edges: #\n\
+map entries right: #\n\
+names written: #\n\
+pieces right: #\n\
+",
+        &numbers,
+    );
 }

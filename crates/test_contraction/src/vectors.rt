@@ -6,89 +6,129 @@
 // first four tables of these lengths; and where it is accepted the map, the first and the second ends of the edges out, their names, and the pieces.
 use crate::calls;
 use libc::STDIN_FILENO;
-use test_library::calls::Lengths;
-use test_library::calls::Reply;
+use test_library::contractions;
+use test_library::contractions::Graph;
+use test_library::contractions::Lengths;
+use test_library::contractions::Reply;
+use test_library::contractions::Sizes;
+use test_library::contractions::Small;
 use test_library::counts;
-use test_library::lists;
-use test_library::lists::List;
 use test_library::print;
-use test_library::tables::Table;
 use test_library::text;
 use test_library::text::Text;
-use test_slow_contraction::contraction;
 
-// Copies the tables of these lengths into the list, and answers which number comes then.
-fn copy_graph(l: &mut List, text: &Text, start: usize, lengths: Lengths) -> usize {
-    let b = text::copy(l, lists::A, text, start, 30, lengths[0]);
-    let names = text::copy(l, lists::B, text, start, b, lengths[1]);
-    let x = text::copy(l, lists::NAMES, text, start, names, lengths[2]);
-    text::copy(l, lists::X, text, start, x, lengths[3])
+// How many vectors there are, how many are accepted, how many of them the call does not give, and on how many the slow contraction differs from the call.
+struct Counts {
+    vectors: usize,
+    accepted: usize,
+    wrong: usize,
+    slow_differs: usize,
 }
 
-// Copies the result for k active entries that begins at this number.
-fn copy_result(want: &mut List, text: &Text, start: usize, from: usize, reply: Reply, k: usize) {
-    let a = text::copy(want, lists::X, text, start, from, k);
-    let b = text::copy(want, lists::A, text, start, a, reply[3]);
-    let names = text::copy(want, lists::B, text, start, b, reply[3]);
-    let y = text::copy(want, lists::NAMES, text, start, names, reply[3]);
-    text::copy(want, lists::Y, text, start, y, k);
+fn read_sizes(text: &Text, start: usize) -> Sizes {
+    let r = text::row(text, start, 0);
+    Sizes {
+        n: r[0],
+        m: r[1],
+        k: r[2],
+    }
 }
 
-// Counts the vector that begins at start: whether the call gives it, and whether the slow contraction gives what the call does.
-fn add(t: &mut Table, text: &Text, start: usize) {
-    let sizes = text::row(text, start, 0);
-    let lengths = text::row(text, start, 10);
-    let reply = text::row(text, start, 20);
-    let mut l = [65000u16; 40968];
-    let mut want = [0u16; 40968];
-    lists::set_sizes(&mut l, sizes[0], sizes[1], sizes[2], 0);
-    let from = copy_graph(&mut l, text, start, lengths);
-    copy_result(&mut want, text, start, from, reply, sizes[2]);
-    let right = calls::agrees(&l, lengths, reply, &want);
-    let mut slow = [0u16; 40968];
-    let s = contraction::reply(&mut slow, &l, lengths);
-    let slow_right = calls::agrees(&l, lengths, s, &slow);
-    print::add(
-        t,
-        [
-            1,
-            (reply[0] == 0) as usize,
-            !right as usize,
-            !slow_right as usize,
-            0,
-            0,
-            0,
-            0,
-            0,
-            0,
-            0,
-            0,
-            0,
-            0,
-            0,
-            0,
-        ],
-    );
+fn read_lengths(text: &Text, start: usize) -> Lengths {
+    let r = text::row(text, start, 10);
+    Lengths {
+        from: r[0],
+        to: r[1],
+        names: r[2],
+        active: r[3],
+        map: r[4],
+        out_from: r[5],
+        out_to: r[6],
+        out_names: r[7],
+        pieces: r[8],
+        work: r[9],
+    }
+}
+
+fn read_reply(text: &Text, start: usize) -> Reply {
+    let r = text::row(text, start, 20);
+    Reply {
+        code: r[0],
+        place: r[1],
+        nodes: r[2],
+        edges: r[3],
+    }
+}
+
+fn read_graph(text: &Text, start: usize, sizes: Sizes, lengths: Lengths) -> Graph {
+    let mut g = contractions::filled(sizes, 65000);
+    let to = text::copy(&mut g.from, text, start, 30, lengths.from);
+    let names = text::copy(&mut g.to, text, start, to, lengths.to);
+    let active = text::copy(&mut g.names, text, start, names, lengths.names);
+    text::copy(&mut g.active, text, start, active, lengths.active);
+    g
+}
+
+// Which number comes behind the tables of the graph.
+fn behind(l: Lengths) -> usize {
+    let edges = counts::plus(l.from, counts::plus(l.to, l.names));
+    counts::plus(counts::plus(30, edges), l.active)
+}
+
+// What is wanted, of k active entries.
+fn read_small(text: &Text, start: usize, from: usize, k: usize) -> Small {
+    let reply = read_reply(text, start);
+    let mut w = contractions::empty(reply);
+    let a = text::copy(&mut w.map, text, start, from, k);
+    let b = text::copy(&mut w.from, text, start, a, reply.edges);
+    let names = text::copy(&mut w.to, text, start, b, reply.edges);
+    let pieces = text::copy(&mut w.names, text, start, names, reply.edges);
+    text::copy(&mut w.pieces, text, start, pieces, k);
+    w
+}
+
+// Counts the vector that begins at start.
+fn add(c: Counts, text: &Text, start: usize) -> Counts {
+    let sizes = read_sizes(text, start);
+    let lengths = read_lengths(text, start);
+    let g = read_graph(text, start, sizes, lengths);
+    let want = read_small(text, start, behind(lengths), sizes.k);
+    let right = calls::agrees(g, lengths, want);
+    let slow_right = calls::agrees(g, lengths, calls::slow(g, lengths));
+    Counts {
+        vectors: counts::plus(c.vectors, 1),
+        accepted: counts::counted(c.accepted, want.reply.code == 0),
+        wrong: counts::counted(c.wrong, !right),
+        slow_differs: counts::counted(c.slow_differs, !slow_right),
+    }
 }
 
 // Counts all vectors. After the last one there is no ;.
-fn run(t: &mut Table, text: &Text, length: usize) {
+fn run(text: &Text, length: usize) -> Counts {
+    let mut c = Counts {
+        vectors: 0,
+        accepted: 0,
+        wrong: 0,
+        slow_differs: 0,
+    };
     let mut start: usize = 0;
     for _ in 0..120usize {
         let end = text::find(text, start, 59);
         if end < length {
-            add(t, text, start);
+            let next = add(c, text, start);
+            c = next;
             start = counts::plus(end, 2);
         }
     }
+    c
 }
 
 // Reads the vectors and runs them.
 pub(crate) fn report() {
     let mut text = [0u8; 65536];
     let length = io::read_full(STDIN_FILENO, &mut text);
-    let mut t = [0u32; 512];
-    run(&mut t, &text, length);
+    let c = run(&text, length);
+    let numbers = [c.vectors, c.accepted, c.wrong, c.slow_differs];
     print::report(
         b"\
 vectors: #\n\
@@ -96,6 +136,6 @@ accepted: #\n\
 wrong: #\n\
 on which the slow contraction differs from the call: #\n\
 ",
-        &t,
+        &numbers,
     );
 }

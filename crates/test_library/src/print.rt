@@ -1,23 +1,22 @@
-// What a test program counts and prints.
+// What a test program prints.
 use crate::counts;
-use crate::tables;
-use crate::tables::Table;
 use libc::STDOUT_FILENO;
 
-// Internal: adds a row to the counts.
-pub fn add(numbers: &mut Table, row: [usize; 16]) {
-    for i in 0..16 {
-        tables::put(numbers, i, counts::plus(tables::get(numbers, i), row[i]));
+// Number i, or 0.
+fn number(numbers: &[usize], i: usize) -> usize {
+    if i < numbers.len() {
+        return numbers[i];
     }
+    0
 }
 
-// Internal: writes the text with the counts, in their order, in place of each #.
-pub fn report(text: &[u8], numbers: &Table) {
+// Internal: writes the text with the numbers, in their order, in place of each #.
+pub fn report(text: &[u8], numbers: &[usize]) {
     let n = text.len();
     let mut next: usize = 0;
     for i in 0..n {
         if text[i] == 35 {
-            io::print_decimal(STDOUT_FILENO, tables::get(numbers, next) as u64);
+            io::print_decimal(STDOUT_FILENO, number(numbers, next) as u64);
             next = counts::plus(next, 1);
         } else {
             let byte = [text[i]];

@@ -1,7 +1,7 @@
 // Tables of numbers and of marks. An index goes round at the end, so that no caller has to know the bounds.
 use crate::counts;
 
-// Numbers of at most 512 nodes, or counts of a report.
+// Numbers of at most 512 nodes.
 pub type Table = [u32; 512];
 
 // A mark for each segment, or for each junction.

@@ -1,7 +1,7 @@
 // Vectors as text, which a test program reads from standard input: each is a line with ; at its end, and numbers stand in base 16.
 use crate::counts;
-use crate::lists;
-use crate::lists::List;
+use crate::entries;
+use crate::entries::Entries;
 
 pub type Text = [u8; 65536];
 
@@ -35,8 +35,8 @@ pub fn pair(text: &Text, i: usize) -> usize {
     high % 16 * 16 + low % 16
 }
 
-// Number j, of four digits, of the line that begins at start.
-fn number(text: &Text, start: usize, j: usize) -> usize {
+// Internal: number j, of four digits, of the line that begins at start.
+pub fn number(text: &Text, start: usize, j: usize) -> usize {
     let i = counts::plus(start, j % 8192 * 4);
     pair(text, i) % 256 * 256 + pair(text, counts::plus(i, 2)) % 256
 }
@@ -51,16 +51,9 @@ pub fn row(text: &Text, start: usize, from: usize) -> [usize; 10] {
 }
 
 // Internal: copies the count numbers from this one on into a table, and answers which one comes then.
-pub fn copy(
-    l: &mut List,
-    table: usize,
-    text: &Text,
-    start: usize,
-    from: usize,
-    count: usize,
-) -> usize {
+pub fn copy(t: &mut Entries, text: &Text, start: usize, from: usize, count: usize) -> usize {
     for j in 0..count {
-        lists::set(l, table, j, number(text, start, counts::plus(from, j)));
+        entries::set(t, j, number(text, start, counts::plus(from, j)));
     }
     counts::plus(from, count)
 }

@@ -6,31 +6,13 @@ use test_library::print;
 
 fn main() {
     let v = vectors::read();
-    let lengths = outputs::lengths_refused();
-    let past = outputs::sizes_refused(1);
-    let within = outputs::sizes_refused(0);
-    let mut t = [0u32; 512];
-    print::add(
-        &mut t,
-        [
-            v[0],
-            v[1],
-            lengths,
-            past,
-            within,
-            0,
-            0,
-            0,
-            0,
-            0,
-            0,
-            0,
-            0,
-            0,
-            0,
-            0,
-        ],
-    );
+    let numbers = [
+        v.vectors,
+        v.wrong,
+        outputs::lengths_refused(),
+        outputs::sizes_refused(1),
+        outputs::sizes_refused(0),
+    ];
     print::report(
         b"\
 vectors of the program: #\n\
@@ -39,6 +21,6 @@ of the lengths 0 to 5119 of an input of 34 bytes, refused by 9: #\n\
 of 177 junctions, 65 segments, 33 events, refused by 10: #\n\
 of 176 junctions, 64 segments, 32 events, refused by 10: #\n\
 ",
-        &t,
+        &numbers,
     );
 }

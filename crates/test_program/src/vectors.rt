@@ -8,6 +8,12 @@ use test_library::counts;
 use test_library::text;
 use test_library::text::Text;
 
+// How many vectors there are, and how many of them are wrong.
+pub(crate) struct Counts {
+    pub(crate) vectors: usize,
+    pub(crate) wrong: usize,
+}
+
 // How many bytes the input has that stands from start to end.
 fn input_length(start: usize, end: usize) -> usize {
     counts::minus(end, start) / 2
@@ -52,7 +58,7 @@ fn is_right(text: &Text, start: usize, end: usize) -> bool {
 }
 
 // Counts all vectors, and those that are wrong. After the last one there is no ;.
-fn run(text: &Text, length: usize) -> [usize; 2] {
+fn run(text: &Text, length: usize) -> Counts {
     let mut start: usize = 0;
     let mut count: usize = 0;
     let mut wrong: usize = 0;
@@ -64,11 +70,14 @@ fn run(text: &Text, length: usize) -> [usize; 2] {
             start = counts::plus(end, 2);
         }
     }
-    [count, wrong]
+    Counts {
+        vectors: count,
+        wrong,
+    }
 }
 
 // Reads the vectors and runs them.
-pub(crate) fn read() -> [usize; 2] {
+pub(crate) fn read() -> Counts {
     let mut text = [0u8; 65536];
     let length = io::read_full(STDIN_FILENO, &mut text);
     run(&text, length)

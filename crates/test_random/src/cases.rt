@@ -1,96 +1,215 @@
-// Lists on the path 0-1-2 with loops for the segments that are left, at the limits and with faults. A case is N, M, T, the share, the table that is short, and
-// the numbers that vary: the end at which segment 1 begins, the starting entries of segments 0 and 1, and X of the first three events; last the table that is
-// one entry longer than its size. Each Y is 1, the other segments are open at the start, and the other events ask for junction 1 with itself. Where segment 1
-// begins at 2 it is a loop, of one road with segment 2.
+// Lists on the path 0-1-2 with loops for the segments that are left, at the limits and with faults. Each event has Y 1, so that it opens or closes segment 1, or
+// asks for junction 1 with the junction X; and the segments that no number is for are open at the start.
 use crate::networks;
-use test_library::lists;
-use test_library::lists::List;
+use crate::networks::Network;
+use test_library::counts;
+use test_library::entries;
+use test_library::replays;
+use test_library::replays::CLOSES;
+use test_library::replays::List;
+use test_library::replays::OPENS;
+use test_library::replays::Sizes;
 
-pub type Case = [usize; 12];
+// The sizes; the table that is one entry short and the one that is one entry longer than its size, or 0; and the numbers that vary: the end at which segment 1
+// begins, the starting entries of segments 0 and 1, and X of the first three events.
+pub struct Case {
+    pub sizes: Sizes,
+    pub short: usize,
+    pub long: usize,
+    pub end: usize,
+    pub start: [usize; 2],
+    pub x: [usize; 3],
+}
 
-// A fault: which number of a case it sets, and to what, and its refusal with its place.
-pub type Fault = [usize; 4];
+// X of a query.
+pub const ASKS: usize = 0;
 
-// Internal: makes the list of a case, where all entries were 1.
-pub fn make(l: &mut List, c: Case) {
-    lists::set_sizes(l, c[0], c[1], c[2], c[3]);
-    networks::make(l, networks::PATH, 0, 3, 0);
-    lists::set(l, lists::A, 1, c[5]);
-    lists::set(l, lists::START, 0, c[6]);
-    lists::set(l, lists::START, 1, c[7]);
-    lists::set(l, lists::X, 0, c[8]);
-    lists::set(l, lists::X, 1, c[9]);
-    lists::set(l, lists::X, 2, c[10]);
+// X of an event of no kind.
+const NO_KIND: usize = 65533;
+
+// Internal: the list of a case.
+pub fn make(c: Case) -> List {
+    let sizes = c.sizes;
+    let w = Network {
+        kind: networks::PATH,
+        seed: 0,
+        segments: sizes.m,
+        places: 3,
+        roads: 0,
+    };
+    let mut l = replays::filled(sizes, 1);
+    networks::make_ends(&mut l.a, w, 0);
+    networks::make_ends(&mut l.b, w, 1);
+    entries::set(&mut l.a, 1, c.end);
+    entries::set(&mut l.start, 0, c.start[0]);
+    entries::set(&mut l.start, 1, c.start[1]);
+    let mut x = [0u16; 8200];
+    entries::set(&mut x, 0, c.x[0]);
+    entries::set(&mut x, 1, c.x[1]);
+    entries::set(&mut x, 2, c.x[2]);
+    l.x = x;
+    l
+}
+
+impl Case {
+    // Internal: no fault and no change: all segments are open, and the events ask.
+    pub fn sized(n: usize, m: usize, t: usize) -> Case {
+        Case {
+            sizes: Sizes { n, m, t, p: 8 },
+            short: 0,
+            long: 0,
+            end: 1,
+            start: [1, 1],
+            x: [ASKS, ASKS, ASKS],
+        }
+    }
+
+    // Internal: the case with this starting entry of segment 1.
+    pub fn with_start(mut self, entry: usize) -> Case {
+        self.start[1] = entry;
+        self
+    }
+
+    // Internal: the path with two events, and this starting entry.
+    pub fn path(entry: usize) -> Case {
+        Case::sized(3, 2, 2).with_start(entry)
+    }
+
+    // The same, where segment 1 is a loop, of one road with segment 2.
+    fn doubled(entry: usize) -> Case {
+        let mut c = Case::sized(3, 3, 2).with_start(entry);
+        c.end = 2;
+        c
+    }
+
+    // Internal: the case with these X of its first two events.
+    pub fn with_events(mut self, first: usize, second: usize) -> Case {
+        self.x[0] = first;
+        self.x[1] = second;
+        self
+    }
+
+    fn with_share(mut self, p: usize) -> Case {
+        self.sizes.p = p;
+        self
+    }
+
+    // Internal: the case with a fault.
+    pub fn with_fault(mut self, f: Fault) -> Case {
+        match f {
+            Fault::Size => self.sizes.n = 4097,
+            Fault::Short(table) => self.short = table,
+            Fault::Long(table) => self.long = table,
+            Fault::Share => self.sizes.p = 13,
+            Fault::End => self.end = 65000,
+            Fault::Start => self.start[0] = 2,
+            Fault::Opens => self.x[0] = OPENS,
+            Fault::Closes => self.x[1] = CLOSES,
+            Fault::Kind => self.x[2] = NO_KIND,
+        }
+        self
+    }
+}
+
+// A fault: a size, a table an entry short or longer, the share, an end, a starting entry, or one of the first three events: one that opens an open segment,
+// closes a closed one, or has no kind.
+pub enum Fault {
+    Size,
+    Short(usize),
+    Long(usize),
+    Share,
+    End,
+    Start,
+    Opens,
+    Closes,
+    Kind,
+}
+
+// A refusal's number and its place.
+pub struct Refusal {
+    pub code: usize,
+    pub place: usize,
+}
+
+// Internal: the refusal of a fault.
+pub fn refusal_of(f: Fault) -> Refusal {
+    match f {
+        Fault::Size => Refusal { code: 1, place: 0 },
+        Fault::Short(_) => Refusal { code: 2, place: 0 },
+        Fault::Long(_) => Refusal { code: 12, place: 0 },
+        Fault::Share => Refusal { code: 3, place: 0 },
+        Fault::End => Refusal { code: 4, place: 1 },
+        Fault::Start => Refusal { code: 11, place: 0 },
+        Fault::Opens => Refusal { code: 6, place: 0 },
+        Fault::Closes => Refusal { code: 7, place: 1 },
+        Fault::Kind => Refusal { code: 5, place: 2 },
+    }
+}
+
+// Internal: fault i of nine, in the order of the refusals, those at events in the order of the events. The starting entry stands before the end.
+pub fn fault_at(i: usize) -> Fault {
+    match i {
+        0 => Fault::Size,
+        1 => Fault::Short(8),
+        2 => Fault::Long(1),
+        3 => Fault::Share,
+        4 => Fault::End,
+        5 => Fault::Start,
+        6 => Fault::Opens,
+        7 => Fault::Closes,
+        _ => Fault::Kind,
+    }
+}
+
+// A case whose second event has no kind, with the six faults before those of events, but for the first so many.
+fn with_all_from(first: usize) -> Case {
+    let mut c = Case::path(0).with_events(OPENS, NO_KIND);
+    for i in first..6 {
+        let d = c.with_fault(fault_at(i));
+        c = d;
+    }
+    c
+}
+
+// Cases with changes of segment 1, alone and beside another segment of its road.
+fn changing(i: usize) -> Case {
+    match i {
+        4 => Case::path(0).with_events(ASKS, CLOSES),
+        5 => Case::path(0).with_events(OPENS, OPENS),
+        6 => Case::path(1).with_events(OPENS, ASKS),
+        7 => Case::path(1).with_events(CLOSES, CLOSES),
+        8 => Case::path(1).with_events(CLOSES, OPENS),
+        9 => Case::doubled(0).with_events(OPENS, ASKS),
+        10 => Case::doubled(0).with_events(OPENS, OPENS),
+        11 => Case::doubled(1).with_events(CLOSES, ASKS),
+        _ => Case::doubled(0).with_events(CLOSES, ASKS),
+    }
 }
 
 // Internal: case i. Sizes are refused before short tables, these before long ones, these before the share, the share before ends, ends before starting
 // entries, and these before events: the last seven have all these faults, all but the first, and so on.
-pub fn case(i: usize) -> Case {
+pub fn case_at(i: usize) -> Case {
     match i {
-        0 => [4096, 8192, 4096, 8, 0, 1, 1, 1, 0, 0, 0, 0],
-        1 => [4097, 8192, 4096, 8, 0, 1, 1, 1, 0, 0, 0, 0],
-        2 => [4096, 8193, 4096, 8, 0, 1, 1, 1, 0, 0, 0, 0],
-        3 => [4096, 8192, 4097, 8, 0, 1, 1, 1, 0, 0, 0, 0],
-        4 => [3, 2, 2, 8, 0, 1, 1, 0, 0, 65534, 0, 0],
-        5 => [3, 2, 2, 8, 0, 1, 1, 0, 65535, 65535, 0, 0],
-        6 => [3, 2, 2, 8, 0, 1, 1, 1, 65535, 0, 0, 0],
-        7 => [3, 2, 2, 8, 0, 1, 1, 1, 65534, 65534, 0, 0],
-        8 => [3, 2, 2, 8, 0, 1, 1, 1, 65534, 65535, 0, 0],
-        9 => [3, 3, 2, 8, 0, 2, 1, 0, 65535, 0, 0, 0],
-        10 => [3, 3, 2, 8, 0, 2, 1, 0, 65535, 65535, 0, 0],
-        11 => [3, 3, 2, 8, 0, 2, 1, 1, 65534, 0, 0, 0],
-        12 => [3, 3, 2, 8, 0, 2, 1, 0, 65534, 0, 0, 0],
-        13 => [3, 2, 2, 8, 0, 1, 1, 2, 0, 0, 0, 0],
-        14 => [3, 1, 2, 8, 0, 1, 1, 2, 0, 0, 0, 3],
-        15 => [3, 2, 2, 3, 0, 1, 1, 0, 0, 0, 0, 0],
-        16 => [3, 2, 2, 4, 0, 1, 1, 0, 0, 0, 0, 0],
-        17 => [3, 2, 2, 12, 0, 1, 1, 0, 0, 0, 0, 0],
-        18 => [3, 2, 2, 13, 0, 1, 1, 0, 0, 0, 0, 0],
-        19 => [3, 2, 2, 8, 0, 1, 1, 0, 65535, 0, 0, 0],
-        20 => [4097, 2, 2, 13, 3, 65000, 65535, 0, 65535, 65533, 0, 4],
-        21 => [3, 2, 2, 13, 3, 65000, 65535, 0, 65535, 65533, 0, 4],
-        22 => [3, 2, 2, 13, 0, 65000, 65535, 0, 65535, 65533, 0, 4],
-        23 => [3, 2, 2, 13, 0, 65000, 65535, 0, 65535, 65533, 0, 0],
-        24 => [3, 2, 2, 8, 0, 65000, 65535, 0, 65535, 65533, 0, 0],
-        25 => [3, 2, 2, 8, 0, 1, 65535, 0, 65535, 65533, 0, 0],
-        _ => [3, 2, 2, 8, 0, 1, 1, 0, 65535, 65533, 0, 0],
+        0 => Case::sized(4096, 8192, 4096),
+        1 => Case::sized(4097, 8192, 4096),
+        2 => Case::sized(4096, 8193, 4096),
+        3 => Case::sized(4096, 8192, 4097),
+        13 => Case::path(2),
+        14 => Case::sized(3, 1, 2)
+            .with_start(2)
+            .with_fault(Fault::Long(3)),
+        15 => Case::path(0).with_share(3),
+        16 => Case::path(0).with_share(4),
+        17 => Case::path(0).with_share(12),
+        18 => Case::path(0).with_share(13),
+        19 => Case::path(0).with_events(OPENS, ASKS),
+        4..=12 => changing(i),
+        _ => with_all_from(counts::minus(i, 20)),
     }
-}
-
-// Internal: the fault of a table that is one entry short.
-pub fn short(table: usize) -> Fault {
-    [4, table, 2, 0]
-}
-
-// Internal: the fault of a table that is one entry longer than its size.
-pub fn long(table: usize) -> Fault {
-    [11, table, 12, 0]
-}
-
-// Internal: fault i of nine, in the order of the refusals, those at events in the order of the events. The starting entry stands before the end.
-pub fn fault(i: usize) -> Fault {
-    match i {
-        0 => [0, 4097, 1, 0],
-        1 => short(8),
-        2 => long(1),
-        3 => [3, 13, 3, 0],
-        4 => [5, 65000, 4, 1],
-        5 => [6, 2, 11, 0],
-        6 => [8, 65535, 6, 0],
-        7 => [9, 65534, 7, 1],
-        _ => [10, 65533, 5, 2],
-    }
-}
-
-fn with_fault(c: Case, f: Fault) -> Case {
-    let mut d = c;
-    let at = f[0] % 12;
-    d[at] = f[1];
-    d
 }
 
 // Internal: a case with two faults, or with the first alone where both set the same number. Without them its first event closes segment 1.
 pub fn pair(first: Fault, second: Fault) -> Case {
-    let c = with_fault([3, 2, 3, 8, 0, 1, 1, 1, 65534, 0, 0, 0], second);
-    with_fault(c, first)
+    let c = Case::sized(3, 2, 3).with_events(CLOSES, ASKS);
+    c.with_fault(second).with_fault(first)
 }

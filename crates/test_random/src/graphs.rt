@@ -1,9 +1,13 @@
 // Random graphs of at most 12 nodes, 16 edges and 9 active entries, of several kinds, with names on their edges; and graphs with a fault.
 use crate::networks;
+use crate::networks::Network;
 use test_library::calls;
+use test_library::contractions;
+use test_library::contractions::Graph;
+use test_library::contractions::Sizes;
 use test_library::counts;
-use test_library::lists;
-use test_library::lists::List;
+use test_library::entries;
+use test_library::entries::Entries;
 use test_library::random;
 
 fn nodes(kind: usize, s: usize) -> usize {
@@ -32,6 +36,12 @@ fn entry(kind: usize, s: usize, n: usize, i: usize) -> usize {
     }
 }
 
+fn make_entries(active: &mut Entries, kind: usize, s: usize, n: usize, k: usize) {
+    for i in 0..k {
+        entries::set(active, i, entry(kind, s, n, i));
+    }
+}
+
 // The name of edge i: in turn one of few, so that several edges have the same, any number, or one of the largest, 65535 among them.
 fn name(s: usize, i: usize) -> usize {
     let low = random::at(s, 25, i, 256) % 256;
@@ -42,45 +52,77 @@ fn name(s: usize, i: usize) -> usize {
     }
 }
 
-fn make_names(l: &mut List, s: usize) {
-    let m = lists::size(l, lists::B);
+fn make_names(names: &mut Entries, s: usize, m: usize) {
     for i in 0..m {
-        lists::set(l, lists::NAMES, i, name(s, i));
+        entries::set(names, i, name(s, i));
     }
 }
 
-// Makes the edges, their names and the active entries of a graph with these sizes.
-fn fill(l: &mut List, kind: usize, s: usize) {
-    let n = lists::size(l, lists::A);
-    let k = lists::size(l, lists::X);
-    networks::make(l, kind, s, n, 0);
-    make_names(l, s);
-    for i in 0..k {
-        lists::set(l, lists::X, i, entry(kind, s, n, i));
-    }
+// The graph of a kind and a seed with these sizes.
+fn sized(kind: usize, s: usize, sizes: Sizes) -> Graph {
+    let n = sizes.n;
+    let m = sizes.m;
+    let w = Network {
+        kind,
+        seed: s,
+        segments: m,
+        places: n,
+        roads: 0,
+    };
+    let mut g = contractions::filled(sizes, 65000);
+    networks::make_ends(&mut g.from, w, 0);
+    networks::make_ends(&mut g.to, w, 1);
+    make_names(&mut g.names, s, m);
+    make_entries(&mut g.active, kind, s, n, sizes.k);
+    g
 }
 
-// Puts an end or an entry that is no node into the graph, or both.
-fn spoil(l: &mut List, s: usize) {
+// The graph with an end that is no node.
+fn with_bad_end(graph: Graph, s: usize) -> Graph {
+    let mut g = graph;
+    let bad = networks::bad_end(s, g.sizes.n);
+    if bad.side == 0 {
+        entries::set(&mut g.from, bad.segment, bad.value);
+    } else {
+        entries::set(&mut g.to, bad.segment, bad.value);
+    }
+    g
+}
+
+// The graph with an active entry that is no node.
+fn with_bad_entry(graph: Graph, s: usize) -> Graph {
+    let mut g = graph;
+    let n = g.sizes.n;
+    entries::set(&mut g.active, random::at(s, 9, 0, 9), n);
+    g
+}
+
+// The graph with an end or an entry that is no node, or both.
+fn spoilt(g: Graph, s: usize) -> Graph {
     let what = random::at(s, 8, 0, 4);
-    let v = lists::size(l, lists::A);
-    if what < 3 {
-        networks::spoil(l, s);
+    if what < 2 {
+        return with_bad_end(g, s);
     }
-    if what > 1 {
-        lists::set(l, lists::X, random::at(s, 9, 0, 9), v);
+    if what == 2 {
+        return with_bad_entry(with_bad_end(g, s), s);
     }
+    with_bad_entry(g, s)
 }
 
 // Internal: the random graph s, of each kind in turn, and every ninth with a fault.
-pub fn make(l: &mut List, s: usize) {
+pub fn make(s: usize) -> Graph {
     let kind = s % 8;
     let n = nodes(kind, s);
-    lists::set_sizes(l, n, edges(kind, s, n), random::at(s, 5, 0, 10), 0);
-    fill(l, kind, s);
+    let sizes = Sizes {
+        n,
+        m: edges(kind, s, n),
+        k: random::at(s, 5, 0, 10),
+    };
+    let g = sized(kind, s, sizes);
     if s % 9 == 8 {
-        spoil(l, s);
+        return spoilt(g, s);
     }
+    g
 }
 
 // Internal: which table of the random graph s is one entry short: of some of those with a fault one, else all are longer.
@@ -91,8 +133,7 @@ pub fn short(s: usize) -> usize {
     calls::LONGER
 }
 
-// Internal: the path of n nodes with m edges and k active entries: each node in turn is active. Names are any numbers.
-pub fn path(l: &mut List, n: usize, m: usize, k: usize) {
-    lists::set_sizes(l, n, m, k, 0);
-    fill(l, networks::PATH, 8);
+// Internal: the path with these sizes: each node in turn is active. Names are any numbers.
+pub fn path(sizes: Sizes) -> Graph {
+    sized(networks::PATH, 8, sizes)
 }

@@ -1,19 +1,44 @@
 // Random networks with lists of events, of several kinds; and such with a fault.
 use crate::networks;
+use crate::networks::Network;
 use test_library::calls;
 use test_library::counts;
-use test_library::lists;
-use test_library::lists::List;
+use test_library::entries;
+use test_library::entries::Entries;
 use test_library::random;
+use test_library::replays::CLOSES;
+use test_library::replays::Event;
+use test_library::replays::List;
+use test_library::replays::OPENS;
+use test_library::replays::Sizes;
 use test_library::tables;
 use test_library::tables::Marks;
 
+// What a list is drawn by: the kind of its network, the seed, the junctions, the segments, the roads that they go along, the most events, and of how many of
+// eight segments are open at the start.
+struct Draw {
+    kind: usize,
+    seed: usize,
+    n: usize,
+    m: usize,
+    roads: usize,
+    most: usize,
+    eighths: usize,
+}
+
+// What its events are drawn by: they ask for the first places junctions, and change all segments, or two of each of so many roads of a ring.
+struct Plan {
+    seed: usize,
+    places: usize,
+    roads: usize,
+    eighths: usize,
+}
+
 // Makes the starting table, where about so many of eight segments are open: none, some or all. Marks these.
-fn make_start(l: &mut List, open: &mut Marks, s: usize, eighths: usize) {
-    let m = lists::size(l, lists::B);
+fn make_start(start: &mut Entries, open: &mut Marks, m: usize, plan: Plan) {
     for e in 0..m {
-        let opens = random::at(s, 16, e, 8) < eighths;
-        lists::set(l, lists::START, e, opens as usize % 2);
+        let opens = random::at(plan.seed, 16, e, 8) < plan.eighths;
+        entries::set(start, e, opens as usize % 2);
         tables::mark(open, e, opens);
     }
 }
@@ -66,12 +91,14 @@ fn segment(places: usize, roads: usize, c: usize) -> usize {
     counts::plus(k, places)
 }
 
-// Makes event i a change of segment e: it opens where it is closed.
-fn toggle(l: &mut List, open: &mut Marks, i: usize, e: usize) {
+// Changes segment e, by the event that does so: it opens where it is closed.
+fn toggled(open: &mut Marks, e: usize) -> Event {
     let was = tables::marked(open, e);
     tables::mark(open, e, !was);
-    lists::set(l, lists::X, i, 65535 - was as usize % 2);
-    lists::set(l, lists::Y, i, e);
+    Event {
+        x: OPENS - was as usize % 2,
+        y: e,
+    }
 }
 
 // A junction that event i asks for: now and then any, else one of the first places, of which the first events name few.
@@ -82,26 +109,47 @@ fn asked(s: usize, side: usize, n: usize, places: usize, i: usize) -> usize {
     random::at(s, side, i, counts::least(counts::plus(i, 2), places))
 }
 
-fn make_event(l: &mut List, open: &mut Marks, s: usize, places: usize, roads: usize, i: usize) {
-    let count = changed(lists::size(l, lists::B), roads);
-    let c = change(s, count, lists::size(l, lists::X), i);
+// Event i, which changes a segment or asks.
+fn next_event(open: &mut Marks, sizes: Sizes, plan: Plan, i: usize) -> Event {
+    let count = changed(sizes.m, plan.roads);
+    let c = change(plan.seed, count, sizes.t, i);
     if c < count {
-        toggle(l, open, i, segment(places, roads, c));
-    } else {
-        let n = lists::size(l, lists::A);
-        lists::set(l, lists::X, i, asked(s, 5, n, places, i));
-        lists::set(l, lists::Y, i, asked(s, 6, n, places, i));
+        return toggled(open, segment(plan.places, plan.roads, c));
+    }
+    Event {
+        x: asked(plan.seed, 5, sizes.n, plan.places, i),
+        y: asked(plan.seed, 6, sizes.n, plan.places, i),
     }
 }
 
-// Makes the starting table and the events of a list with these sizes and segments. The events ask for the first places junctions, and change all segments, or
-// two of each of so many roads of a ring.
-fn fill(l: &mut List, s: usize, places: usize, roads: usize, eighths: usize) {
-    let t = lists::size(l, lists::X);
-    let mut open = [false; 8192];
-    make_start(l, &mut open, s, eighths);
+fn make_events(x: &mut Entries, y: &mut Entries, open: &mut Marks, sizes: Sizes, plan: Plan) {
+    let t = sizes.t;
     for i in 0..t {
-        make_event(l, &mut open, s, places, roads, i);
+        let e = next_event(open, sizes, plan, i);
+        entries::set(x, i, e.x);
+        entries::set(y, i, e.y);
+    }
+}
+
+// The list with these sizes, this network and these events.
+fn made(sizes: Sizes, w: Network, plan: Plan) -> List {
+    let mut a = [65000u16; 8200];
+    let mut b = [65000u16; 8200];
+    let mut start = [65000u16; 8200];
+    let mut x = [65000u16; 8200];
+    let mut y = [65000u16; 8200];
+    networks::make_ends(&mut a, w, 0);
+    networks::make_ends(&mut b, w, 1);
+    let mut open = [false; 8192];
+    make_start(&mut start, &mut open, sizes.m, plan);
+    make_events(&mut x, &mut y, &mut open, sizes, plan);
+    List {
+        sizes,
+        a,
+        b,
+        start,
+        x,
+        y,
     }
 }
 
@@ -113,110 +161,155 @@ fn some(n: usize, count: usize) -> usize {
     count
 }
 
-// The list of a kind and a seed with n junctions, m segments along so many roads, and at most t events. Half of the lists have as many events as they may.
-fn sized(
-    l: &mut List,
-    kind: usize,
-    s: usize,
-    n: usize,
-    m: usize,
-    roads: usize,
-    t: usize,
-    eighths: usize,
-) {
-    let p = 4 + random::at(s, 10, 0, 9) % 9;
-    let events = counts::least(random::at(s, 9, 0, t % 8192 * 2), t);
-    lists::set_sizes(l, n, some(n, m), some(n, events), p);
-    networks::make(l, kind, s, n, roads);
-    fill(l, s, n, 0, eighths);
+// Half of the lists have as many events as they may.
+fn draw_sizes(d: Draw) -> Sizes {
+    let events = counts::least(random::at(d.seed, 9, 0, d.most % 8192 * 2), d.most);
+    Sizes {
+        n: d.n,
+        m: some(d.n, d.m),
+        t: some(d.n, events),
+        p: 4 + random::at(d.seed, 10, 0, 9) % 9,
+    }
+}
+
+fn drawn(d: Draw) -> List {
+    let sizes = draw_sizes(d);
+    let w = Network {
+        kind: d.kind,
+        seed: d.seed,
+        segments: sizes.m,
+        places: d.n,
+        roads: d.roads,
+    };
+    let plan = Plan {
+        seed: d.seed,
+        places: d.n,
+        roads: 0,
+        eighths: d.eighths,
+    };
+    made(sizes, w, plan)
 }
 
 // X of an event with a fault: X that is nothing, a query, a change, X past the junctions, an open or a close that comes by chance, or an event a second time.
-fn bad_x(l: &List, what: usize, j: usize) -> usize {
-    let n = lists::size(l, lists::A);
+fn bad_x(x: &Entries, sizes: Sizes, what: usize, j: usize) -> usize {
     match what {
         1 => 65533,
-        2 => random::round(j, n),
-        3 => 65534 + j % 2,
-        4 => n % 512 + j % 12 * 5000,
-        5 => 65535,
-        6 => 65534,
-        _ => lists::at(l, lists::X, random::round(j, lists::size(l, lists::X))),
+        2 => random::round(j, sizes.n),
+        3 => CLOSES + j % 2,
+        4 => sizes.n % 512 + j % 12 * 5000,
+        5 => OPENS,
+        6 => CLOSES,
+        _ => entries::at(x, random::round(j, sizes.t)),
     }
 }
 
 // Its Y: past the junctions or the segments, or within.
-fn bad_y(l: &List, what: usize, j: usize) -> usize {
-    let n = lists::size(l, lists::A);
-    let m = lists::size(l, lists::B);
+fn bad_y(y: &Entries, sizes: Sizes, what: usize, j: usize) -> usize {
     match what {
         1 | 4 => 0,
-        2 => n % 512 + j % 2,
-        3 => m % 512 + j / 2 % 2,
-        5 | 6 => random::round(j, m),
-        _ => lists::at(l, lists::Y, random::round(j, lists::size(l, lists::X))),
+        2 => sizes.n % 512 + j % 2,
+        3 => sizes.m % 512 + j / 2 % 2,
+        5 | 6 => random::round(j, sizes.m),
+        _ => entries::at(y, random::round(j, sizes.t)),
     }
 }
 
-// Puts a starting entry that is neither 0 nor 1.
-fn spoil_start(l: &mut List, s: usize) {
+// The list with an end that is no junction.
+fn with_bad_end(list: List, s: usize) -> List {
+    let mut l = list;
+    let bad = networks::bad_end(s, l.sizes.n);
+    if bad.side == 0 {
+        entries::set(&mut l.a, bad.segment, bad.value);
+    } else {
+        entries::set(&mut l.b, bad.segment, bad.value);
+    }
+    l
+}
+
+// The list with a starting entry that is neither 0 nor 1.
+fn with_bad_start(list: List, s: usize) -> List {
+    let mut l = list;
     let v = match random::at(s, 17, 0, 3) {
         0 => 2,
         1 => 3,
         _ => 65535,
     };
-    lists::set(l, lists::START, random::at(s, 18, 0, 12), v);
+    entries::set(&mut l.start, random::at(s, 18, 0, 12), v);
+    l
 }
 
-// Puts an event that is refused, or that may be.
-fn spoil_event(l: &mut List, s: usize, what: usize) {
+// The list with an event that is refused, or that may be.
+fn with_bad_event(list: List, s: usize, what: usize) -> List {
+    let mut l = list;
     let i = random::at(s, 15, 0, 12);
     let j = random::at(s, 2, 0, 12);
-    let x = bad_x(l, what, j);
-    let y = bad_y(l, what, j);
-    lists::set(l, lists::X, i, x);
-    lists::set(l, lists::Y, i, y);
+    let x = bad_x(&l.x, l.sizes, what, j);
+    let y = bad_y(&l.y, l.sizes, what, j);
+    entries::set(&mut l.x, i, x);
+    entries::set(&mut l.y, i, y);
+    l
 }
 
-// Puts faults into the list: at an end, at a starting entry, at an event, or at several of these.
-fn spoil(l: &mut List, s: usize) {
+// The list with faults: at an end, at a starting entry, at an event, or at several of these.
+fn spoilt(list: List, s: usize) -> List {
+    let mut l = list;
     let what = random::at(s, 14, 0, 9);
     if what < 2 {
-        networks::spoil(l, s);
+        let bad = with_bad_end(l, s);
+        l = bad;
     }
     if (what == 8) | (random::at(s, 19, 0, 4) == 0) {
-        spoil_start(l, s);
+        let bad = with_bad_start(l, s);
+        l = bad;
     }
     if (what > 0) & (what < 8) {
-        spoil_event(l, s, what);
+        return with_bad_event(l, s, what);
     }
+    l
 }
 
 // A list of at most 8 junctions and 12 segments, in which two segments are of one road by chance.
-fn plain(l: &mut List, kind: usize, s: usize, eighths: usize) {
-    let n = random::at(s, 7, 0, 9);
-    sized(l, kind, s, n, random::at(s, 8, 0, 13), 0, 12, eighths);
+fn plain(kind: usize, s: usize, eighths: usize) -> Draw {
+    Draw {
+        kind,
+        seed: s,
+        n: random::at(s, 7, 0, 9),
+        m: random::at(s, 8, 0, 13),
+        roads: 0,
+        most: 12,
+        eighths,
+    }
 }
 
 // A list of 1 to 5 junctions and 3 to 12 segments along 2 to 7 roads, so that most roads have several segments.
-fn doubled(l: &mut List, kind: usize, s: usize, eighths: usize) {
-    let n = 1 + random::at(s, 7, 0, 5) % 5;
-    let m = 3 + random::at(s, 8, 0, 10) % 10;
-    let roads = 2 + random::at(s, 24, 0, 6) % 6;
-    sized(l, kind, s, n, m, roads, 12, eighths);
+fn doubled(kind: usize, s: usize, eighths: usize) -> Draw {
+    Draw {
+        kind,
+        seed: s,
+        n: 1 + random::at(s, 7, 0, 5) % 5,
+        m: 3 + random::at(s, 8, 0, 10) % 10,
+        roads: 2 + random::at(s, 24, 0, 6) % 6,
+        most: 12,
+        eighths,
+    }
 }
 
-// Internal: the list s of at most 12 segments and 12 events, of each kind in turn, and every third with a fault. In five of six most roads have several
-// segments. In a ninth of the lists all segments are closed at the start, in a ninth all are open, and in the others each by chance.
-pub fn small(l: &mut List, s: usize) {
+// In five of six lists most roads have several segments. In a ninth of the lists all segments are closed at the start, in a ninth all are open, and in the
+// others each by chance.
+fn small_draw(s: usize) -> Draw {
     if s / 3 % 6 == 0 {
-        plain(l, s / 36 % 9, s, s / 324 % 9);
-    } else {
-        doubled(l, s / 36 % 9, s, s / 324 % 9);
+        return plain(s / 36 % 9, s, s / 324 % 9);
     }
+    doubled(s / 36 % 9, s, s / 324 % 9)
+}
+
+// Internal: the list s of at most 12 segments and 12 events, of each kind in turn, and every third with a fault.
+pub fn small(s: usize) -> List {
+    let l = drawn(small_draw(s));
     if s % 3 == 2 {
-        spoil(l, s);
+        return spoilt(l, s);
     }
+    l
 }
 
 // Internal: which table of the small list s is one entry short: of some of the lists with a fault one, else those that are written are longer.
@@ -245,7 +338,7 @@ fn large_roads(s: usize, m: usize) -> usize {
 
 // Internal: the list s of 16, 64 or 256 junctions, and at most 512 segments and 512 events, of each kind in turn. The starting tables are of each kind in
 // turn too, in another order for each number of junctions. Seeds lie apart, so that for each of these numbers some lists change segments in order.
-pub fn large(l: &mut List, s: usize) {
+pub fn large(s: usize) -> List {
     let n = match s / 9 {
         0 => 16,
         1 => 64,
@@ -253,20 +346,19 @@ pub fn large(l: &mut List, s: usize) {
     };
     let seed = s % 64 * 7;
     let m = random::at(seed, 8, 0, 513);
-    sized(
-        l,
-        s % 32 * 5 % 9,
+    drawn(Draw {
+        kind: s % 32 * 5 % 9,
         seed,
         n,
         m,
-        large_roads(s, m),
-        512,
-        (s % 64 + s % 64 / 9 * 2) % 9,
-    );
+        roads: large_roads(s, m),
+        most: 512,
+        eighths: (s % 64 + s % 64 / 9 * 2) % 9,
+    })
 }
 
-// The places of ring i, at least three: with two places the segments there and back would be one road.
-fn places(i: usize) -> usize {
+// Internal: the places of ring i, at least three: with two places the segments there and back would be one road.
+pub fn places(i: usize) -> usize {
     match i {
         1 => 1500,
         2 => 600,
@@ -297,11 +389,27 @@ fn ring_eighths(i: usize) -> usize {
     }
 }
 
-// Internal: the list i of the full sizes on a ring, and how many places the ring has. At the start all segments are closed in the first five, of which one
-// becomes a path; all are open in four more, and each by chance in the last. In 3, 4, 7 and 8 two segments of each of some roads open and close.
-pub fn ring(l: &mut List, i: usize) -> usize {
-    lists::set_sizes(l, 4096, 8192, 4096, 4 + i % 9);
-    networks::make(l, networks::RING, i, places(i), 0);
-    fill(l, i, places(i), ring_roads(i), ring_eighths(i));
-    places(i)
+// Internal: the list i of the full sizes on a ring. At the start all segments are closed in the first five, of which one becomes a path; all are open in four
+// more, and each by chance in the last. In 3, 4, 7 and 8 two segments of each of some roads open and close.
+pub fn ring(i: usize) -> List {
+    let sizes = Sizes {
+        n: 4096,
+        m: 8192,
+        t: 4096,
+        p: 4 + i % 9,
+    };
+    let w = Network {
+        kind: networks::RING,
+        seed: i,
+        segments: 8192,
+        places: places(i),
+        roads: 0,
+    };
+    let plan = Plan {
+        seed: i,
+        places: places(i),
+        roads: ring_roads(i),
+        eighths: ring_eighths(i),
+    };
+    made(sizes, w, plan)
 }

@@ -1,8 +1,25 @@
 // Random networks of several kinds.
 use test_library::counts;
-use test_library::lists;
-use test_library::lists::List;
+use test_library::entries;
+use test_library::entries::Entries;
 use test_library::random;
+
+// What the segments are drawn by: the kind, the seed, how many there are, over how many of the first junctions, and along how many of the first edges of this
+// kind, in either order, so that many segments are of one road; or, where roads is 0, segment e is edge e.
+pub(crate) struct Network {
+    pub(crate) kind: usize,
+    pub(crate) seed: usize,
+    pub(crate) segments: usize,
+    pub(crate) places: usize,
+    pub(crate) roads: usize,
+}
+
+// An end that is no junction: of which side, of which segment.
+pub(crate) struct BadEnd {
+    pub(crate) side: usize,
+    pub(crate) segment: usize,
+    pub(crate) value: usize,
+}
 
 // A path, with loops at its last node for the edges that are left.
 pub(crate) const PATH: usize = 9;
@@ -50,33 +67,28 @@ pub(crate) fn end(kind: usize, s: usize, n: usize, e: usize, side: usize) -> usi
     random::round(v, n)
 }
 
-// One end of segment e. It goes along any of the first roads edges of this kind, in either order, so that many segments are of one road; or, where roads is 0,
-// it is edge e.
-fn segment_end(kind: usize, s: usize, n: usize, roads: usize, e: usize, side: usize) -> usize {
-    if roads == 0 {
-        return end(kind, s, n, e, side);
+fn segment_end(w: Network, e: usize, side: usize) -> usize {
+    if w.roads == 0 {
+        return end(w.kind, w.seed, w.places, e, side);
     }
-    let turned = random::at(s, 23, e, 2);
-    end(
-        kind,
-        s,
-        n,
-        random::at(s, 22, e, roads),
-        counts::plus(side, turned),
-    )
+    let along = random::at(w.seed, 22, e, w.roads);
+    let turned = random::at(w.seed, 23, e, 2);
+    end(w.kind, w.seed, w.places, along, counts::plus(side, turned))
 }
 
-// Makes the segments of a list of this kind, over the first places junctions.
-pub(crate) fn make(l: &mut List, kind: usize, s: usize, places: usize, roads: usize) {
-    let m = lists::size(l, lists::B);
+// Makes the ends on one side of all segments.
+pub(crate) fn make_ends(t: &mut Entries, w: Network, side: usize) {
+    let m = w.segments;
     for e in 0..m {
-        lists::set(l, lists::A, e, segment_end(kind, s, places, roads, e, 0));
-        lists::set(l, lists::B, e, segment_end(kind, s, places, roads, e, 1));
+        entries::set(t, e, segment_end(w, e, side));
     }
 }
 
-// Puts an end that is no junction.
-pub(crate) fn spoil(l: &mut List, s: usize) {
-    let v = lists::size(l, lists::A) % 8192 + random::at(s, 11, 0, 3) % 3;
-    lists::set(l, random::at(s, 12, 0, 2), random::at(s, 13, 0, 12), v);
+// An end that is put into a network of n junctions.
+pub(crate) fn bad_end(s: usize, n: usize) -> BadEnd {
+    BadEnd {
+        side: random::at(s, 12, 0, 2),
+        segment: random::at(s, 13, 0, 12),
+        value: n % 8192 + random::at(s, 11, 0, 3) % 3,
+    }
 }

@@ -5,93 +5,141 @@ mod vectors;
 mod windows;
 
 use test_library::calls::LONGER;
-use test_library::calls::Lengths;
-use test_library::lists::List;
-use test_library::tables::Table;
-use test_random::lists as random_lists;
+use test_library::entries::Entries;
+use test_library::replays;
+use test_library::replays::Lengths;
+use test_library::replays::Sizes;
+use test_random::lists;
 use test_replay_calls::calls;
 use test_replay_calls::calls::Work;
 use test_replay_calls::limits;
 use test_slow_replay::replay;
 use test_slow_replay::totals;
+use test_slow_replay::totals::Totals;
+use test_slow_replay::totals::Trial;
 
-// Runs the call and the slow replay on a list whose tables have these lengths. Places is not 0 where it is on a ring.
-fn compare(
-    t: &mut Table,
-    l: &List,
+// Runs the call and the slow replay on a list whose tables have these lengths, and counts it.
+pub(crate) fn compare<'a>(
+    t: Totals,
+    sizes: Sizes,
+    a: &'a Entries,
+    b: &'a Entries,
+    start: &'a Entries,
+    x: &'a Entries,
+    y: &'a Entries,
     lengths: Lengths,
-    places: usize,
-    most: usize,
-    planted: usize,
+    trial: Trial,
     work: &mut Work,
-) {
-    let mut want = [0u16; 40968];
-    let w = replay::reply(&mut want, l, lengths, places);
-    let mut answers = [7u8; 4104];
-    let mut names = [7u16; 4104];
-    let r = calls::run(l, lengths, &want, &mut answers, &mut names, work);
-    let n = test_library::calls::noticed(&answers, &names, &mut want, places, planted);
-    let disagree = test_library::calls::differ(r, w) > 0;
-    totals::add(t, l, w, disagree, &want, places, most, planted, n);
+) -> Totals {
+    let want = replay::reply(sizes, a, b, start, x, y, lengths, trial.places);
+    let r = calls::run(sizes, a, b, start, x, y, lengths, work);
+    let noticed = replays::noticed(r, want, trial.places, trial.planted);
+    let disagrees = !replays::agrees(r, want, sizes.t);
+    totals::add(t, sizes, a, b, start, x, y, want, trial, disagrees, noticed)
 }
 
-// The same with tables of which those that are written are longer than they must be.
-pub(crate) fn run(
-    t: &mut Table,
-    l: &List,
-    places: usize,
-    most: usize,
-    planted: usize,
-    work: &mut Work,
-) {
+// Counts the small list s, of which a table may be one entry short or longer.
+fn with_small(t: Totals, s: usize, work: &mut Work) -> Totals {
+    let l = lists::small(s);
+    let lengths = calls::lengths(l.sizes, lists::short(s), lists::long(s));
+    let trial = Trial {
+        places: 0,
+        most: 12,
+        planted: 0,
+    };
     compare(
         t,
-        l,
-        calls::lengths(l, LONGER, 0),
-        places,
-        most,
-        planted,
+        l.sizes,
+        &l.a,
+        &l.b,
+        &l.start,
+        &l.x,
+        &l.y,
+        lengths,
+        trial,
         work,
-    );
+    )
 }
 
-fn run_small(t: &mut Table, work: &mut Work) {
+fn with_large(t: Totals, s: usize, work: &mut Work) -> Totals {
+    let l = lists::large(s);
+    let lengths = calls::lengths(l.sizes, LONGER, 0);
+    let trial = Trial {
+        places: 0,
+        most: 512,
+        planted: 0,
+    };
+    compare(
+        t,
+        l.sizes,
+        &l.a,
+        &l.b,
+        &l.start,
+        &l.x,
+        &l.y,
+        lengths,
+        trial,
+        work,
+    )
+}
+
+fn with_ring(t: Totals, i: usize, work: &mut Work) -> Totals {
+    let l = lists::ring(i);
+    let lengths = calls::lengths(l.sizes, LONGER, 0);
+    let trial = Trial {
+        places: lists::places(i),
+        most: 4096,
+        planted: 64,
+    };
+    compare(
+        t,
+        l.sizes,
+        &l.a,
+        &l.b,
+        &l.start,
+        &l.x,
+        &l.y,
+        lengths,
+        trial,
+        work,
+    )
+}
+
+fn run_small(work: &mut Work) -> Totals {
+    let mut t = totals::none();
     for s in 0..60000 {
-        let mut l = [65000u16; 40968];
-        random_lists::small(&mut l, s);
-        let lengths = calls::lengths(&l, random_lists::short(s), random_lists::long(s));
-        compare(t, &l, lengths, 0, 12, 0, work);
+        let next = with_small(t, s, work);
+        t = next;
     }
+    t
 }
 
-fn run_large(t: &mut Table, work: &mut Work) {
+fn run_large(work: &mut Work) -> Totals {
+    let mut t = totals::none();
     for s in 0..36 {
-        let mut l = [65000u16; 40968];
-        random_lists::large(&mut l, s);
-        run(t, &l, 0, 512, 0, work);
+        let next = with_large(t, s, work);
+        t = next;
     }
+    t
 }
 
-fn run_rings(t: &mut Table, work: &mut Work) {
+fn run_rings(work: &mut Work) -> Totals {
+    let mut t = totals::none();
     for i in 0..10 {
-        let mut l = [65000u16; 40968];
-        let places = random_lists::ring(&mut l, i);
-        run(t, &l, places, 4096, 64, work);
+        let next = with_ring(t, i, work);
+        t = next;
     }
+    t
 }
 
 fn report_lists(work: &mut Work) {
-    let mut small = [0u32; 512];
-    run_small(&mut small, work);
-    totals::report(&small);
-    totals::report_ones(&small);
-    let mut large = [0u32; 512];
-    run_large(&mut large, work);
-    totals::report(&large);
-    totals::report_ones(&large);
-    let mut rings = [0u32; 512];
-    run_rings(&mut rings, work);
-    totals::report(&rings);
+    let small = run_small(work);
+    totals::report(small);
+    totals::report_ones(small);
+    let large = run_large(work);
+    totals::report(large);
+    totals::report_ones(large);
+    totals::report(run_rings(work));
 }
 
 fn main() {

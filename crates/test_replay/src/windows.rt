@@ -2,95 +2,154 @@
 // below the window, so that kept of the window less kept of its two parts is the nodes of its own small graph: kept is compared window by window.
 use test_library::calls::LONGER;
 use test_library::counts;
-use test_library::lists;
-use test_library::lists::List;
+use test_library::entries;
+use test_library::entries::Entries;
 use test_library::print;
+use test_library::replays;
+use test_library::replays::List;
+use test_library::replays::Sizes;
 use test_library::tables;
-use test_library::tables::Table;
-use test_random::lists as random_lists;
+use test_random::lists;
 use test_replay_calls::calls;
 use test_replay_calls::calls::Work;
 use test_slow_replay::replay;
+use test_slow_replay::totals;
+use test_slow_replay::totals::Totals;
+use test_slow_replay::totals::Trial;
 ghost use Prim.Native.Nat.{_<_};
 
-// Copies the network, with the segments that are open before the first event as its starting table.
-fn copy_network(r: &mut List, l: &List, first: usize) {
-    let m = lists::size(l, lists::B);
+// Makes the starting table of a window: the segments that are open before its first event.
+fn make_start(
+    before: &mut Entries,
+    m: usize,
+    start: &Entries,
+    x: &Entries,
+    y: &Entries,
+    first: usize,
+) {
     let mut open = [false; 8192];
-    replay::mark_open(&mut open, l, first);
+    replay::mark_open(&mut open, m, start, x, y, first);
     for e in 0..m {
-        lists::set(r, lists::A, e, lists::at(l, lists::A, e));
-        lists::set(r, lists::B, e, lists::at(l, lists::B, e));
-        lists::set(r, lists::START, e, tables::marked(&open, e) as usize);
+        entries::set(before, e, tables::marked(&open, e) as usize);
     }
 }
 
-// Copies n events from the first on.
-fn copy_events(r: &mut List, l: &List, first: usize, n: usize) {
-    for i in 0..n {
-        let j = counts::plus(first, i);
-        lists::set(r, lists::X, i, lists::at(l, lists::X, j));
-        lists::set(r, lists::Y, i, lists::at(l, lists::Y, j));
-    }
+// The list of a window.
+fn cut(
+    sizes: Sizes,
+    a: &Entries,
+    b: &Entries,
+    start: &Entries,
+    x: &Entries,
+    y: &Entries,
+    first: usize,
+    n: usize,
+) -> List {
+    let m = sizes.m;
+    let own = Sizes {
+        n: sizes.n,
+        m,
+        t: n,
+        p: sizes.p,
+    };
+    let mut w = replays::filled(own, 65000);
+    entries::copy(&mut w.a, a, 0, m);
+    entries::copy(&mut w.b, b, 0, m);
+    make_start(&mut w.start, m, start, x, y, first);
+    entries::copy(&mut w.x, x, first, n);
+    entries::copy(&mut w.y, y, first, n);
+    w
 }
 
-// Makes the list of a window.
-fn cut(r: &mut List, l: &List, first: usize, n: usize) {
-    lists::set_sizes(
-        r,
-        lists::size(l, lists::A),
-        lists::size(l, lists::B),
-        n,
-        lists::size(l, lists::Y),
-    );
-    copy_network(r, l, first);
-    copy_events(r, l, first, n);
+// Replays a window.
+fn with_window(t: Totals, w: List, work: &mut Work) -> Totals {
+    let lengths = calls::lengths(w.sizes, LONGER, 0);
+    let trial = Trial {
+        places: 0,
+        most: 12,
+        planted: 0,
+    };
+    crate::compare(
+        t,
+        w.sizes,
+        &w.a,
+        &w.b,
+        &w.start,
+        &w.x,
+        &w.y,
+        lengths,
+        trial,
+        work,
+    )
 }
 
 // Replays a window and all windows below it.
-fn run(t: &mut Table, l: &List, first: usize, n: usize, work: &mut Work)
+fn run(
+    t: Totals,
+    sizes: Sizes,
+    a: &Entries,
+    b: &Entries,
+    start: &Entries,
+    x: &Entries,
+    y: &Entries,
+    first: usize,
+    n: usize,
+    work: &mut Work,
+) -> Totals
     requires { ⌜ n < 65536 ⌝ }
 {
-    let mut part = [65000u16; 40968];
-    cut(&mut part, l, first, n);
-    crate::run(t, &part, 0, 12, 0, work);
-    let c = replay::first_part(n, lists::size(l, lists::Y));
+    let own = with_window(t, cut(sizes, a, b, start, x, y, first, n), work);
+    let c = replay::first_part(n, sizes.p);
     if n > c {
-        run(t, l, first, c, work);
-        run(t, l, counts::plus(first, c), n - c, work);
+        let near = run(own, sizes, a, b, start, x, y, first, c, work);
+        let second = counts::plus(first, c);
+        return run(near, sizes, a, b, start, x, y, second, n - c, work);
     }
+    own
 }
 
 // Replays the windows of a list that is accepted.
-fn run_accepted(t: &mut Table, l: &List, work: &mut Work) {
-    let mut want = [0u16; 40968];
-    let w = replay::reply(&mut want, l, calls::lengths(l, LONGER, 0), 0);
-    let n = lists::size(l, lists::X);
-    if (w[0] == 0) & (n > 0) {
-        run(t, l, 0, n % 65536, work);
+fn run_accepted<'a>(
+    t: Totals,
+    sizes: Sizes,
+    a: &'a Entries,
+    b: &'a Entries,
+    start: &'a Entries,
+    x: &'a Entries,
+    y: &'a Entries,
+    work: &mut Work,
+) -> Totals {
+    let n = sizes.t;
+    let lengths = calls::lengths(sizes, LONGER, 0);
+    let want = replay::reply(sizes, a, b, start, x, y, lengths, 0);
+    if (want.reply.code == 0) & (n > 0) {
+        return run(t, sizes, a, b, start, x, y, 0, n % 65536, work);
     }
+    t
+}
+
+fn with_windows(t: Totals, l: List, work: &mut Work) -> Totals {
+    run_accepted(t, l.sizes, &l.a, &l.b, &l.start, &l.x, &l.y, work)
 }
 
 // The windows of the first random lists.
-fn run_all(t: &mut Table, work: &mut Work) {
+fn run_all(work: &mut Work) -> Totals {
+    let mut t = totals::none();
     for s in 0..2000 {
-        let mut l = [65000u16; 40968];
-        random_lists::small(&mut l, s);
-        run_accepted(t, &l, work);
+        let next = with_windows(t, lists::small(s), work);
+        t = next;
     }
+    t
 }
 
 pub(crate) fn report(work: &mut Work) {
-    let mut t = [0u32; 512];
-    run_all(&mut t, work);
-    let mut r = [0u32; 512];
-    tables::put(&mut r, 0, tables::get(&t, 0));
-    tables::put(&mut r, 1, tables::get(&t, 5));
+    let t = run_all(work);
+    let numbers = [t.lists, t.disagreements];
     print::report(
         b"\
 windows of lists, each replayed as a list of its own: #\n\
 with a disagreement: #\n\
 ",
-        &r,
+        &numbers,
     );
 }

@@ -1,24 +1,23 @@
-// Calls of replay. A result is a list with the answers in A and the names in NAMES.
+// Calls of replay.
 use test_library::calls;
-use test_library::calls::Bytes;
-use test_library::calls::Lengths;
-use test_library::calls::Names;
-use test_library::calls::Reply;
 use test_library::counts;
-use test_library::lists;
-use test_library::lists::List;
+use test_library::entries;
+use test_library::entries::Entries;
+use test_library::replays;
+use test_library::replays::Lengths;
+use test_library::replays::Replayed;
+use test_library::replays::Reply;
+use test_library::replays::Sizes;
 use test_slow_replay::replay;
 use theory_timeline::ReplayReply;
-ghost use Prim.Native.Nat.{_≤_};
-ghost use lib.ListN.{length};
 
 // Internal: the longest work table that a call may want, and some words behind it.
 pub type Work = [u32; 1247536];
 
 fn plain(r: ReplayReply) -> Reply {
     match r {
-        ReplayReply::Done(t) => [0, 0, t.queries, t.open, t.kept, 0, 0, 0, 0, 0],
-        ReplayReply::Refused(code, place) => [code, place, 0, 0, 0, 0, 0, 0, 0, 0],
+        ReplayReply::Done(t) => replays::accepted(t.queries, t.open, t.kept),
+        ReplayReply::Refused(code, place) => replays::refused(code, place),
     }
 }
 
@@ -30,51 +29,48 @@ fn exact(size: usize, table: usize, short: usize, long: usize) -> usize {
 
 // Internal: the sizes of the tables that are only read and the least lengths of the others; one of them one entry short, 1 to 8, or those that are written
 // longer; and one of those that are only read one entry longer, 1 to 5.
-pub fn lengths(l: &List, short: usize, long: usize) -> Lengths {
-    let m = lists::size(l, lists::B);
-    let t = lists::size(l, lists::X);
-    let words = replay::required(lists::size(l, lists::A), m, t);
-    [
-        exact(m, 1, short, long),
-        exact(m, 2, short, long),
-        exact(m, 3, short, long),
-        exact(t, 4, short, long),
-        exact(t, 5, short, long),
-        calls::length(t, 6, short),
-        calls::length(t, 7, short),
-        calls::length(words, 8, short),
-        0,
-        0,
-    ]
+pub fn lengths(sizes: Sizes, short: usize, long: usize) -> Lengths {
+    let m = sizes.m;
+    let t = sizes.t;
+    let words = replay::required(sizes.n, m, t);
+    Lengths {
+        a: exact(m, 1, short, long),
+        b: exact(m, 2, short, long),
+        start: exact(m, 3, short, long),
+        x: exact(t, 4, short, long),
+        y: exact(t, 5, short, long),
+        answers: calls::length(t, 6, short),
+        names: calls::length(t, 7, short),
+        work: calls::length(words, 8, short),
+    }
 }
 
-// The call with tables of these lengths. The tables of the list stand in s.
+// The call with tables of these lengths.
 fn call(
-    n: usize,
-    m: usize,
-    t: usize,
-    p: usize,
+    sizes: Sizes,
     lengths: Lengths,
-    s: &[u16],
+    a: &Entries,
+    b: &Entries,
+    start: &Entries,
+    x: &Entries,
+    y: &Entries,
     answers: &mut [u8],
     names: &mut [u16],
     work: &mut [u32],
-) -> ReplayReply
-    requires { ⌜ 40968 ≤ length (now s) ⌝ }
-{
-    let bytes = counts::least(lengths[5], answers.len());
-    let entries = counts::least(lengths[6], names.len());
-    let words = counts::least(lengths[7], work.len());
+) -> ReplayReply {
+    let bytes = counts::least(lengths.answers, answers.len());
+    let entries = counts::least(lengths.names, names.len());
+    let words = counts::least(lengths.work, work.len());
     call_replay::replay(
-        n,
-        m,
-        t,
-        p,
-        lists::part(s, lists::A, lengths[0]),
-        lists::part(s, lists::B, lengths[1]),
-        lists::part(s, lists::START, lengths[2]),
-        lists::part(s, lists::X, lengths[3]),
-        lists::part(s, lists::Y, lengths[4]),
+        sizes.n,
+        sizes.m,
+        sizes.t,
+        sizes.p,
+        entries::first(a, lengths.a),
+        entries::first(b, lengths.b),
+        entries::first(start, lengths.start),
+        entries::first(x, lengths.x),
+        entries::first(y, lengths.y),
         &mut answers[..bytes],
         &mut names[..entries],
         &mut work[..words],
@@ -87,29 +83,38 @@ fn refill(work: &mut Work, count: usize) {
     }
 }
 
-// Internal: the call's reply, with how many answers, names and words are wrong, given the answers and the names that are wanted.
-pub fn run(
-    l: &List,
+// Internal: the outcome of the call. Of the work table the required length must be 0 where it is accepted, and all else as before.
+pub fn run<'a>(
+    sizes: Sizes,
+    a: &'a Entries,
+    b: &'a Entries,
+    start: &'a Entries,
+    x: &'a Entries,
+    y: &'a Entries,
     lengths: Lengths,
-    want: &List,
-    answers: &mut Bytes,
-    names: &mut Names,
     work: &mut Work,
-) -> Reply {
-    let n = lists::size(l, lists::A);
-    let m = lists::size(l, lists::B);
-    let t = lists::size(l, lists::X);
-    let words = replay::required(n, m, t);
+) -> Replayed {
+    let words = replay::required(sizes.n, sizes.m, sizes.t);
     refill(work, words + 8);
-    let p = lists::size(l, lists::Y);
-    let mut r = plain(call(n, m, t, p, lengths, l, answers, names, work));
-    let events = calls::written(r, t);
-    let all = counts::plus(t, 8);
-    let a = calls::bytes_wrong(answers, want, lists::A, events, all);
-    let b = calls::entries_wrong(names, want, lists::NAMES, events, all);
-    let w = calls::words_wrong(work, calls::written(r, words), counts::plus(words, 8));
-    r[5] = a;
-    r[6] = b;
-    r[7] = w;
-    r
+    let mut answers = [7u8; 4104];
+    let mut names = [7u16; 8200];
+    let reply = plain(call(
+        sizes,
+        lengths,
+        a,
+        b,
+        start,
+        x,
+        y,
+        &mut answers,
+        &mut names,
+        work,
+    ));
+    let count = calls::written(reply.code, words);
+    Replayed {
+        reply,
+        answers,
+        names,
+        words_wrong: calls::words_wrong(work, count, counts::plus(words, 8)),
+    }
 }

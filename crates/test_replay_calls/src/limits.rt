@@ -1,48 +1,50 @@
 // Document 01's cases that are run and not proved, those of the starting table, sizes of one more, tables of one entry less and of one more, and the order of
 // the refusals.
+use crate::calls;
 use crate::calls::Work;
-use test_library::calls;
-use test_library::calls::Reply;
 use test_library::counts;
 use test_library::print;
-use test_library::tables;
-use test_library::tables::Table;
+use test_library::replays;
+use test_library::replays::OPENS;
+use test_library::replays::Replayed;
 use test_random::cases;
+use test_random::cases::ASKS;
 use test_random::cases::Case;
 use test_random::cases::Fault;
 
-fn reply(c: Case, work: &mut Work) -> Reply {
-    let mut l = [1u16; 40968];
-    cases::make(&mut l, c);
-    let mut answers = [7u8; 4104];
-    let mut names = [7u16; 4104];
-    let lengths = crate::calls::lengths(&l, c[4], c[11]);
-    crate::calls::run(&l, lengths, &l, &mut answers, &mut names, work)
+fn replayed(c: Case, work: &mut Work) -> Replayed {
+    let l = cases::make(c);
+    let lengths = calls::lengths(l.sizes, c.short, c.long);
+    calls::run(l.sizes, &l.a, &l.b, &l.start, &l.x, &l.y, lengths, work)
 }
 
-// Puts the number and the place of each case.
-fn put_cases(t: &mut Table, work: &mut Work) {
+// The number and the place of each case.
+fn case_replies(work: &mut Work) -> [usize; 54] {
+    let mut numbers = [0usize; 54];
     for i in 0..27 {
-        let r = reply(cases::case(i), work);
-        tables::put(t, i * 2, calls::code(r));
-        tables::put(t, i * 2 + 1, r[1]);
+        let r = replayed(cases::case_at(i), work);
+        numbers[i * 2] = replays::code(r);
+        numbers[i * 2 + 1] = r.reply.place;
     }
+    numbers
 }
 
 // How many of the eight tables are refused by 2 where they are one entry short.
 fn short_refused(work: &mut Work) -> usize {
     let mut count: usize = 0;
     for i in 1..9 {
-        let r = reply([3, 2, 2, 8, i, 1, 1, 0, 65535, 0, 0, 0], work);
-        count = counts::counted(count, calls::code(r) == 2);
+        let c = Case::path(0).with_events(OPENS, ASKS);
+        let r = replayed(c.with_fault(Fault::Short(i)), work);
+        count = counts::counted(count, replays::code(r) == 2);
     }
     count
 }
 
 // Whether a case with two faults is refused by the first.
 fn first_counts(first: Fault, second: Fault, work: &mut Work) -> bool {
-    let r = reply(cases::pair(first, second), work);
-    (calls::code(r) == first[2]) & (r[1] == first[3])
+    let r = replayed(cases::pair(first, second), work);
+    let want = cases::refusal_of(first);
+    (replays::code(r) == want.code) & (r.reply.place == want.place)
 }
 
 // How many pairs of the nine faults are refused by the first.
@@ -50,7 +52,7 @@ fn pairs_refused(work: &mut Work) -> usize {
     let mut count: usize = 0;
     for i in 0..81 {
         if i / 9 < i % 9 {
-            let right = first_counts(cases::fault(i / 9), cases::fault(i % 9), work);
+            let right = first_counts(cases::fault_at(i / 9), cases::fault_at(i % 9), work);
             count = counts::counted(count, right);
         }
     }
@@ -59,10 +61,11 @@ fn pairs_refused(work: &mut Work) -> usize {
 
 // Whether a table that is one entry longer, beside fault i, is refused by the first of the two; alone where i is 2.
 fn long_counts(table: usize, i: usize, work: &mut Work) -> bool {
+    let long = Fault::Long(table);
     if i < 2 {
-        return first_counts(cases::fault(i), cases::long(table), work);
+        return first_counts(cases::fault_at(i), long, work);
     }
-    first_counts(cases::long(table), cases::fault(i), work)
+    first_counts(long, cases::fault_at(i), work)
 }
 
 // How many of the five tables that are only read, each one entry longer, alone and beside each other fault, are refused by the first.
@@ -79,7 +82,7 @@ fn uneven_refused(work: &mut Work) -> usize {
     let mut count: usize = 0;
     for i in 0..40 {
         if i / 5 != i % 5 {
-            let right = first_counts(cases::short(i / 5 + 1), cases::long(i % 5 + 1), work);
+            let right = first_counts(Fault::Short(i / 5 + 1), Fault::Long(i % 5 + 1), work);
             count = counts::counted(count, right);
         }
     }
@@ -87,8 +90,7 @@ fn uneven_refused(work: &mut Work) -> usize {
 }
 
 fn report_cases(work: &mut Work) {
-    let mut t = [0u32; 512];
-    put_cases(&mut t, work);
+    let numbers = case_replies(work);
     print::report(
         b"\
 4096 junctions, 8192 segments, 4096 events, reply: # at #\n\
@@ -119,40 +121,26 @@ of end, start and event: # at #\n\
 of start and event: # at #\n\
 of event: # at #\n\
 ",
-        &t,
+        &numbers,
     );
 }
 
 // Internal: runs the cases, and prints their replies and counts.
 pub fn report(work: &mut Work) {
     report_cases(work);
-    let r = reply([4096, 8192, 0, 8, 0, 1, 1, 0, 0, 0, 0, 0], work);
-    let short = short_refused(work);
-    let pairs = pairs_refused(work);
-    let long = long_refused(work);
-    let uneven = uneven_refused(work);
-    let mut t = [0u32; 512];
-    print::add(
-        &mut t,
-        [
-            r[0],
-            r[1],
-            r[2],
-            r[3],
-            r[4],
-            short,
-            pairs,
-            long,
-            uneven,
-            0,
-            0,
-            0,
-            0,
-            0,
-            0,
-            0,
-        ],
-    );
+    let silent = replayed(Case::sized(4096, 8192, 0).with_start(0), work);
+    let r = silent.reply;
+    let numbers = [
+        r.code,
+        r.place,
+        r.queries,
+        r.open,
+        r.kept,
+        short_refused(work),
+        pairs_refused(work),
+        long_refused(work),
+        uneven_refused(work),
+    ];
     print::report(
         b"\
 no event and all but one segment open at the start, reply: # at #, returned: # # #\n\
@@ -161,6 +149,6 @@ of 36 pairs of faults, refused by the first, at its place, with all entries kept
 of 5 tables one entry longer, alone and beside 8 other faults, refused by the first so: #\n\
 of 35 pairs of a table one entry short and another one entry longer, refused by 2 so: #\n\
 ",
-        &t,
+        &numbers,
     );
 }

@@ -1,11 +1,12 @@
 // The slow contraction: links by taking away the nodes of each third kept class, names by removing the edges in turn, and pieces by comparing each active entry
-// with those before it. The result is a list too: the edges in A and B, their names in NAMES, the map in X, the pieces in Y; Y's size is how many nodes have no
-// active one, and X's how many edges stand for two or more.
-use test_library::calls::Lengths;
-use test_library::calls::Reply;
+// with those before it.
+use test_library::contractions;
+use test_library::contractions::Lengths;
+use test_library::contractions::Sizes;
+use test_library::contractions::Small;
 use test_library::counts;
-use test_library::lists;
-use test_library::lists::List;
+use test_library::entries;
+use test_library::entries::Entries;
 use test_library::tables;
 use test_library::tables::Marks;
 use test_library::tables::Table;
@@ -13,29 +14,25 @@ use test_slow_graphs::graphs;
 ghost use Prim.Native.Nat.{_≤_};
 
 // The first active entry that is no node, or k.
-fn bad_entry(l: &List) -> usize {
-    let n = lists::size(l, lists::A);
-    let k = lists::size(l, lists::X);
+fn bad_entry(n: usize, k: usize, active: &Entries) -> usize {
     for i in 0..k {
-        if lists::at(l, lists::X, i) >= n {
+        if entries::at(active, i) >= n {
             return i;
         }
     }
     k
 }
 
-fn mark_active(active: &mut Marks, l: &List) {
-    let k = lists::size(l, lists::X);
+fn mark_active(marks: &mut Marks, k: usize, active: &Entries) {
     for i in 0..k {
-        tables::mark(active, lists::at(l, lists::X, i), true);
+        tables::mark(marks, entries::at(active, i), true);
     }
 }
 
 // The order in which kept classes get their numbers: those of the active entries, then all by their smallest node.
-fn next_class(l: &List, c: &Table, i: usize) -> usize {
-    let k = lists::size(l, lists::X);
+fn next_class(k: usize, active: &Entries, c: &Table, i: usize) -> usize {
     if i < k {
-        return tables::get(c, lists::at(l, lists::X, i));
+        return tables::get(c, entries::at(active, i));
     }
     counts::minus(i, k)
 }
@@ -55,10 +52,13 @@ fn give(of: &mut Table, first: &mut Table, z: usize, count: usize) -> usize {
 fn number(
     of: &mut Table,
     first: &mut Table,
-    l: &List,
+    sizes: Sizes,
+    from: &Entries,
+    to: &Entries,
+    active: &Entries,
     c: &Table,
     p: &Table,
-    active: &Marks,
+    marks: &Marks,
     held: &Table,
     start: usize,
     end: usize,
@@ -67,8 +67,8 @@ fn number(
     let open = [true; 8192];
     let mut count = before;
     for i in start..end {
-        let z = next_class(l, c, i);
-        if graphs::is_kept(l, &open, c, p, active, held, z) {
+        let z = next_class(sizes.k, active, c, i);
+        if graphs::is_kept(sizes.n, sizes.m, from, to, &open, c, p, marks, held, z) {
             count = give(of, first, z, count);
         }
     }
@@ -76,8 +76,7 @@ fn number(
 }
 
 // Marks the nodes of kept classes with a number other than x and y.
-fn mark_third(out: &mut Table, l: &List, of: &Table, c: &Table, x: usize, y: usize) {
-    let n = lists::size(l, lists::A);
+fn mark_third(out: &mut Table, n: usize, of: &Table, c: &Table, x: usize, y: usize) {
     for v in 0..n {
         let z = tables::get(of, tables::get(c, v));
         let third = (z > 0) & (z != counts::plus(x, 1)) & (z != counts::plus(y, 1));
@@ -86,84 +85,114 @@ fn mark_third(out: &mut Table, l: &List, of: &Table, c: &Table, x: usize, y: usi
 }
 
 // Whether a route between the classes x and y meets no third kept class.
-fn linked(l: &List, of: &Table, first: &Table, c: &Table, x: usize, y: usize) -> bool {
+fn linked(
+    sizes: Sizes,
+    from: &Entries,
+    to: &Entries,
+    of: &Table,
+    first: &Table,
+    c: &Table,
+    x: usize,
+    y: usize,
+) -> bool {
+    let m = sizes.m;
     let open = [true; 8192];
     let mut out = [0u32; 512];
-    mark_third(&mut out, l, of, c, x, y);
+    mark_third(&mut out, sizes.n, of, c, x, y);
     let mut q = [0u32; 512];
-    graphs::pieces(&mut q, l, &open, lists::size(l, lists::B), &out, 1);
+    graphs::pieces(&mut q, m, from, to, &open, m, &out, 1);
     graphs::together(&q, tables::get(first, x), tables::get(first, y))
 }
 
 // Whether the pair i of numbers below 32 is an edge of the contraction.
-fn is_link(l: &List, of: &Table, first: &Table, c: &Table, count: usize, i: usize) -> bool {
+fn is_link(
+    sizes: Sizes,
+    from: &Entries,
+    to: &Entries,
+    of: &Table,
+    first: &Table,
+    c: &Table,
+    count: usize,
+    i: usize,
+) -> bool {
     if (i / 32 < i % 32) & (i % 32 < count) {
-        return linked(l, of, first, c, i / 32, i % 32);
+        return linked(sizes, from, to, of, first, c, i / 32, i % 32);
     }
     false
 }
 
 // The smallest name of an edge whose loss parts u and v, which are joined; 65535 where there is none.
-fn name(l: &List, u: usize, v: usize) -> usize {
-    let m = lists::size(l, lists::B);
+fn name(m: usize, from: &Entries, to: &Entries, names: &Entries, u: usize, v: usize) -> usize {
     let open = [true; 8192];
     let mut least: usize = 65535;
     for e in 0..m {
-        if graphs::is_parting(l, &open, e, u, v) {
-            least = counts::least(least, lists::at(l, lists::NAMES, e));
+        if graphs::is_parting(m, from, to, &open, e, u, v) {
+            least = counts::least(least, entries::at(names, e));
         }
     }
     least
 }
 
-// How many edges part u and v, which are joined.
-fn parting(l: &List, u: usize, v: usize) -> usize {
-    let m = lists::size(l, lists::B);
-    let open = [true; 8192];
-    let mut count: usize = 0;
-    for e in 0..m {
-        count = counts::counted(count, graphs::is_parting(l, &open, e, u, v));
-    }
-    count
-}
-
-// Writes the edge number i, between the classes x and y, with its name; and counts it where it stands for two edges or more.
-fn write_edge(r: &mut List, l: &List, first: &Table, x: usize, y: usize, i: usize) {
-    let u = tables::get(first, x);
-    let v = tables::get(first, y);
-    lists::set(r, lists::A, i, x);
-    lists::set(r, lists::B, i, y);
-    lists::set(r, lists::NAMES, i, name(l, u, v));
-    let long = counts::counted(lists::size(r, lists::X), parting(l, u, v) > 1);
-    lists::set_size(r, lists::X, long);
-}
-
 // Writes the edges, each pair of numbers in ascending order, and answers how many there are. There are at most 32 nodes.
-fn links(r: &mut List, l: &List, of: &Table, first: &Table, c: &Table, count: usize) -> usize {
+fn write_edges(
+    out_from: &mut Entries,
+    out_to: &mut Entries,
+    sizes: Sizes,
+    from: &Entries,
+    to: &Entries,
+    of: &Table,
+    first: &Table,
+    c: &Table,
+    count: usize,
+) -> usize {
     let mut edges: usize = 0;
     for i in 0..1024 {
-        if is_link(l, of, first, c, count, i) {
-            write_edge(r, l, first, i / 32, i % 32, edges);
+        if is_link(sizes, from, to, of, first, c, count, i) {
+            entries::set(out_from, edges, i / 32);
+            entries::set(out_to, edges, i % 32);
             edges = counts::plus(edges, 1);
         }
     }
     edges
 }
 
+// Writes the name of each edge between two classes, and answers how many edges stand for two edges or more.
+fn write_names(
+    out_names: &mut Entries,
+    edges: usize,
+    out_from: &Entries,
+    out_to: &Entries,
+    m: usize,
+    from: &Entries,
+    to: &Entries,
+    names: &Entries,
+    first: &Table,
+) -> usize {
+    let open = [true; 8192];
+    let mut spliced: usize = 0;
+    for i in 0..edges {
+        let u = tables::get(first, entries::at(out_from, i));
+        let v = tables::get(first, entries::at(out_to, i));
+        entries::set(out_names, i, name(m, from, to, names, u, v));
+        let parting = graphs::parting(m, from, to, &open, u, v);
+        spliced = counts::counted(spliced, parting > 1);
+    }
+    spliced
+}
+
 // Writes the numbers of the active entries.
-fn write_map(r: &mut List, l: &List, of: &Table, c: &Table) {
-    let k = lists::size(l, lists::X);
+fn write_map(map: &mut Entries, k: usize, active: &Entries, of: &Table, c: &Table) {
     for i in 0..k {
-        let z = tables::get(c, lists::at(l, lists::X, i));
-        lists::set(r, lists::X, i, counts::minus(tables::get(of, z), 1));
+        let z = tables::get(c, entries::at(active, i));
+        entries::set(map, i, counts::minus(tables::get(of, z), 1));
     }
 }
 
 // The first active entry in the piece of entry i.
-fn first_joined(l: &List, p: &Table, i: usize) -> usize {
-    let v = lists::at(l, lists::X, i);
+fn first_joined(active: &Entries, p: &Table, i: usize) -> usize {
+    let v = entries::at(active, i);
     for j in 0..i {
-        if graphs::together(p, lists::at(l, lists::X, j), v) {
+        if graphs::together(p, entries::at(active, j), v) {
             return j;
         }
     }
@@ -171,48 +200,117 @@ fn first_joined(l: &List, p: &Table, i: usize) -> usize {
 }
 
 // The number of entry i's piece: that of an earlier entry, or the next one, where so many have a number before.
-fn piece(r: &List, l: &List, p: &Table, i: usize, count: usize) -> usize {
-    let j = first_joined(l, p, i);
+fn piece(pieces: &Entries, active: &Entries, p: &Table, i: usize, count: usize) -> usize {
+    let j = first_joined(active, p, i);
     if j < i {
-        return lists::at(r, lists::Y, j);
+        return entries::at(pieces, j);
     }
     count
 }
 
 // Writes the number of the piece of each active entry, from 0 by first appearance.
-fn write_pieces(r: &mut List, l: &List, p: &Table) {
-    let k = lists::size(l, lists::X);
+fn write_pieces(pieces: &mut Entries, k: usize, active: &Entries, p: &Table) {
     let mut count: usize = 0;
     for i in 0..k {
-        let x = piece(r, l, p, i, count);
-        lists::set(r, lists::Y, i, x);
+        let x = piece(pieces, active, p, i, count);
+        entries::set(pieces, i, x);
         count = counts::counted(count, x == count);
     }
 }
 
-// The contraction of a graph without a fault: nodes and edges.
-fn small(r: &mut List, l: &List) -> Reply {
-    let k = lists::size(l, lists::X);
+// The contraction of a graph without a fault.
+fn contracted(
+    sizes: Sizes,
+    from: &Entries,
+    to: &Entries,
+    names: &Entries,
+    active: &Entries,
+) -> Small {
+    let n = sizes.n;
+    let m = sizes.m;
+    let k = sizes.k;
     let open = [true; 8192];
-    let mut active = [false; 8192];
-    mark_active(&mut active, l);
+    let mut marks = [false; 8192];
+    mark_active(&mut marks, k, active);
     let mut c = [0u32; 512];
     let mut p = [0u32; 512];
-    graphs::classes(&mut c, &mut p, l, &open);
+    graphs::classes(&mut c, &mut p, n, m, from, to, &open);
     let mut held = [0u32; 512];
-    graphs::mark_held(&mut held, l, &c, &active);
+    graphs::mark_held(&mut held, n, &c, &marks);
     let mut of = [0u32; 512];
     let mut first = [0u32; 512];
-    let some = number(&mut of, &mut first, l, &c, &p, &active, &held, 0, k, 0);
-    let all = counts::plus(k, lists::size(l, lists::A));
-    let nodes = number(&mut of, &mut first, l, &c, &p, &active, &held, k, all, some);
-    write_map(r, l, &of, &c);
-    let edges = links(r, l, &of, &first, &c, nodes);
+    let some = number(
+        &mut of,
+        &mut first,
+        sizes,
+        from,
+        to,
+        active,
+        &c,
+        &p,
+        &marks,
+        &held,
+        0,
+        k,
+        0,
+    );
+    let all = counts::plus(k, n);
+    let nodes = number(
+        &mut of,
+        &mut first,
+        sizes,
+        from,
+        to,
+        active,
+        &c,
+        &p,
+        &marks,
+        &held,
+        k,
+        all,
+        some,
+    );
+    let mut map = [0u16; 8200];
+    write_map(&mut map, k, active, &of, &c);
+    let mut out_from = [0u16; 8200];
+    let mut out_to = [0u16; 8200];
+    let edges = write_edges(
+        &mut out_from,
+        &mut out_to,
+        sizes,
+        from,
+        to,
+        &of,
+        &first,
+        &c,
+        nodes,
+    );
+    let mut out_names = [0u16; 8200];
+    let spliced = write_names(
+        &mut out_names,
+        edges,
+        &out_from,
+        &out_to,
+        m,
+        from,
+        to,
+        names,
+        &first,
+    );
     let mut q = [0u32; 512];
-    graphs::all_pieces(&mut q, l, &open);
-    write_pieces(r, l, &q);
-    lists::set_size(r, lists::Y, counts::minus(nodes, some));
-    [0, 0, nodes, edges, 0, 0, 0, 0, 0, 0]
+    graphs::all_pieces(&mut q, m, from, to, &open);
+    let mut pieces = [0u16; 8200];
+    write_pieces(&mut pieces, k, active, &q);
+    Small {
+        reply: contractions::accepted(nodes, edges),
+        map,
+        from: out_from,
+        to: out_to,
+        names: out_names,
+        pieces,
+        inner: counts::minus(nodes, some),
+        spliced,
+    }
 }
 
 // Internal: the least length of the work table. The sizes go round past their limits, so that it is bounded.
@@ -223,50 +321,51 @@ pub fn required(n: usize, m: usize) -> usize
 }
 
 // Whether a table is shorter than it must be.
-fn is_short(l: &List, lengths: Lengths) -> bool {
-    let m = lists::size(l, lists::B);
-    let k = lists::size(l, lists::X);
+fn is_short(sizes: Sizes, l: Lengths) -> bool {
+    let m = sizes.m;
+    let k = sizes.k;
     let ends = counts::plus(k, k);
-    let graph = (lengths[0] < m) | (lengths[1] < m) | (lengths[2] < m) | (lengths[3] < k);
-    let edges = (lengths[5] < ends) | (lengths[6] < ends) | (lengths[7] < ends);
-    let result = (lengths[4] < k) | edges | (lengths[8] < k);
-    graph | result | (lengths[9] < required(lists::size(l, lists::A), m))
+    let graph = (l.from < m) | (l.to < m) | (l.names < m) | (l.active < k);
+    let edges = (l.out_from < ends) | (l.out_to < ends) | (l.out_names < ends);
+    let result = (l.map < k) | edges | (l.pieces < k);
+    graph | result | (l.work < required(sizes.n, m))
 }
 
 // The number by which the sizes or a length are refused, or 0.
-fn frame_fault(l: &List, lengths: Lengths) -> usize {
-    let n = lists::size(l, lists::A);
-    if (n > 4096) | (lists::size(l, lists::B) > 8192) | (lists::size(l, lists::X) > 8192) {
+fn frame_fault(sizes: Sizes, lengths: Lengths) -> usize {
+    if (sizes.n > 4096) | (sizes.m > 8192) | (sizes.k > 8192) {
         return 1;
     }
-    if is_short(l, lengths) {
+    if is_short(sizes, lengths) {
         return 2;
     }
     0
 }
 
-fn refused(code: usize, place: usize) -> Reply {
-    [code, place, 0, 0, 0, 0, 0, 0, 0, 0]
-}
-
-// The reply where sizes and lengths are allowed.
-fn graph_reply(r: &mut List, l: &List) -> Reply {
-    let e = graphs::bad_edge(l);
-    if e < lists::size(l, lists::B) {
-        return refused(4, e);
-    }
-    let i = bad_entry(l);
-    if i < lists::size(l, lists::X) {
-        return refused(8, i);
-    }
-    small(r, l)
+fn refused(code: usize, place: usize) -> Small {
+    contractions::empty(contractions::refused(code, place))
 }
 
 // Internal: the contraction of a graph whose tables have these lengths; or its refusal.
-pub fn reply(r: &mut List, l: &List, lengths: Lengths) -> Reply {
-    let code = frame_fault(l, lengths);
+pub fn reply<'a>(
+    sizes: Sizes,
+    from: &'a Entries,
+    to: &'a Entries,
+    names: &'a Entries,
+    active: &'a Entries,
+    lengths: Lengths,
+) -> Small {
+    let code = frame_fault(sizes, lengths);
     if code > 0 {
         return refused(code, 0);
     }
-    graph_reply(r, l)
+    let e = graphs::bad_edge(sizes.n, sizes.m, from, to);
+    if e < sizes.m {
+        return refused(4, e);
+    }
+    let i = bad_entry(sizes.n, sizes.k, active);
+    if i < sizes.k {
+        return refused(8, i);
+    }
+    contracted(sizes, from, to, names, active)
 }

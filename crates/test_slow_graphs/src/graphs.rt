@@ -1,17 +1,16 @@
-// Pieces, classes and kept classes of a list's open edges. A piece is a tree of nodes: the table of pieces has one more than the node above, or 0 at the top.
+// Pieces, classes and kept classes of a graph of n nodes and m edges, whose ends are in a and b, by the edges that are open. A piece is a tree of nodes: the table
+// of pieces has one more than the node above, or 0 at the top.
 use test_library::counts;
-use test_library::lists;
-use test_library::lists::List;
+use test_library::entries;
+use test_library::entries::Entries;
 use test_library::tables;
 use test_library::tables::Marks;
 use test_library::tables::Table;
 
 // Internal: the first edge with an end that is no node, or m.
-pub fn bad_edge(l: &List) -> usize {
-    let n = lists::size(l, lists::A);
-    let m = lists::size(l, lists::B);
+pub fn bad_edge(n: usize, m: usize, a: &Entries, b: &Entries) -> usize {
     for e in 0..m {
-        if (lists::at(l, lists::A, e) >= n) | (lists::at(l, lists::B, e) >= n) {
+        if (entries::at(a, e) >= n) | (entries::at(b, e) >= n) {
             return e;
         }
     }
@@ -49,58 +48,98 @@ fn join(p: &mut Table, u: usize, v: usize) {
 }
 
 // Whether edge e is there when one edge is removed, and the nodes that have the number z in t are taken away.
-fn is_left(l: &List, open: &Marks, removed: usize, t: &Table, z: usize, e: usize) -> bool {
+fn is_left(
+    a: &Entries,
+    b: &Entries,
+    open: &Marks,
+    removed: usize,
+    t: &Table,
+    z: usize,
+    e: usize,
+) -> bool {
     if !tables::marked(open, e) {
         return false;
     }
-    let u = tables::get(t, lists::at(l, lists::A, e));
-    let v = tables::get(t, lists::at(l, lists::B, e));
+    let u = tables::get(t, entries::at(a, e));
+    let v = tables::get(t, entries::at(b, e));
     (e != removed) & (u != z) & (v != z)
 }
 
 // Internal: the pieces of what is left, where each node was alone before.
-pub fn pieces(p: &mut Table, l: &List, open: &Marks, removed: usize, t: &Table, z: usize) {
-    let m = lists::size(l, lists::B);
+pub fn pieces(
+    p: &mut Table,
+    m: usize,
+    a: &Entries,
+    b: &Entries,
+    open: &Marks,
+    removed: usize,
+    t: &Table,
+    z: usize,
+) {
     for e in 0..m {
-        if is_left(l, open, removed, t, z, e) {
-            join(p, lists::at(l, lists::A, e), lists::at(l, lists::B, e));
+        if is_left(a, b, open, removed, t, z, e) {
+            join(p, entries::at(a, e), entries::at(b, e));
         }
     }
 }
 
 // The pieces when one edge is removed, or none where there is no edge of this number.
-fn pieces_without(p: &mut Table, l: &List, open: &Marks, removed: usize) {
+fn pieces_without(p: &mut Table, m: usize, a: &Entries, b: &Entries, open: &Marks, removed: usize) {
     let all = [0u32; 512];
-    pieces(p, l, open, removed, &all, 1);
+    pieces(p, m, a, b, open, removed, &all, 1);
 }
 
 // Internal: the pieces when no edge is removed.
-pub fn all_pieces(p: &mut Table, l: &List, open: &Marks) {
-    pieces_without(p, l, open, lists::size(l, lists::B));
+pub fn all_pieces(p: &mut Table, m: usize, a: &Entries, b: &Entries, open: &Marks) {
+    pieces_without(p, m, a, b, open, m);
 }
 
-fn joined(l: &List, open: &Marks, removed: usize, u: usize, v: usize) -> bool {
+fn joined(
+    m: usize,
+    a: &Entries,
+    b: &Entries,
+    open: &Marks,
+    removed: usize,
+    u: usize,
+    v: usize,
+) -> bool {
     let mut p = [0u32; 512];
-    pieces_without(&mut p, l, open, removed);
+    pieces_without(&mut p, m, a, b, open, removed);
     together(&p, u, v)
 }
 
 // Internal: whether edge e is there and its loss parts u and v, or leaves them apart.
-pub fn is_parting(l: &List, open: &Marks, e: usize, u: usize, v: usize) -> bool {
+pub fn is_parting(
+    m: usize,
+    a: &Entries,
+    b: &Entries,
+    open: &Marks,
+    e: usize,
+    u: usize,
+    v: usize,
+) -> bool {
     if !tables::marked(open, e) {
         return false;
     }
-    !joined(l, open, e, u, v)
+    !joined(m, a, b, open, e, u, v)
+}
+
+// Internal: how many edges part u and v, which are joined.
+pub fn parting(m: usize, a: &Entries, b: &Entries, open: &Marks, u: usize, v: usize) -> usize {
+    let mut count: usize = 0;
+    for e in 0..m {
+        count = counts::counted(count, is_parting(m, a, b, open, e, u, v));
+    }
+    count
 }
 
 // Internal: the answer to a query of u and v.
-pub fn answer(l: &List, open: &Marks, u: usize, v: usize) -> usize {
-    let m = lists::size(l, lists::B);
-    if !joined(l, open, m, u, v) {
+pub fn answer(m: usize, a: &Entries, b: &Entries, open: &Marks, u: usize, v: usize) -> usize {
+    if !joined(m, a, b, open, m, u, v) {
         return 0;
     }
     for e in 0..m {
-        if is_parting(l, open, e, u, v) {
+        if is_parting(m, a, b, open, e, u, v) {
             return 1;
         }
     }
@@ -133,41 +172,64 @@ fn part(c: &mut Table, p: &Table, n: usize) {
 }
 
 // Parts the classes along what the removal of edge e leaves, where it parts its ends.
-fn part_without(c: &mut Table, l: &List, open: &Marks, e: usize) {
+fn part_without(
+    c: &mut Table,
+    n: usize,
+    m: usize,
+    a: &Entries,
+    b: &Entries,
+    open: &Marks,
+    e: usize,
+) {
     let mut p = [0u32; 512];
-    pieces_without(&mut p, l, open, e);
-    if !together(&p, lists::at(l, lists::A, e), lists::at(l, lists::B, e)) {
-        part(c, &p, lists::size(l, lists::A));
+    pieces_without(&mut p, m, a, b, open, e);
+    if !together(&p, entries::at(a, e), entries::at(b, e)) {
+        part(c, &p, n);
     }
 }
 
 // Adds edge e to the pieces. Where its ends were not joined before, its removal may part classes.
-fn part_along(c: &mut Table, p: &mut Table, l: &List, open: &Marks, e: usize) {
-    let u = lists::at(l, lists::A, e);
-    let v = lists::at(l, lists::B, e);
+fn part_along(
+    c: &mut Table,
+    p: &mut Table,
+    n: usize,
+    m: usize,
+    a: &Entries,
+    b: &Entries,
+    open: &Marks,
+    e: usize,
+) {
+    let u = entries::at(a, e);
+    let v = entries::at(b, e);
     if !together(p, u, v) {
         join(p, u, v);
-        part_without(c, l, open, e);
+        part_without(c, n, m, a, b, open, e);
     }
 }
 
 // Internal: the classes: for each node the smallest that it is joined to, also after the removal of each single edge; and the pieces. All were one class
 // before, and each alone in p.
-pub fn classes(c: &mut Table, p: &mut Table, l: &List, open: &Marks) {
-    let m = lists::size(l, lists::B);
+pub fn classes(
+    c: &mut Table,
+    p: &mut Table,
+    n: usize,
+    m: usize,
+    a: &Entries,
+    b: &Entries,
+    open: &Marks,
+) {
     let mut all = [0u32; 512];
-    all_pieces(&mut all, l, open);
-    part(c, &all, lists::size(l, lists::A));
+    all_pieces(&mut all, m, a, b, open);
+    part(c, &all, n);
     for e in 0..m {
         if tables::marked(open, e) {
-            part_along(c, p, l, open, e);
+            part_along(c, p, n, m, a, b, open, e);
         }
     }
 }
 
 // Internal: marks the classes with an active node.
-pub fn mark_held(held: &mut Table, l: &List, c: &Table, active: &Marks) {
-    let n = lists::size(l, lists::A);
+pub fn mark_held(held: &mut Table, n: usize, c: &Table, active: &Marks) {
     for v in 0..n {
         if tables::marked(active, v) {
             tables::put(held, tables::get(c, v), 1);
@@ -193,10 +255,19 @@ fn sum(t: &Table, n: usize) -> usize {
 }
 
 // How many parts of z's piece hold an active node when the class z is taken away.
-fn parts(l: &List, open: &Marks, c: &Table, p: &Table, active: &Marks, z: usize) -> usize {
-    let n = lists::size(l, lists::A);
+fn parts(
+    n: usize,
+    m: usize,
+    a: &Entries,
+    b: &Entries,
+    open: &Marks,
+    c: &Table,
+    p: &Table,
+    active: &Marks,
+    z: usize,
+) -> usize {
     let mut q = [0u32; 512];
-    pieces(&mut q, l, open, lists::size(l, lists::B), c, z);
+    pieces(&mut q, m, a, b, open, m, c, z);
     let mut met = [0u32; 512];
     mark_parts(&mut met, n, p, &q, active, z);
     sum(&met, n)
@@ -204,7 +275,10 @@ fn parts(l: &List, open: &Marks, c: &Table, p: &Table, active: &Marks, z: usize)
 
 // Internal: whether z is the smallest node of a kept class.
 pub fn is_kept(
-    l: &List,
+    n: usize,
+    m: usize,
+    a: &Entries,
+    b: &Entries,
     open: &Marks,
     c: &Table,
     p: &Table,
@@ -218,28 +292,37 @@ pub fn is_kept(
     if tables::get(held, z) == 1 {
         return true;
     }
-    parts(l, open, c, p, active, z) >= 3
+    parts(n, m, a, b, open, c, p, active, z) >= 3
 }
 
-fn count_kept(l: &List, open: &Marks, c: &Table, p: &Table, active: &Marks, held: &Table) -> usize {
-    let n = lists::size(l, lists::A);
+fn count_kept(
+    n: usize,
+    m: usize,
+    a: &Entries,
+    b: &Entries,
+    open: &Marks,
+    c: &Table,
+    p: &Table,
+    active: &Marks,
+    held: &Table,
+) -> usize {
     let mut count: usize = 0;
     for z in 0..n {
-        count = counts::counted(count, is_kept(l, open, c, p, active, held, z));
+        count = counts::counted(count, is_kept(n, m, a, b, open, c, p, active, held, z));
     }
     count
 }
 
 // Internal: how many classes are kept. One without an active node is kept only where three others hold one, each in a part of its own.
-pub fn kept(l: &List, open: &Marks, active: &Marks) -> usize {
+pub fn kept(n: usize, m: usize, a: &Entries, b: &Entries, open: &Marks, active: &Marks) -> usize {
     let mut c = [0u32; 512];
     let mut p = [0u32; 512];
-    classes(&mut c, &mut p, l, open);
+    classes(&mut c, &mut p, n, m, a, b, open);
     let mut held = [0u32; 512];
-    mark_held(&mut held, l, &c, active);
-    let some = sum(&held, lists::size(l, lists::A));
+    mark_held(&mut held, n, &c, active);
+    let some = sum(&held, n);
     if some < 3 {
         return some;
     }
-    count_kept(l, open, &c, &p, active, &held)
+    count_kept(n, m, a, b, open, &c, &p, active, &held)
 }

@@ -4,10 +4,10 @@ use Rattle.test_replay.proofs.run_large.Statement.{statement}
 use Rattle.test_replay.proofs.run_large.Tie as tie
 
 abbrev Inv-loop : tie.InvT-loop
-Inv-loop t₀ work₀ s₀ t work s = s ≤ 36
+Inv-loop work₀ t₀ s₀ work t s = s ≤ 36
 
 abbrev μ-loop : tie.MeasureT-loop
-μ-loop t₀ work₀ s₀ t work s = 36 - s
+μ-loop work₀ t₀ s₀ work t s = 36 - s
 
 pub run-large-spec : {M : Type 1} → statement M
 run-large-spec =
@@ -15,8 +15,8 @@ run-large-spec =
     (tie.spec
     Inv-loop
     μ-loop
-    (λ c. search needs)
     (λ c κs. search needs)
+    (λ c. search needs)
     (λ c κs. search needs)
     (λ c. search needs)
     (λ c. search needs)

@@ -4,10 +4,10 @@ use Rattle.test_replay.proofs.run_rings.Statement.{statement}
 use Rattle.test_replay.proofs.run_rings.Tie as tie
 
 abbrev Inv-loop : tie.InvT-loop
-Inv-loop t₀ work₀ i₀ t work i = i ≤ 10
+Inv-loop work₀ t₀ i₀ work t i = i ≤ 10
 
 abbrev μ-loop : tie.MeasureT-loop
-μ-loop t₀ work₀ i₀ t work i = 10 - i
+μ-loop work₀ t₀ i₀ work t i = 10 - i
 
 pub run-rings-spec : {M : Type 1} → statement M
 run-rings-spec =
@@ -15,8 +15,8 @@ run-rings-spec =
     (tie.spec
     Inv-loop
     μ-loop
-    (λ c. search needs)
     (λ c κs. search needs)
+    (λ c. search needs)
     (λ c κs. search needs)
     (λ c. search needs)
     (λ c. search needs)

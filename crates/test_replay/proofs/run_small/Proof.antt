@@ -4,10 +4,10 @@ use Rattle.test_replay.proofs.run_small.Statement.{statement}
 use Rattle.test_replay.proofs.run_small.Tie as tie
 
 abbrev Inv-loop : tie.InvT-loop
-Inv-loop t₀ work₀ s₀ t work s = s ≤ 60000
+Inv-loop work₀ t₀ s₀ work t s = s ≤ 60000
 
 abbrev μ-loop : tie.MeasureT-loop
-μ-loop t₀ work₀ s₀ t work s = 60000 - s
+μ-loop work₀ t₀ s₀ work t s = 60000 - s
 
 pub run-small-spec : {M : Type 1} → statement M
 run-small-spec =
@@ -15,11 +15,8 @@ run-small-spec =
     (tie.spec
     Inv-loop
     μ-loop
+    (λ c κs. search needs)
     (λ c. search needs)
-    (λ c κs. search needs)
-    (λ c κs. search needs)
-    (λ c κs. search needs)
-    (λ c κs. search needs)
     (λ c κs. search needs)
     (λ c. search needs)
     (λ c. search needs)

@@ -4,7 +4,7 @@ use Rattle.test_contraction.proofs.limits.short_refused.Statement.{stat
 use Rattle.test_contraction.proofs.limits.short_refused.Tie as tie
 
 abbrev Inv-loop : tie.InvT-loop
-Inv-loop count₀ i₀ count i = i ≤ 11
+Inv-loop count₀ i₀ count i = 1 ≤ i
 
 abbrev μ-loop : tie.MeasureT-loop
 μ-loop count₀ i₀ count i = 11 - i
@@ -16,6 +16,8 @@ short-refused-spec =
     Inv-loop
     μ-loop
     (λ c. search needs)
+    (λ c κs. search needs)
+    (λ c κs. search needs)
     (λ c κs. search needs)
     (λ c κs. search needs)
     (λ c. search needs)

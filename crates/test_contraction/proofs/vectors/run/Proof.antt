@@ -4,10 +4,10 @@ use Rattle.test_contraction.proofs.vectors.run.Statement.{statement}
 use Rattle.test_contraction.proofs.vectors.run.Tie as tie
 
 abbrev Inv-loop : tie.InvT-loop
-Inv-loop t₀ text length start₀ counter₀ t start counter = counter ≤ 120
+Inv-loop text length c₀ start₀ counter₀ c start counter = counter ≤ 120
 
 abbrev μ-loop : tie.MeasureT-loop
-μ-loop t₀ text length start₀ counter₀ t start counter = 120 - counter
+μ-loop text length c₀ start₀ counter₀ c start counter = 120 - counter
 
 pub run-spec : {M : Type 1} → statement M
 run-spec =

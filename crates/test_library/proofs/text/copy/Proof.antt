@@ -4,10 +4,10 @@ use Rattle.test_library.proofs.text.copy.Statement.{statement}
 use Rattle.test_library.proofs.text.copy.Tie as tie
 
 abbrev Inv-loop : tie.InvT-loop
-Inv-loop l₀ table text start from count j₀ l j = j ≤ count
+Inv-loop t₀ text start from count j₀ t j = j ≤ count
 
 abbrev μ-loop : tie.MeasureT-loop
-μ-loop l₀ table text start from count j₀ l j = count - j
+μ-loop t₀ text start from count j₀ t j = count - j
 
 pub copy-spec : {M : Type 1} → statement M
 copy-spec =

@@ -4,10 +4,10 @@ use Rattle.test_random.proofs.graphs.make_names.Statement.{statement}
 use Rattle.test_random.proofs.graphs.make_names.Tie as tie
 
 abbrev Inv-loop : tie.InvT-loop
-Inv-loop l₀ s m i₀ l i = i ≤ m
+Inv-loop names₀ s m i₀ names i = i ≤ m
 
 abbrev μ-loop : tie.MeasureT-loop
-μ-loop l₀ s m i₀ l i = m - i
+μ-loop names₀ s m i₀ names i = m - i
 
 pub make-names-spec : {M : Type 1} → statement M
 make-names-spec =
@@ -15,7 +15,6 @@ make-names-spec =
     (tie.spec
     Inv-loop
     μ-loop
-    (λ c κs. search needs)
     (λ c. search needs)
     (λ c κs. search needs)
     (λ c κs. search needs)

@@ -4,10 +4,10 @@ use Rattle.test_replay.proofs.vectors.run.Statement.{statement}
 use Rattle.test_replay.proofs.vectors.run.Tie as tie
 
 abbrev Inv-loop : tie.InvT-loop
-Inv-loop t₀ text length work₀ start₀ counter₀ t work start counter = counter ≤ 100
+Inv-loop text length work₀ c₀ start₀ counter₀ work c start counter = counter ≤ 100
 
 abbrev μ-loop : tie.MeasureT-loop
-μ-loop t₀ text length work₀ start₀ counter₀ t work start counter = 100 - counter
+μ-loop text length work₀ c₀ start₀ counter₀ work c start counter = 100 - counter
 
 pub run-spec : {M : Type 1} → statement M
 run-spec =

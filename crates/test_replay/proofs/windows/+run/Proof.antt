@@ -6,52 +6,35 @@ use Rattle.test_replay.proofs.windows.run.Reads as run
 use Rattle.test_replay.proofs.windows.run.Kinds as run-kinds
 use Rattle.test_replay.proofs.windows.+run.Lts-run as run-lts
 use Rattle.test_library.proofs.counts.plus.Reads as plus-reads
-use Rattle.test_library.proofs.lists.size.Reads as size-reads
-use Rattle.test_replay.proofs.run.Reads as run-reads
 use Rattle.test_replay.proofs.windows.cut.Reads as cut-reads
+use Rattle.test_replay.proofs.windows.with_window.Reads as with-window-reads
 use Rattle.test_slow_replay.proofs.replay.first_part.Reads as first-part-reads
 use Rattle.test_replay.proofs.windows.+run.{statement}
 use Rattle.test_replay.proofs.windows.+run.Tie.{close}
 
-abbrev μ-run : Measures 3 run-kinds.ps ℕ
-μ-run κs a = a .1 .1 .1 .0
+abbrev μ-run : Measures 6 run-kinds.ps ℕ
+μ-run κs a = a .1 .1 .1 .1 .1 .1 .1 .1 .0
 
-abbrev run-at : ℕ → In 3 run-kinds.ps
-run-at t = and 3 run-kinds.ps (is 3 run-kinds.ps μ-run t) run.Pre
+abbrev run-at : ℕ → In 6 run-kinds.ps
+run-at t = and 6 run-kinds.ps (is 6 run-kinds.ps μ-run t) run.Pre
 
-abbrev run-below : ℕ → In 3 run-kinds.ps
-run-below t = and 3 run-kinds.ps (falls 3 run-kinds.ps _<_ μ-run t) run.Pre
+abbrev run-below : ℕ → In 6 run-kinds.ps
+run-below t = and 6 run-kinds.ps (falls 6 run-kinds.ps _<_ μ-run t) run.Pre
 
 abbrev calls : ℕ → run-lts.Claims
-calls t = (
-  cut-reads.Asked,
-  cut-reads.Learnt,
-  run-reads.Asked,
-  run-reads.Learnt,
-  size-reads.Asked,
-  size-reads.Learnt,
-  first-part-reads.Asked,
-  first-part-reads.Learnt,
-  run-below t,
-  run.Post,
-  plus-reads.Asked,
-  plus-reads.Learnt,
-)
+calls t = (cut-reads.Asked, cut-reads.Learnt, with-window-reads.Asked, with-window-reads.Learnt, first-part-reads.Asked, first-part-reads.Learnt, run-below t, run.Post, plus-reads.Asked, plus-reads.Learnt)
 
 run-cut-requires : (t : ℕ) → run-lts.Need-cut-requires (calls t) (run-at t) run.Post
 run-cut-requires t c κs = search needs
 
-run-run-requires : (t : ℕ) → run-lts.Need-run-requires (calls t) (run-at t) run.Post
-run-run-requires t c κs = search needs
-
-run-size-requires : (t : ℕ) → run-lts.Need-size-requires (calls t) (run-at t) run.Post
-run-size-requires t c κs = search needs
+run-with-window-requires : (t : ℕ) → run-lts.Need-with-window-requires (calls t) (run-at t) run.Post
+run-with-window-requires t c κs = search needs
 
 run-first-part-requires : (t : ℕ) → run-lts.Need-first-part-requires (calls t) (run-at t) run.Post
 run-first-part-requires t c κs = search needs
 
-run-run-requires-2 : (t : ℕ) → run-lts.Need-run-requires-2 (calls t) (run-at t) run.Post
-run-run-requires-2 t c κs = search needs
+run-run-requires : (t : ℕ) → run-lts.Need-run-requires (calls t) (run-at t) run.Post
+run-run-requires t c κs = search needs
 
 run-plus-requires : (t : ℕ) → run-lts.Need-plus-requires (calls t) (run-at t) run.Post
 run-plus-requires t c κs = search needs
@@ -59,8 +42,8 @@ run-plus-requires t c κs = search needs
 run-sub-run : (t : ℕ) → run-lts.Need-sub-run (calls t) (run-at t) run.Post
 run-sub-run t c = search needs
 
-run-run-requires-3 : (t : ℕ) → run-lts.Need-run-requires-3 (calls t) (run-at t) run.Post
-run-run-requires-3 t c κs = search needs
+run-run-requires-2 : (t : ℕ) → run-lts.Need-run-requires-2 (calls t) (run-at t) run.Post
+run-run-requires-2 t c κs = search needs
 
 run-returns : (t : ℕ) → run-lts.Need-returns (calls t) (run-at t) run.Post
 run-returns t c = search needs
@@ -73,12 +56,11 @@ pub +run-spec : {M : Type 1} → statement M
     (run-at t)
     run.Post
     (run-cut-requires t)
-    (run-run-requires t)
-    (run-size-requires t)
+    (run-with-window-requires t)
     (run-first-part-requires t)
-    (run-run-requires-2 t)
+    (run-run-requires t)
     (run-plus-requires t)
     (run-sub-run t)
-    (run-run-requires-3 t)
+    (run-run-requires-2 t)
     (run-returns t)
     (run-returns-2 t)

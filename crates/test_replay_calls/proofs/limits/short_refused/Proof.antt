@@ -4,7 +4,7 @@ use Rattle.test_replay_calls.proofs.limits.short_refused.Statement.{sta
 use Rattle.test_replay_calls.proofs.limits.short_refused.Tie as tie
 
 abbrev Inv-loop : tie.InvT-loop
-Inv-loop work₀ count₀ i₀ work count i = i ≤ 9
+Inv-loop work₀ count₀ i₀ work count i = 1 ≤ i
 
 abbrev μ-loop : tie.MeasureT-loop
 μ-loop work₀ count₀ i₀ work count i = 9 - i
@@ -16,6 +16,9 @@ short-refused-spec =
     Inv-loop
     μ-loop
     (λ c. search needs)
+    (λ c κs. search needs)
+    (λ c κs. search needs)
+    (λ c κs. search needs)
     (λ c κs. search needs)
     (λ c κs. search needs)
     (λ c κs. search needs)

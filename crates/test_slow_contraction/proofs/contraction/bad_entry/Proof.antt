@@ -4,10 +4,10 @@ use Rattle.test_slow_contraction.proofs.contraction.bad_entry.Statement
 use Rattle.test_slow_contraction.proofs.contraction.bad_entry.Tie as tie
 
 abbrev Inv-loop : tie.InvT-loop
-Inv-loop l n k i₀ i = i ≤ k
+Inv-loop n k active i₀ i = i ≤ k
 
 abbrev μ-loop : tie.MeasureT-loop
-μ-loop l n k i₀ i = k - i
+μ-loop n k active i₀ i = k - i
 
 pub bad-entry-spec : {M : Type 1} → statement M
 bad-entry-spec =
@@ -15,8 +15,6 @@ bad-entry-spec =
     (tie.spec
     Inv-loop
     μ-loop
-    (λ c κs. search needs)
-    (λ c κs. search needs)
     (λ c. search needs)
     (λ c κs. search needs)
     (λ c. search needs)

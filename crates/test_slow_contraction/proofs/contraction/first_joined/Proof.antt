@@ -4,10 +4,10 @@ use Rattle.test_slow_contraction.proofs.contraction.first_joined.Statem
 use Rattle.test_slow_contraction.proofs.contraction.first_joined.Tie as tie
 
 abbrev Inv-loop : tie.InvT-loop
-Inv-loop l p i v j₀ j = j ≤ i
+Inv-loop active p i v j₀ j = j ≤ i
 
 abbrev μ-loop : tie.MeasureT-loop
-μ-loop l p i v j₀ j = i - j
+μ-loop active p i v j₀ j = i - j
 
 pub first-joined-spec : {M : Type 1} → statement M
 first-joined-spec =

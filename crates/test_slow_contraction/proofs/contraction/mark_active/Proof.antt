@@ -4,10 +4,10 @@ use Rattle.test_slow_contraction.proofs.contraction.mark_active.Stateme
 use Rattle.test_slow_contraction.proofs.contraction.mark_active.Tie as tie
 
 abbrev Inv-loop : tie.InvT-loop
-Inv-loop active₀ l k i₀ active i = i ≤ k
+Inv-loop marks₀ k active i₀ marks i = i ≤ k
 
 abbrev μ-loop : tie.MeasureT-loop
-μ-loop active₀ l k i₀ active i = k - i
+μ-loop marks₀ k active i₀ marks i = k - i
 
 pub mark-active-spec : {M : Type 1} → statement M
 mark-active-spec =
@@ -15,7 +15,6 @@ mark-active-spec =
     (tie.spec
     Inv-loop
     μ-loop
-    (λ c κs. search needs)
     (λ c. search needs)
     (λ c κs. search needs)
     (λ c κs. search needs)

@@ -4,10 +4,10 @@ use Rattle.test_slow_contraction.proofs.contraction.mark_third.Statemen
 use Rattle.test_slow_contraction.proofs.contraction.mark_third.Tie as tie
 
 abbrev Inv-loop : tie.InvT-loop
-Inv-loop out₀ l of c x y n v₀ out v = v ≤ n
+Inv-loop out₀ n of c x y v₀ out v = v ≤ n
 
 abbrev μ-loop : tie.MeasureT-loop
-μ-loop out₀ l of c x y n v₀ out v = n - v
+μ-loop out₀ n of c x y v₀ out v = n - v
 
 pub mark-third-spec : {M : Type 1} → statement M
 mark-third-spec =
@@ -15,7 +15,6 @@ mark-third-spec =
     (tie.spec
     Inv-loop
     μ-loop
-    (λ c κs. search needs)
     (λ c. search needs)
     (λ c κs. search needs)
     (λ c κs. search needs)

@@ -4,10 +4,10 @@ use Rattle.test_slow_contraction.proofs.contraction.name.Statement.{sta
 use Rattle.test_slow_contraction.proofs.contraction.name.Tie as tie
 
 abbrev Inv-loop : tie.InvT-loop
-Inv-loop l u v m «open» least₀ e₀ least e = e ≤ m
+Inv-loop m from to names u v «open» least₀ e₀ least e = e ≤ m
 
 abbrev μ-loop : tie.MeasureT-loop
-μ-loop l u v m «open» least₀ e₀ least e = m - e
+μ-loop m from to names u v «open» least₀ e₀ least e = m - e
 
 pub name-spec : {M : Type 1} → statement M
 name-spec =
@@ -15,7 +15,6 @@ name-spec =
     (tie.spec
     Inv-loop
     μ-loop
-    (λ c κs. search needs)
     (λ c. search needs)
     (λ c κs. search needs)
     (λ c κs. search needs)

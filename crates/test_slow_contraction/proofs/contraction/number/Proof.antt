@@ -4,10 +4,10 @@ use Rattle.test_slow_contraction.proofs.contraction.number.Statement.{s
 use Rattle.test_slow_contraction.proofs.contraction.number.Tie as tie
 
 abbrev Inv-loop : tie.InvT-loop
-Inv-loop of₀ first₀ l c p active held start end before «open» count₀ i₀ of first count i = start ≤ i
+Inv-loop of₀ first₀ sizes from to active c p marks held start end before «open» count₀ i₀ of first count i = start ≤ i
 
 abbrev μ-loop : tie.MeasureT-loop
-μ-loop of₀ first₀ l c p active held start end before «open» count₀ i₀ of first count i = end - i
+μ-loop of₀ first₀ sizes from to active c p marks held start end before «open» count₀ i₀ of first count i = end - i
 
 pub number-spec : {M : Type 1} → statement M
 number-spec =

@@ -4,10 +4,10 @@ use Rattle.test_slow_contraction.proofs.contraction.write_map.Statement
 use Rattle.test_slow_contraction.proofs.contraction.write_map.Tie as tie
 
 abbrev Inv-loop : tie.InvT-loop
-Inv-loop r₀ l of c k i₀ r i = i ≤ k
+Inv-loop map₀ k active of c i₀ map i = i ≤ k
 
 abbrev μ-loop : tie.MeasureT-loop
-μ-loop r₀ l of c k i₀ r i = k - i
+μ-loop map₀ k active of c i₀ map i = k - i
 
 pub write-map-spec : {M : Type 1} → statement M
 write-map-spec =
@@ -15,7 +15,6 @@ write-map-spec =
     (tie.spec
     Inv-loop
     μ-loop
-    (λ c κs. search needs)
     (λ c. search needs)
     (λ c κs. search needs)
     (λ c κs. search needs)

@@ -4,10 +4,10 @@ use Rattle.test_slow_contraction.proofs.contraction.write_pieces.Statem
 use Rattle.test_slow_contraction.proofs.contraction.write_pieces.Tie as tie
 
 abbrev Inv-loop : tie.InvT-loop
-Inv-loop r₀ l p k count₀ i₀ r count i = i ≤ k
+Inv-loop pieces₀ k active p count₀ i₀ pieces count i = i ≤ k
 
 abbrev μ-loop : tie.MeasureT-loop
-μ-loop r₀ l p k count₀ i₀ r count i = k - i
+μ-loop pieces₀ k active p count₀ i₀ pieces count i = k - i
 
 pub write-pieces-spec : {M : Type 1} → statement M
 write-pieces-spec =
@@ -15,7 +15,6 @@ write-pieces-spec =
     (tie.spec
     Inv-loop
     μ-loop
-    (λ c κs. search needs)
     (λ c. search needs)
     (λ c κs. search needs)
     (λ c κs. search needs)

@@ -4,10 +4,10 @@ use Rattle.test_slow_graphs.proofs.graphs.bad_edge.Statement.{statement
 use Rattle.test_slow_graphs.proofs.graphs.bad_edge.Tie as tie
 
 abbrev Inv-loop : tie.InvT-loop
-Inv-loop l n m e₀ e = e ≤ m
+Inv-loop n m a b e₀ e = e ≤ m
 
 abbrev μ-loop : tie.MeasureT-loop
-μ-loop l n m e₀ e = m - e
+μ-loop n m a b e₀ e = m - e
 
 pub bad-edge-spec : {M : Type 1} → statement M
 bad-edge-spec =
@@ -15,8 +15,6 @@ bad-edge-spec =
     (tie.spec
     Inv-loop
     μ-loop
-    (λ c κs. search needs)
-    (λ c κs. search needs)
     (λ c. search needs)
     (λ c κs. search needs)
     (λ c κs. search needs)

@@ -4,10 +4,10 @@ use Rattle.test_slow_graphs.proofs.graphs.count_kept.Statement.{stateme
 use Rattle.test_slow_graphs.proofs.graphs.count_kept.Tie as tie
 
 abbrev Inv-loop : tie.InvT-loop
-Inv-loop l «open» c p active held n count₀ z₀ count z = z ≤ n
+Inv-loop n m a b «open» c p active held count₀ z₀ count z = z ≤ n
 
 abbrev μ-loop : tie.MeasureT-loop
-μ-loop l «open» c p active held n count₀ z₀ count z = n - z
+μ-loop n m a b «open» c p active held count₀ z₀ count z = n - z
 
 pub count-kept-spec : {M : Type 1} → statement M
 count-kept-spec =
@@ -15,7 +15,6 @@ count-kept-spec =
     (tie.spec
     Inv-loop
     μ-loop
-    (λ c κs. search needs)
     (λ c. search needs)
     (λ c κs. search needs)
     (λ c κs. search needs)

@@ -4,10 +4,10 @@ use Rattle.test_slow_graphs.proofs.graphs.mark_held.Statement.{statemen
 use Rattle.test_slow_graphs.proofs.graphs.mark_held.Tie as tie
 
 abbrev Inv-loop : tie.InvT-loop
-Inv-loop held₀ l c active n v₀ held v = v ≤ n
+Inv-loop held₀ n c active v₀ held v = v ≤ n
 
 abbrev μ-loop : tie.MeasureT-loop
-μ-loop held₀ l c active n v₀ held v = n - v
+μ-loop held₀ n c active v₀ held v = n - v
 
 pub mark-held-spec : {M : Type 1} → statement M
 mark-held-spec =
@@ -15,7 +15,6 @@ mark-held-spec =
     (tie.spec
     Inv-loop
     μ-loop
-    (λ c κs. search needs)
     (λ c. search needs)
     (λ c κs. search needs)
     (λ c κs. search needs)

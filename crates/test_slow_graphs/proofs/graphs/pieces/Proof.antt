@@ -4,10 +4,10 @@ use Rattle.test_slow_graphs.proofs.graphs.pieces.Statement.{statement}
 use Rattle.test_slow_graphs.proofs.graphs.pieces.Tie as tie
 
 abbrev Inv-loop : tie.InvT-loop
-Inv-loop p₀ l «open» removed t z m e₀ p e = e ≤ m
+Inv-loop p₀ m a b «open» removed t z e₀ p e = e ≤ m
 
 abbrev μ-loop : tie.MeasureT-loop
-μ-loop p₀ l «open» removed t z m e₀ p e = m - e
+μ-loop p₀ m a b «open» removed t z e₀ p e = m - e
 
 pub pieces-spec : {M : Type 1} → statement M
 pieces-spec =
@@ -15,7 +15,6 @@ pieces-spec =
     (tie.spec
     Inv-loop
     μ-loop
-    (λ c κs. search needs)
     (λ c. search needs)
     (λ c κs. search needs)
     (λ c κs. search needs)

@@ -4,10 +4,10 @@ use Rattle.test_slow_replay.proofs.replay.bad_start.Statement.{statemen
 use Rattle.test_slow_replay.proofs.replay.bad_start.Tie as tie
 
 abbrev Inv-loop : tie.InvT-loop
-Inv-loop l m e₀ e = e ≤ m
+Inv-loop m start e₀ e = e ≤ m
 
 abbrev μ-loop : tie.MeasureT-loop
-μ-loop l m e₀ e = m - e
+μ-loop m start e₀ e = m - e
 
 pub bad-start-spec : {M : Type 1} → statement M
 bad-start-spec =
@@ -15,7 +15,6 @@ bad-start-spec =
     (tie.spec
     Inv-loop
     μ-loop
-    (λ c κs. search needs)
     (λ c. search needs)
     (λ c κs. search needs)
     (λ c. search needs)

@@ -4,10 +4,10 @@ use Rattle.test_slow_replay.proofs.replay.least_parting.Statement.{stat
 use Rattle.test_slow_replay.proofs.replay.least_parting.Tie as tie
 
 abbrev Inv-loop : tie.InvT-loop
-Inv-loop l edges u v m least₀ e₀ least e = e ≤ m
+Inv-loop m a b edges u v least₀ e₀ least e = e ≤ m
 
 abbrev μ-loop : tie.MeasureT-loop
-μ-loop l edges u v m least₀ e₀ least e = m - e
+μ-loop m a b edges u v least₀ e₀ least e = m - e
 
 pub least-parting-spec : {M : Type 1} → statement M
 least-parting-spec =
@@ -15,7 +15,6 @@ least-parting-spec =
     (tie.spec
     Inv-loop
     μ-loop
-    (λ c κs. search needs)
     (λ c. search needs)
     (λ c κs. search needs)
     (λ c κs. search needs)

@@ -4,10 +4,10 @@ use Rattle.test_slow_replay.proofs.replay.mark_start.Statement.{stateme
 use Rattle.test_slow_replay.proofs.replay.mark_start.Tie as tie
 
 abbrev Inv-loop : tie.InvT-loop
-Inv-loop open₀ l m e₀ «open» e = e ≤ m
+Inv-loop open₀ m start e₀ «open» e = e ≤ m
 
 abbrev μ-loop : tie.MeasureT-loop
-μ-loop open₀ l m e₀ «open» e = m - e
+μ-loop open₀ m start e₀ «open» e = m - e
 
 pub mark-start-spec : {M : Type 1} → statement M
 mark-start-spec =
@@ -15,7 +15,6 @@ mark-start-spec =
     (tie.spec
     Inv-loop
     μ-loop
-    (λ c κs. search needs)
     (λ c. search needs)
     (λ c κs. search needs)
     (λ c κs. search needs)

@@ -4,10 +4,10 @@ use Rattle.test_slow_replay.proofs.replay.remove_named.Statement.{state
 use Rattle.test_slow_replay.proofs.replay.remove_named.Tie as tie
 
 abbrev Inv-loop : tie.InvT-loop
-Inv-loop edges₀ l start end places i₀ edges i = start ≤ i
+Inv-loop edges₀ m a b x y first end places i₀ edges i = first ≤ i
 
 abbrev μ-loop : tie.MeasureT-loop
-μ-loop edges₀ l start end places i₀ edges i = end - i
+μ-loop edges₀ m a b x y first end places i₀ edges i = end - i
 
 pub remove-named-spec : {M : Type 1} → statement M
 remove-named-spec =

@@ -4,10 +4,10 @@ use Rattle.test_slow_replay.proofs.roads.any_copy.Statement.{statement}
 use Rattle.test_slow_replay.proofs.roads.any_copy.Tie as tie
 
 abbrev Inv-loop : tie.InvT-loop
-Inv-loop l turned m e₀ e = e ≤ m
+Inv-loop m a b turned e₀ e = e ≤ m
 
 abbrev μ-loop : tie.MeasureT-loop
-μ-loop l turned m e₀ e = m - e
+μ-loop m a b turned e₀ e = m - e
 
 pub any-copy-spec : {M : Type 1} → statement M
 any-copy-spec =
@@ -15,7 +15,6 @@ any-copy-spec =
     (tie.spec
     Inv-loop
     μ-loop
-    (λ c κs. search needs)
     (λ c. search needs)
     (λ c κs. search needs)
     (λ c. search needs)

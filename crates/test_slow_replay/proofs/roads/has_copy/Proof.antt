@@ -4,10 +4,10 @@ use Rattle.test_slow_replay.proofs.roads.has_copy.Statement.{statement}
 use Rattle.test_slow_replay.proofs.roads.has_copy.Tie as tie
 
 abbrev Inv-loop : tie.InvT-loop
-Inv-loop l e turned f₀ f = f ≤ e
+Inv-loop a b e turned f₀ f = f ≤ e
 
 abbrev μ-loop : tie.MeasureT-loop
-μ-loop l e turned f₀ f = e - f
+μ-loop a b e turned f₀ f = e - f
 
 pub has-copy-spec : {M : Type 1} → statement M
 has-copy-spec =

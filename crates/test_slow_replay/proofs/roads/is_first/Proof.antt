@@ -4,10 +4,10 @@ use Rattle.test_slow_replay.proofs.roads.is_first.Statement.{statement}
 use Rattle.test_slow_replay.proofs.roads.is_first.Tie as tie
 
 abbrev Inv-loop : tie.InvT-loop
-Inv-loop l «open» e f₀ f = f ≤ e
+Inv-loop a b «open» e f₀ f = f ≤ e
 
 abbrev μ-loop : tie.MeasureT-loop
-μ-loop l «open» e f₀ f = e - f
+μ-loop a b «open» e f₀ f = e - f
 
 pub is-first-spec : {M : Type 1} → statement M
 is-first-spec =

@@ -4,10 +4,10 @@ use Rattle.test_slow_replay.proofs.roads.name.Statement.{statement}
 use Rattle.test_slow_replay.proofs.roads.name.Tie as tie
 
 abbrev Inv-loop : tie.InvT-loop
-Inv-loop l e f₀ f = f ≤ e
+Inv-loop a b e f₀ f = f ≤ e
 
 abbrev μ-loop : tie.MeasureT-loop
-μ-loop l e f₀ f = e - f
+μ-loop a b e f₀ f = e - f
 
 pub name-spec : {M : Type 1} → statement M
 name-spec =

@@ -4,10 +4,10 @@ use Rattle.test_slow_replay.proofs.roads.other_open.Statement.{statemen
 use Rattle.test_slow_replay.proofs.roads.other_open.Tie as tie
 
 abbrev Inv-loop : tie.InvT-loop
-Inv-loop l «open» e m f₀ f = f ≤ m
+Inv-loop m a b «open» e f₀ f = f ≤ m
 
 abbrev μ-loop : tie.MeasureT-loop
-μ-loop l «open» e m f₀ f = m - f
+μ-loop m a b «open» e f₀ f = m - f
 
 pub other-open-spec : {M : Type 1} → statement M
 other-open-spec =
@@ -15,7 +15,6 @@ other-open-spec =
     (tie.spec
     Inv-loop
     μ-loop
-    (λ c κs. search needs)
     (λ c. search needs)
     (λ c κs. search needs)
     (λ c κs. search needs)

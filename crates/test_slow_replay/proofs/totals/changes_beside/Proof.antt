@@ -4,10 +4,10 @@ use Rattle.test_slow_replay.proofs.totals.changes_beside.Statement.{sta
 use Rattle.test_slow_replay.proofs.totals.changes_beside.Tie as tie
 
 abbrev Inv-loop : tie.InvT-loop
-Inv-loop l x t open₀ i₀ «open» i = i ≤ t
+Inv-loop a b start x y kind m t open₀ i₀ «open» i = i ≤ t
 
 abbrev μ-loop : tie.MeasureT-loop
-μ-loop l x t open₀ i₀ «open» i = t - i
+μ-loop a b start x y kind m t open₀ i₀ «open» i = t - i
 
 pub changes-beside-spec : {M : Type 1} → statement M
 changes-beside-spec =
@@ -16,9 +16,7 @@ changes-beside-spec =
     Inv-loop
     μ-loop
     (λ c κs. search needs)
-    (λ c κs. search needs)
     (λ c. search needs)
-    (λ c κs. search needs)
     (λ c κs. search needs)
     (λ c κs. search needs)
     (λ c. search needs)

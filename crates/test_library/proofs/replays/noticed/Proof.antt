@@ -1,0 +1,25 @@
+use Prim.Native.Nat.{_≤_, _-_}
+use borrow.Author.Needs.{needs}
+use Rattle.test_library.proofs.replays.noticed.Statement.{statement}
+use Rattle.test_library.proofs.replays.noticed.Tie as tie
+
+abbrev Inv-loop : tie.InvT-loop
+Inv-loop r want s planted count₀ j₀ count j = j ≤ planted
+
+abbrev μ-loop : tie.MeasureT-loop
+μ-loop r want s planted count₀ j₀ count j = planted - j
+
+pub noticed-spec : {M : Type 1} → statement M
+noticed-spec =
+    tie.close
+    (tie.spec
+    Inv-loop
+    μ-loop
+    (λ c. search needs)
+    (λ c κs. search needs)
+    (λ c κs. search needs)
+    (λ c κs. search needs)
+    (λ c. search needs)
+    (λ c. search needs)
+    (λ c. search needs)
+    (λ c. search needs))
