@@ -159,13 +159,17 @@ module _ {w : Window} {p : Part} {v : List ℕ} (st : StepReady w (p .at) (p .ev
       (omega (arith, sound-segment (st .g) (st .sound) i (omega (arith, st .inside)) q, road-most (st .g .segments) (event (st .g) i .1), st .sound .segments-few)))
       (λ q. rw (word-none (st .g) i 0 q) (omega arith)))
 
-  pub active-need : ActiveReady (p .places) (2 * p .events) s (w .nodes) v
-  active-need = record {
-    front = omega (arith, st .starts, st .ends, ip .places, scratch-is);
+  -- any of the window's places can be entered
+  pub active-need : (from count : ℕ) → from + count ≤ 2 * n → ActiveReady from count s (w .nodes) v
+  active-need from count h = record {
+    front = omega (arith, scratch-is);
     room = omega (arith, st .room, scratch-is);
     many = st .many;
-    nodes = λ i l. words-low (p .places + i) (omega (arith, st .starts, st .ends, ip .places));
+    nodes = λ i l. words-low (from + i) (omega arith);
   }
+
+  part-active : ActiveReady (p .places) (2 * p .events) s (w .nodes) v
+  part-active = active-need (p .places) (2 * p .events) (omega (arith, st .starts, st .ends, ip .places))
 
   pub edges-need : (z : List ℕ) → take s z ≡ take s v → length z ≡ length v → EdgesReady n (w .edges) s (w .nodes) z
   edges-need z f e = record {
@@ -234,9 +238,9 @@ module _ {w : Window} {p : Part} {v : List ℕ} (st : StepReady w (p .at) (p .ev
         much = omega (arith, st .much, st .starts, st .ends);
         many = st .many;
         few = omega (arith, C .most, D .most, st .area .few, st .much, st .starts, st .ends);
-        nodes = λ i l. omega (arith, active-need .nodes i l, front-get s (p .places + i) v w₄ front-4 (omega (arith, active-need .front)));
-        entered = rw (mid-less (p .places) (2 * p .events) s v w₄ (omega (arith, active-need .front))
-            (omega (arith, active-need .front, st .room, C .long, D .long, scratch-is)) (omega (arith, active-need .front, st .room, scratch-is)) front-4)
+        nodes = λ i l. omega (arith, part-active .nodes i l, front-get s (p .places + i) v w₄ front-4 (omega (arith, part-active .front)));
+        entered = rw (mid-less (p .places) (2 * p .events) s v w₄ (omega (arith, part-active .front))
+            (omega (arith, part-active .front, st .room, C .long, D .long, scratch-is)) (omega (arith, part-active .front, st .room, scratch-is)) front-4)
             (entered-same (A₁ .entered) (fields MARK (omega arith)) (fields ACTIVE (omega arith)));
         ends = D .edged .ends;
         names = D .edged .names;

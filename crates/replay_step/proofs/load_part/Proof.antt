@@ -9,7 +9,8 @@ use Rattle.replay_step.proofs.load_part.Tie as tie
 enter-places-requires : tie.Need-enter-places-requires
 enter-places-requires c κs =
     let start = c .before .before .before .before .before in
-    active-need (start .pre .0) (start .pre .1)
+    let q = start .pre .0 in
+    active-need q (start .pre .1) _ _ (omega (arith, q .starts, q .ends, start .pre .1 .places))
 
 copy-edges-requires : tie.Need-copy-edges-requires
 copy-edges-requires c κs =
