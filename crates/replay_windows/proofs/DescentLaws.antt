@@ -19,7 +19,7 @@ use Rattle.theory_graph.proofs.SmallGraphDefinition.{definition-small}
 use Rattle.theory_graph.proofs.TableLaws.{pairs-length}
 use Rattle.theory_graph.specs.Graph.{answer}
 use Rattle.theory_graph.specs.Lists.{pairs, sum, table}
-use Rattle.theory_graph.specs.SmallGraph.{different, mostNodes, noEdge}
+use Rattle.theory_graph.specs.SmallGraph.{different, mostNodes, readOff}
 use Rattle.theory_names.proofs.Hangs.{hangs-none}
 use Rattle.theory_names.proofs.NamedSmallCuts.{named-small-carries, named-small-sixteen}
 use Rattle.theory_names.proofs.NamedUniqueness.{named-renumbered-small}
@@ -268,44 +268,34 @@ byte-query : (g : Timeline) (i : ℕ) → asksAt g i ≡ true → byte g i ≡ a
 unfolding byte
 byte-query g i t = ap (λ b. cond b (answer (plain (openGraph g i)) (event g i .0) (event g i .1)) 3) t
 
-none-is : (H : Named) (edges : ℕ) → length H ≡ edges → noEdge (plain H) ≡ eqb edges 0
-none-is [] edges e = sym (eq-eqb edges 0 (sym e))
-none-is (h ∷ H) edges e = sym (ne-eqb edges 0 (λ z. omega arith))
-
--- the byte by the tag and the counts, case by case
+-- the byte by the tag and the counts: each way out has one byte, whatever the other numbers are. The bytes are not spelled here, so that byte-read alone tells
+-- whether they are the right ones
 module _ (tag nodes edges : ℕ) where
-  pub byte-3 : ¬ (tag ≡ 0) → _≡_ {A = ℕ} 3 (byteBy tag nodes edges)
-  byte-3 h = sym (ap (λ b. cond b (cond (eqb nodes 1) 2 (cond (eqb edges 0) 0 1)) 3) (ne-eqb tag 0 h))
+  pub byte-3 : ¬ (tag ≡ 0) → byteBy 1 0 0 ≡ byteBy tag nodes edges
+  byte-3 h = rw (ne-eqb tag 0 h) refl
 
-  pub byte-asked : tag ≡ 0 → byteBy tag nodes edges ≡ cond (eqb nodes 1) 2 (cond (eqb edges 0) 0 1)
-  byte-asked z = ap (λ b. cond b (cond (eqb nodes 1) 2 (cond (eqb edges 0) 0 1)) 3) (eq-eqb tag 0 z)
+  pub byte-2 : tag ≡ 0 → nodes ≡ 1 → byteBy 0 1 0 ≡ byteBy tag nodes edges
+  byte-2 z e = rw (eq-eqb tag 0 z, eq-eqb nodes 1 e) refl
 
-  pub byte-2 : tag ≡ 0 → nodes ≡ 1 → _≡_ {A = ℕ} 2 (byteBy tag nodes edges)
-  byte-2 z e = sym (byte-asked z ∙ ap (λ b. cond b 2 (cond (eqb edges 0) 0 1)) (eq-eqb nodes 1 e))
+  pub byte-0 : tag ≡ 0 → ¬ (nodes ≡ 1) → edges ≡ 0 → byteBy 0 0 0 ≡ byteBy tag nodes edges
+  byte-0 z h e = rw (eq-eqb tag 0 z, ne-eqb nodes 1 h, eq-eqb edges 0 e) refl
 
-  pub byte-0 : tag ≡ 0 → ¬ (nodes ≡ 1) → edges ≡ 0 → _≡_ {A = ℕ} 0 (byteBy tag nodes edges)
-  byte-0 z h e = sym (byte-asked z ∙ ap₂ (λ a b. cond a 2 (cond b 0 1)) (ne-eqb nodes 1 h) (eq-eqb edges 0 e))
+  pub byte-1 : tag ≡ 0 → ¬ (nodes ≡ 1) → ¬ (edges ≡ 0) → byteBy 0 0 1 ≡ byteBy tag nodes edges
+  byte-1 z h e = rw (eq-eqb tag 0 z, ne-eqb nodes 1 h, ne-eqb edges 0 e) refl
 
-  pub byte-1 : tag ≡ 0 → ¬ (nodes ≡ 1) → ¬ (edges ≡ 0) → _≡_ {A = ℕ} 1 (byteBy tag nodes edges)
-  byte-1 z h e = sym (byte-asked z ∙ ap₂ (λ a b. cond a 2 (cond b 0 1)) (ne-eqb nodes 1 h) (ne-eqb edges 0 e))
+  -- demand 2 at a leaf: the byte of a query by the counts is the one that is read off the small graph
+  byte-read : (H : Named) → tag ≡ 0 → length H ≡ edges → byteBy tag nodes edges ≡ readOff nodes (plain H)
+  byte-read [] z e = rw (eq-eqb tag 0 z, eq-eqb edges 0 (sym e)) refl
+  byte-read (h ∷ H) z e = rw (eq-eqb tag 0 z, ne-eqb edges 0 (λ q. omega arith)) refl
 
--- a byte 1 is that of a query of two nodes with an edge
-byte-one : (tag nodes edges : ℕ) → byteBy tag nodes edges ≡ 1 → (tag ≡ 0) × (0 < edges)
-byte-one tag nodes edges h = onBool (eqb tag 0)
-    (λ t. let z = eqb-true tag 0 t in (
-      z,
-      onBool (eqb edges 0)
-          (λ e. absurd (two (eqb nodes 1) (sym (byte-asked tag nodes edges z ∙ ap (λ b. cond (eqb nodes 1) 2 (cond b 0 1)) e) ∙ h)))
-          (λ e. let k = eqb-false edges 0 e in omega arith),
-    ))
-    (λ t. absurd (three (byte-3 tag nodes edges (eqb-false tag 0 t) ∙ h)))
+-- a small graph that says 1 has an edge
+read-one : (nodes : ℕ) (H : Named) → readOff nodes (plain H) ≡ 1 → 0 < length H
+read-one nodes [] h = absurd (two (eqb nodes 1) h)
   where
     two : (b : Bool) → ¬ (_≡_ {A = ℕ} (cond b 2 0) 1)
     two true e = omega arith
     two false e = omega arith
-
-    three : ¬ (_≡_ {A = ℕ} 3 1)
-    three e = omega arith
+read-one nodes (e ∷ H) h = omega arith
 
 -- the first of some entries
 first-name : (f : ℕ → Entry) (k : ℕ) → 0 < k → readName (table f 0 k) ≡ f 0 .1
@@ -353,11 +343,21 @@ module _ {w : W.Window} (v : List ℕ) (one : w .events ≡ 1) (l : 17 ≤ lengt
   unfolding network active
   byte-is = onBool (eqb (getD v 2 0) 0)
       (λ t. let z = eqb-true (getD v 2 0) 0 t in
-      byte-asked (getD v 2 0) (w .nodes) (w .edges) z
+      byte-read (getD v 2 0) (w .nodes) (w .edges) H z count
       ∙ sym (byte-query g (w .at) (asked z)
-      ∙ alone (g .junctions) (g .segments) (event g (w .at)) (openBefore g (w .at)) (asked z) (during g (span w)) alone-here (w .nodes) H _ (a .σ) (graph a some sound enough .1)
-      ∙ ap (λ b. cond (eqb (w .nodes) 1) 2 (cond b 0 1)) (none-is H (w .edges) count)))
+      ∙ alone (g .junctions) (g .segments) (event g (w .at)) (openBefore g (w .at)) (asked z) (during g (span w)) alone-here (w .nodes) H _ (a .σ) (graph a some sound enough .1)))
       (λ t. let h = eqb-false (getD v 2 0) 0 t in sym (byte-3 (getD v 2 0) (w .nodes) (w .edges) h) ∙ sym (byte-change g (w .at) (changed h)))
+
+  -- a byte 1 is that of a query whose small graph has an edge
+  byte-one : byteBy (getD v 2 0) (w .nodes) (w .edges) ≡ 1 → (getD v 2 0 ≡ 0) × (0 < w .edges)
+  byte-one h = onBool (eqb (getD v 2 0) 0)
+      (λ t.
+      let z = eqb-true (getD v 2 0) 0 t in
+      (z, omega (arith, count, read-one (w .nodes) H (sym (byte-read (getD v 2 0) (w .nodes) (w .edges) H z count) ∙ h))))
+      (λ t. absurd (three (byte-3 (getD v 2 0) (w .nodes) (w .edges) (eqb-false (getD v 2 0) 0 t) ∙ h)))
+    where
+      three : ¬ (_≡_ {A = ℕ} 3 1)
+      three e = omega arith
 
   -- the name of its one edge
   edge-name : 0 < w .edges → readName H ≡ getD v 13 0
@@ -370,7 +370,7 @@ module _ {w : W.Window} (v : List ℕ) (one : w .events ≡ 1) (l : 17 ≤ lengt
   unfolding network active byte nameAt
   name-is = onBool (eqb (byteBy (getD v 2 0) (w .nodes) (w .edges)) 1)
       (λ t.
-      let (z, k) = byte-one (getD v 2 0) (w .nodes) (w .edges) (eqb-true (byteBy (getD v 2 0) (w .nodes) (w .edges)) 1 t) in
+      let (z, k) = byte-one (eqb-true (byteBy (getD v 2 0) (w .nodes) (w .edges)) 1 t) in
       ap (λ b. cond b (getD v 13 0) 65535) t ∙ sym (edge-name k)
       ∙ sym (alone-name (g .junctions) (g .segments) (event g (w .at)) (openBefore g (w .at)) (asked z) (during g (span w)) alone-here (w .nodes) H _ (a .σ) (graph a some sound enough .1))
       ∙ sym (ap (λ b. cond b (hangs (openGraph g (w .at)) (event g (w .at) .0) (event g (w .at) .1)) 65535) (asked z)))
@@ -386,7 +386,7 @@ module _ {w : W.Window} (v : List ℕ) (one : w .events ≡ 1) (l : 17 ≤ lengt
   -- which is a 16-bit number
   pub name-fits : byteBy (getD v 2 0) (w .nodes) (w .edges) ≡ 1 → getD v 13 0 < 65536
   name-fits e =
-      let (_, k) = byte-one (getD v 2 0) (w .nodes) (w .edges) e in
+      let (_, k) = byte-one e in
       let m : List·Memᴰ (areaEntry (w .events) (take 17 v) 0) H =
       subst (λ (G : Named). List·Memᴰ (areaEntry (w .events) (take 17 v) 0) G) (sym (area-is a some sound enough))
       (table-in (areaEntry (w .events) (take 17 v)) 0 (w .edges) 0 (omega arith) (omega arith)) in
