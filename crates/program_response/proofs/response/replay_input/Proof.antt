@@ -1,6 +1,7 @@
 -- The five tables are filled from the input, so the replay is lent what the input lends.
 use Prim.Native.Nat.{_*_, _+_}
 use mathlib.Core.Path.{sym}
+use lib.Seq.{length-take-le}
 use native.Mathlib.Omega.{arith}
 use borrow.Author.Needs.{needs}
 use Rattle.program_printing.proofs.TextLaws.{wrote-as}
@@ -16,15 +17,17 @@ slice-aggregate-replay c =
 
 slice-aggregate-replay-2 : tie.Need-slice-aggregate-replay-2
 slice-aggregate-replay-2 c =
-    let at-fill = c .before .before .before .before .before .before .before .before .before .before .before .before in
-    let start = at-fill .before .before .before .before .before .before .before .before in
-    sym (part-length (at-fill .fill2 .ensures) (omega (arith, start .pre .0 .few-segments)))
+    let at-start = c .before .before .before .before .before .before .before .before .before in
+    let at-b = at-start .before .before .before in
+    let start = at-b .before .before .before .before .before .before .before .before in
+    sym (length-take-le _ _ (omega (arith, at-b .fill2 .ensures .same, at-start .fill3 .ensures .same, start .pre .0 .few-segments)))
 
 slice-aggregate-replay-3 : tie.Need-slice-aggregate-replay-3
 slice-aggregate-replay-3 c =
-    let at-fill = c .before .before .before .before .before .before .before .before .before .before in
-    let start = at-fill .before .before .before .before .before .before .before .before .before .before .before in
-    sym (part-length (at-fill .fill3 .ensures) (omega (arith, start .pre .0 .few-segments)))
+    let at-start = c .before .before .before .before .before .before .before .before .before .before in
+    let at-b = at-start .before .before .before in
+    let start = at-b .before .before .before .before .before .before .before .before in
+    sym (length-take-le _ _ (omega (arith, at-b .fill2 .ensures .same, at-start .fill3 .ensures .same, start .pre .0 .few-segments)))
 
 slice-aggregate-replay-4 : tie.Need-slice-aggregate-replay-4
 slice-aggregate-replay-4 c =
