@@ -64,34 +64,35 @@ impl Case {
         }
     }
 
-    // Internal: the case with this starting entry of segment 1.
-    pub fn with_start(mut self, entry: usize) -> Case {
-        self.start[1] = entry;
-        self
-    }
-
-    // Internal: the path with two events, and this starting entry.
-    pub fn path(entry: usize) -> Case {
-        Case::sized(3, 2, 2).with_start(entry)
+    // Internal: the path with this starting entry of segment 1, and two events with these X.
+    pub fn path(entry: usize, first: usize, second: usize) -> Case {
+        let mut c = Case::sized(3, 2, 2);
+        c.start[1] = entry;
+        c.x[0] = first;
+        c.x[1] = second;
+        c
     }
 
     // The same, where segment 1 is a loop, of one road with segment 2.
-    fn doubled(entry: usize) -> Case {
-        let mut c = Case::sized(3, 3, 2).with_start(entry);
+    fn doubled(entry: usize, first: usize, second: usize) -> Case {
+        let mut c = Case::path(entry, first, second);
+        c.sizes.m = 3;
         c.end = 2;
         c
     }
 
-    // Internal: the case with these X of its first two events.
-    pub fn with_events(mut self, first: usize, second: usize) -> Case {
-        self.x[0] = first;
-        self.x[1] = second;
-        self
+    fn with_share(p: usize) -> Case {
+        let mut c = Case::path(0, ASKS, ASKS);
+        c.sizes.p = p;
+        c
     }
 
-    fn with_share(mut self, p: usize) -> Case {
-        self.sizes.p = p;
-        self
+    // A starting entry past the segments.
+    fn past_the_segments(entry: usize) -> Case {
+        let mut c = Case::path(entry, ASKS, ASKS);
+        c.sizes.m = 1;
+        c.long = 3;
+        c
     }
 
     // Internal: the case with a fault.
@@ -163,27 +164,12 @@ pub fn fault_at(i: usize) -> Fault {
 
 // A case whose second event has no kind, with the six faults before those of events, but for the first so many.
 fn with_all_from(first: usize) -> Case {
-    let mut c = Case::path(0).with_events(OPENS, NO_KIND);
+    let mut c = Case::path(0, OPENS, NO_KIND);
     for i in first..6 {
         let d = c.with_fault(fault_at(i));
         c = d;
     }
     c
-}
-
-// Cases with changes of segment 1, alone and beside another segment of its road.
-fn changing(i: usize) -> Case {
-    match i {
-        4 => Case::path(0).with_events(ASKS, CLOSES),
-        5 => Case::path(0).with_events(OPENS, OPENS),
-        6 => Case::path(1).with_events(OPENS, ASKS),
-        7 => Case::path(1).with_events(CLOSES, CLOSES),
-        8 => Case::path(1).with_events(CLOSES, OPENS),
-        9 => Case::doubled(0).with_events(OPENS, ASKS),
-        10 => Case::doubled(0).with_events(OPENS, OPENS),
-        11 => Case::doubled(1).with_events(CLOSES, ASKS),
-        _ => Case::doubled(0).with_events(CLOSES, ASKS),
-    }
 }
 
 // Internal: case i. Sizes are refused before short tables, these before long ones, these before the share, the share before ends, ends before starting
@@ -194,22 +180,29 @@ pub fn case_at(i: usize) -> Case {
         1 => Case::sized(4097, 8192, 4096),
         2 => Case::sized(4096, 8193, 4096),
         3 => Case::sized(4096, 8192, 4097),
-        13 => Case::path(2),
-        14 => Case::sized(3, 1, 2)
-            .with_start(2)
-            .with_fault(Fault::Long(3)),
-        15 => Case::path(0).with_share(3),
-        16 => Case::path(0).with_share(4),
-        17 => Case::path(0).with_share(12),
-        18 => Case::path(0).with_share(13),
-        19 => Case::path(0).with_events(OPENS, ASKS),
-        4..=12 => changing(i),
+        4 => Case::path(0, ASKS, CLOSES),
+        5 => Case::path(0, OPENS, OPENS),
+        6 => Case::path(1, OPENS, ASKS),
+        7 => Case::path(1, CLOSES, CLOSES),
+        8 => Case::path(1, CLOSES, OPENS),
+        9 => Case::doubled(0, OPENS, ASKS),
+        10 => Case::doubled(0, OPENS, OPENS),
+        11 => Case::doubled(1, CLOSES, ASKS),
+        12 => Case::doubled(0, CLOSES, ASKS),
+        13 => Case::path(2, ASKS, ASKS),
+        14 => Case::past_the_segments(2),
+        15 => Case::with_share(3),
+        16 => Case::with_share(4),
+        17 => Case::with_share(12),
+        18 => Case::with_share(13),
+        19 => Case::path(0, OPENS, ASKS),
         _ => with_all_from(counts::minus(i, 20)),
     }
 }
 
 // Internal: a case with two faults, or with the first alone where both set the same number. Without them its first event closes segment 1.
 pub fn pair(first: Fault, second: Fault) -> Case {
-    let c = Case::sized(3, 2, 3).with_events(CLOSES, ASKS);
+    let mut c = Case::path(1, CLOSES, ASKS);
+    c.sizes.t = 3;
     c.with_fault(second).with_fault(first)
 }

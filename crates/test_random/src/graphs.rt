@@ -77,36 +77,22 @@ fn sized(kind: usize, s: usize, sizes: Sizes) -> Graph {
     g
 }
 
-// The graph with an end that is no node.
-fn with_bad_end(graph: Graph, s: usize) -> Graph {
-    let mut g = graph;
-    let bad = networks::bad_end(s, g.sizes.n);
-    if bad.side == 0 {
-        entries::set(&mut g.from, bad.segment, bad.value);
-    } else {
-        entries::set(&mut g.to, bad.segment, bad.value);
-    }
-    g
-}
-
-// The graph with an active entry that is no node.
-fn with_bad_entry(graph: Graph, s: usize) -> Graph {
+// The graph with an end or an entry that is no node, or both.
+fn spoilt(graph: Graph, s: usize) -> Graph {
     let mut g = graph;
     let n = g.sizes.n;
-    entries::set(&mut g.active, random::at(s, 9, 0, 9), n);
-    g
-}
-
-// The graph with an end or an entry that is no node, or both.
-fn spoilt(g: Graph, s: usize) -> Graph {
     let what = random::at(s, 8, 0, 4);
-    if what < 2 {
-        return with_bad_end(g, s);
+    let bad = networks::bad_end(s, n);
+    if (what < 3) & (bad.side == 0) {
+        entries::set(&mut g.from, bad.segment, bad.value);
     }
-    if what == 2 {
-        return with_bad_entry(with_bad_end(g, s), s);
+    if (what < 3) & (bad.side == 1) {
+        entries::set(&mut g.to, bad.segment, bad.value);
     }
-    with_bad_entry(g, s)
+    if what > 1 {
+        entries::set(&mut g.active, random::at(s, 9, 0, 9), n);
+    }
+    g
 }
 
 // Internal: the random graph s, of each kind in turn, and every ninth with a fault.

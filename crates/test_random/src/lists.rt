@@ -14,30 +14,10 @@ use test_library::replays::Sizes;
 use test_library::tables;
 use test_library::tables::Marks;
 
-// What a list is drawn by: the kind of its network, the seed, the junctions, the segments, the roads that they go along, the most events, and of how many of
-// eight segments are open at the start.
-struct Draw {
-    kind: usize,
-    seed: usize,
-    n: usize,
-    m: usize,
-    roads: usize,
-    most: usize,
-    eighths: usize,
-}
-
-// What its events are drawn by: they ask for the first places junctions, and change all segments, or two of each of so many roads of a ring.
-struct Plan {
-    seed: usize,
-    places: usize,
-    roads: usize,
-    eighths: usize,
-}
-
 // Makes the starting table, where about so many of eight segments are open: none, some or all. Marks these.
-fn make_start(start: &mut Entries, open: &mut Marks, m: usize, plan: Plan) {
+fn make_start(start: &mut Entries, open: &mut Marks, m: usize, s: usize, eighths: usize) {
     for e in 0..m {
-        let opens = random::at(plan.seed, 16, e, 8) < plan.eighths;
+        let opens = random::at(s, 16, e, 8) < eighths;
         entries::set(start, e, opens as usize % 2);
         tables::mark(open, e, opens);
     }
@@ -109,30 +89,37 @@ fn asked(s: usize, side: usize, n: usize, places: usize, i: usize) -> usize {
     random::at(s, side, i, counts::least(counts::plus(i, 2), places))
 }
 
-// Event i, which changes a segment or asks.
-fn next_event(open: &mut Marks, sizes: Sizes, plan: Plan, i: usize) -> Event {
-    let count = changed(sizes.m, plan.roads);
-    let c = change(plan.seed, count, sizes.t, i);
+// Event i, which changes one of all segments, or one of two of each of so many roads of a ring; or it asks.
+fn next_event(open: &mut Marks, sizes: Sizes, w: Network, roads: usize, i: usize) -> Event {
+    let count = changed(sizes.m, roads);
+    let c = change(w.seed, count, sizes.t, i);
     if c < count {
-        return toggled(open, segment(plan.places, plan.roads, c));
+        return toggled(open, segment(w.places, roads, c));
     }
     Event {
-        x: asked(plan.seed, 5, sizes.n, plan.places, i),
-        y: asked(plan.seed, 6, sizes.n, plan.places, i),
+        x: asked(w.seed, 5, sizes.n, w.places, i),
+        y: asked(w.seed, 6, sizes.n, w.places, i),
     }
 }
 
-fn make_events(x: &mut Entries, y: &mut Entries, open: &mut Marks, sizes: Sizes, plan: Plan) {
+fn make_events(
+    x: &mut Entries,
+    y: &mut Entries,
+    open: &mut Marks,
+    sizes: Sizes,
+    w: Network,
+    roads: usize,
+) {
     let t = sizes.t;
     for i in 0..t {
-        let e = next_event(open, sizes, plan, i);
+        let e = next_event(open, sizes, w, roads, i);
         entries::set(x, i, e.x);
         entries::set(y, i, e.y);
     }
 }
 
-// The list with these sizes, this network and these events.
-fn made(sizes: Sizes, w: Network, plan: Plan) -> List {
+// The list with this network, of whose segments about so many of eight are open at the start, and with events that ask for its places.
+fn made(sizes: Sizes, w: Network, roads: usize, eighths: usize) -> List {
     let mut a = [65000u16; 8200];
     let mut b = [65000u16; 8200];
     let mut start = [65000u16; 8200];
@@ -141,8 +128,8 @@ fn made(sizes: Sizes, w: Network, plan: Plan) -> List {
     networks::make_ends(&mut a, w, 0);
     networks::make_ends(&mut b, w, 1);
     let mut open = [false; 8192];
-    make_start(&mut start, &mut open, sizes.m, plan);
-    make_events(&mut x, &mut y, &mut open, sizes, plan);
+    make_start(&mut start, &mut open, sizes.m, w.seed, eighths);
+    make_events(&mut x, &mut y, &mut open, sizes, w, roads);
     List {
         sizes,
         a,
@@ -161,33 +148,16 @@ fn some(n: usize, count: usize) -> usize {
     count
 }
 
-// Half of the lists have as many events as they may.
-fn draw_sizes(d: Draw) -> Sizes {
-    let events = counts::least(random::at(d.seed, 9, 0, d.most % 8192 * 2), d.most);
-    Sizes {
-        n: d.n,
-        m: some(d.n, d.m),
-        t: some(d.n, events),
-        p: 4 + random::at(d.seed, 10, 0, 9) % 9,
-    }
-}
-
-fn drawn(d: Draw) -> List {
-    let sizes = draw_sizes(d);
-    let w = Network {
-        kind: d.kind,
-        seed: d.seed,
-        segments: sizes.m,
-        places: d.n,
-        roads: d.roads,
+// A list of at most so many events. Half of the lists have as many as they may.
+fn drawn(w: Network, most: usize, eighths: usize) -> List {
+    let events = counts::least(random::at(w.seed, 9, 0, most % 8192 * 2), most);
+    let sizes = Sizes {
+        n: w.places,
+        m: w.segments,
+        t: some(w.places, events),
+        p: 4 + random::at(w.seed, 10, 0, 9) % 9,
     };
-    let plan = Plan {
-        seed: d.seed,
-        places: d.n,
-        roads: 0,
-        eighths: d.eighths,
-    };
-    made(sizes, w, plan)
+    made(sizes, w, 0, eighths)
 }
 
 // X of an event with a fault: X that is nothing, a query, a change, X past the junctions, an open or a close that comes by chance, or an event a second time.
@@ -214,28 +184,13 @@ fn bad_y(y: &Entries, sizes: Sizes, what: usize, j: usize) -> usize {
     }
 }
 
-// The list with an end that is no junction.
-fn with_bad_end(list: List, s: usize) -> List {
-    let mut l = list;
-    let bad = networks::bad_end(s, l.sizes.n);
-    if bad.side == 0 {
-        entries::set(&mut l.a, bad.segment, bad.value);
-    } else {
-        entries::set(&mut l.b, bad.segment, bad.value);
-    }
-    l
-}
-
-// The list with a starting entry that is neither 0 nor 1.
-fn with_bad_start(list: List, s: usize) -> List {
-    let mut l = list;
-    let v = match random::at(s, 17, 0, 3) {
+// A starting entry that is neither 0 nor 1.
+fn bad_start(s: usize) -> usize {
+    match random::at(s, 17, 0, 3) {
         0 => 2,
         1 => 3,
         _ => 65535,
-    };
-    entries::set(&mut l.start, random::at(s, 18, 0, 12), v);
-    l
+    }
 }
 
 // The list with an event that is refused, or that may be.
@@ -254,13 +209,15 @@ fn with_bad_event(list: List, s: usize, what: usize) -> List {
 fn spoilt(list: List, s: usize) -> List {
     let mut l = list;
     let what = random::at(s, 14, 0, 9);
-    if what < 2 {
-        let bad = with_bad_end(l, s);
-        l = bad;
+    let bad = networks::bad_end(s, l.sizes.n);
+    if (what < 2) & (bad.side == 0) {
+        entries::set(&mut l.a, bad.segment, bad.value);
+    }
+    if (what < 2) & (bad.side == 1) {
+        entries::set(&mut l.b, bad.segment, bad.value);
     }
     if (what == 8) | (random::at(s, 19, 0, 4) == 0) {
-        let bad = with_bad_start(l, s);
-        l = bad;
+        entries::set(&mut l.start, random::at(s, 18, 0, 12), bad_start(s));
     }
     if (what > 0) & (what < 8) {
         return with_bad_event(l, s, what);
@@ -268,44 +225,41 @@ fn spoilt(list: List, s: usize) -> List {
     l
 }
 
-// A list of at most 8 junctions and 12 segments, in which two segments are of one road by chance.
-fn plain(kind: usize, s: usize, eighths: usize) -> Draw {
-    Draw {
+// A network of at most 8 junctions and 12 segments, in which two segments are of one road by chance.
+fn plain(kind: usize, s: usize) -> Network {
+    let n = random::at(s, 7, 0, 9);
+    Network {
         kind,
         seed: s,
-        n: random::at(s, 7, 0, 9),
-        m: random::at(s, 8, 0, 13),
+        segments: some(n, random::at(s, 8, 0, 13)),
+        places: n,
         roads: 0,
-        most: 12,
-        eighths,
     }
 }
 
-// A list of 1 to 5 junctions and 3 to 12 segments along 2 to 7 roads, so that most roads have several segments.
-fn doubled(kind: usize, s: usize, eighths: usize) -> Draw {
-    Draw {
+// A network of 1 to 5 junctions and 3 to 12 segments along 2 to 7 roads, so that most roads have several segments.
+fn doubled(kind: usize, s: usize) -> Network {
+    Network {
         kind,
         seed: s,
-        n: 1 + random::at(s, 7, 0, 5) % 5,
-        m: 3 + random::at(s, 8, 0, 10) % 10,
+        segments: 3 + random::at(s, 8, 0, 10) % 10,
+        places: 1 + random::at(s, 7, 0, 5) % 5,
         roads: 2 + random::at(s, 24, 0, 6) % 6,
-        most: 12,
-        eighths,
     }
 }
 
-// In five of six lists most roads have several segments. In a ninth of the lists all segments are closed at the start, in a ninth all are open, and in the
-// others each by chance.
-fn small_draw(s: usize) -> Draw {
+// In five of six lists most roads have several segments.
+fn small_network(s: usize) -> Network {
     if s / 3 % 6 == 0 {
-        return plain(s / 36 % 9, s, s / 324 % 9);
+        return plain(s / 36 % 9, s);
     }
-    doubled(s / 36 % 9, s, s / 324 % 9)
+    doubled(s / 36 % 9, s)
 }
 
-// Internal: the list s of at most 12 segments and 12 events, of each kind in turn, and every third with a fault.
+// Internal: the list s of at most 12 segments and 12 events, of each kind in turn, and every third with a fault. In a ninth of the lists all segments are
+// closed at the start, in a ninth all are open, and in the others each by chance.
 pub fn small(s: usize) -> List {
-    let l = drawn(small_draw(s));
+    let l = drawn(small_network(s), 12, s / 324 % 9);
     if s % 3 == 2 {
         return spoilt(l, s);
     }
@@ -346,15 +300,14 @@ pub fn large(s: usize) -> List {
     };
     let seed = s % 64 * 7;
     let m = random::at(seed, 8, 0, 513);
-    drawn(Draw {
+    let w = Network {
         kind: s % 32 * 5 % 9,
         seed,
-        n,
-        m,
+        segments: m,
+        places: n,
         roads: large_roads(s, m),
-        most: 512,
-        eighths: (s % 64 + s % 64 / 9 * 2) % 9,
-    })
+    };
+    drawn(w, 512, (s % 64 + s % 64 / 9 * 2) % 9)
 }
 
 // Internal: the places of ring i, at least three: with two places the segments there and back would be one road.
@@ -405,11 +358,5 @@ pub fn ring(i: usize) -> List {
         places: places(i),
         roads: 0,
     };
-    let plan = Plan {
-        seed: i,
-        places: places(i),
-        roads: ring_roads(i),
-        eighths: ring_eighths(i),
-    };
-    made(sizes, w, plan)
+    made(sizes, w, ring_roads(i), ring_eighths(i))
 }

@@ -5,10 +5,9 @@ mod vectors;
 mod windows;
 
 use test_library::calls::LONGER;
-use test_library::entries::Entries;
 use test_library::replays;
 use test_library::replays::Lengths;
-use test_library::replays::Sizes;
+use test_library::replays::List;
 use test_random::lists;
 use test_replay_calls::calls;
 use test_replay_calls::calls::Work;
@@ -18,91 +17,52 @@ use test_slow_replay::totals;
 use test_slow_replay::totals::Totals;
 use test_slow_replay::totals::Trial;
 
+pub(crate) const SMALL: Trial = Trial {
+    places: 0,
+    most: 12,
+    planted: 0,
+};
+
 // Runs the call and the slow replay on a list whose tables have these lengths, and counts it.
-pub(crate) fn compare<'a>(
+pub(crate) fn compare(
     t: Totals,
-    sizes: Sizes,
-    a: &'a Entries,
-    b: &'a Entries,
-    start: &'a Entries,
-    x: &'a Entries,
-    y: &'a Entries,
+    l: List,
     lengths: Lengths,
     trial: Trial,
     work: &mut Work,
 ) -> Totals {
-    let want = replay::reply(sizes, a, b, start, x, y, lengths, trial.places);
-    let r = calls::run(sizes, a, b, start, x, y, lengths, work);
+    let want = replay::reply(l, lengths, trial.places);
+    let r = calls::run(l, lengths, work);
     let noticed = replays::noticed(r, want, trial.places, trial.planted);
-    let disagrees = !replays::agrees(r, want, sizes.t);
-    totals::add(t, sizes, a, b, start, x, y, want, trial, disagrees, noticed)
+    let disagrees = !replays::agrees(r, want, l.sizes.t);
+    totals::add(t, l, want, trial, disagrees, noticed)
 }
 
 // Counts the small list s, of which a table may be one entry short or longer.
 fn with_small(t: Totals, s: usize, work: &mut Work) -> Totals {
     let l = lists::small(s);
     let lengths = calls::lengths(l.sizes, lists::short(s), lists::long(s));
-    let trial = Trial {
-        places: 0,
-        most: 12,
-        planted: 0,
-    };
-    compare(
-        t,
-        l.sizes,
-        &l.a,
-        &l.b,
-        &l.start,
-        &l.x,
-        &l.y,
-        lengths,
-        trial,
-        work,
-    )
+    compare(t, l, lengths, SMALL, work)
 }
 
 fn with_large(t: Totals, s: usize, work: &mut Work) -> Totals {
     let l = lists::large(s);
-    let lengths = calls::lengths(l.sizes, LONGER, 0);
     let trial = Trial {
         places: 0,
         most: 512,
         planted: 0,
     };
-    compare(
-        t,
-        l.sizes,
-        &l.a,
-        &l.b,
-        &l.start,
-        &l.x,
-        &l.y,
-        lengths,
-        trial,
-        work,
-    )
+    compare(t, l, calls::lengths(l.sizes, LONGER, 0), trial, work)
 }
 
 fn with_ring(t: Totals, i: usize, work: &mut Work) -> Totals {
     let l = lists::ring(i);
-    let lengths = calls::lengths(l.sizes, LONGER, 0);
     let trial = Trial {
         places: lists::places(i),
         most: 4096,
         planted: 64,
     };
-    compare(
-        t,
-        l.sizes,
-        &l.a,
-        &l.b,
-        &l.start,
-        &l.x,
-        &l.y,
-        lengths,
-        trial,
-        work,
-    )
+    compare(t, l, calls::lengths(l.sizes, LONGER, 0), trial, work)
 }
 
 fn run_small(work: &mut Work) -> Totals {

@@ -103,8 +103,8 @@ fn add(c: Counts, text: &Text, start: usize, work: &mut Work) -> Counts {
     let lengths = read_lengths(text, start);
     let l = read_list(text, start, sizes, lengths);
     let want = read_outcome(text, start, behind(lengths), sizes.t);
-    let r = calls::run(sizes, &l.a, &l.b, &l.start, &l.x, &l.y, lengths, work);
-    let slow = replay::reply(sizes, &l.a, &l.b, &l.start, &l.x, &l.y, lengths, 0);
+    let r = calls::run(l, lengths, work);
+    let slow = replay::reply(l, lengths, 0);
     Counts {
         vectors: counts::plus(c.vectors, 1),
         wrong: counts::counted(c.wrong, !replays::agrees(r, want, sizes.t)),

@@ -15,7 +15,6 @@ use test_replay_calls::calls::Work;
 use test_slow_replay::replay;
 use test_slow_replay::totals;
 use test_slow_replay::totals::Totals;
-use test_slow_replay::totals::Trial;
 ghost use Prim.Native.Nat.{_<_};
 
 // Makes the starting table of a window: the segments that are open before its first event.
@@ -63,35 +62,18 @@ fn cut(
 
 // Replays a window.
 fn with_window(t: Totals, w: List, work: &mut Work) -> Totals {
-    let lengths = calls::lengths(w.sizes, LONGER, 0);
-    let trial = Trial {
-        places: 0,
-        most: 12,
-        planted: 0,
-    };
-    crate::compare(
-        t,
-        w.sizes,
-        &w.a,
-        &w.b,
-        &w.start,
-        &w.x,
-        &w.y,
-        lengths,
-        trial,
-        work,
-    )
+    crate::compare(t, w, calls::lengths(w.sizes, LONGER, 0), crate::SMALL, work)
 }
 
 // Replays a window and all windows below it.
-fn run(
+fn run<'a>(
     t: Totals,
     sizes: Sizes,
-    a: &Entries,
-    b: &Entries,
-    start: &Entries,
-    x: &Entries,
-    y: &Entries,
+    a: &'a Entries,
+    b: &'a Entries,
+    start: &'a Entries,
+    x: &'a Entries,
+    y: &'a Entries,
     first: usize,
     n: usize,
     work: &mut Work,
@@ -109,27 +91,24 @@ fn run(
 }
 
 // Replays the windows of a list that is accepted.
-fn run_accepted<'a>(
-    t: Totals,
-    sizes: Sizes,
-    a: &'a Entries,
-    b: &'a Entries,
-    start: &'a Entries,
-    x: &'a Entries,
-    y: &'a Entries,
-    work: &mut Work,
-) -> Totals {
-    let n = sizes.t;
-    let lengths = calls::lengths(sizes, LONGER, 0);
-    let want = replay::reply(sizes, a, b, start, x, y, lengths, 0);
-    if (want.reply.code == 0) & (n > 0) {
-        return run(t, sizes, a, b, start, x, y, 0, n % 65536, work);
-    }
-    t
-}
-
 fn with_windows(t: Totals, l: List, work: &mut Work) -> Totals {
-    run_accepted(t, l.sizes, &l.a, &l.b, &l.start, &l.x, &l.y, work)
+    let n = l.sizes.t;
+    let want = replay::reply(l, calls::lengths(l.sizes, LONGER, 0), 0);
+    if (want.reply.code > 0) | (n == 0) {
+        return t;
+    }
+    run(
+        t,
+        l.sizes,
+        &l.a,
+        &l.b,
+        &l.start,
+        &l.x,
+        &l.y,
+        0,
+        n % 65536,
+        work,
+    )
 }
 
 // The windows of the first random lists.

@@ -5,6 +5,7 @@ use test_library::entries;
 use test_library::entries::Entries;
 use test_library::replays;
 use test_library::replays::Lengths;
+use test_library::replays::List;
 use test_library::replays::Replayed;
 use test_library::replays::Reply;
 use test_library::replays::Sizes;
@@ -46,14 +47,14 @@ pub fn lengths(sizes: Sizes, short: usize, long: usize) -> Lengths {
 }
 
 // The call with tables of these lengths.
-fn call(
+fn call<'a>(
     sizes: Sizes,
     lengths: Lengths,
-    a: &Entries,
-    b: &Entries,
-    start: &Entries,
-    x: &Entries,
-    y: &Entries,
+    a: &'a Entries,
+    b: &'a Entries,
+    start: &'a Entries,
+    x: &'a Entries,
+    y: &'a Entries,
     answers: &mut [u8],
     names: &mut [u16],
     work: &mut [u32],
@@ -84,16 +85,8 @@ fn refill(work: &mut Work, count: usize) {
 }
 
 // Internal: the outcome of the call. Of the work table the required length must be 0 where it is accepted, and all else as before.
-pub fn run<'a>(
-    sizes: Sizes,
-    a: &'a Entries,
-    b: &'a Entries,
-    start: &'a Entries,
-    x: &'a Entries,
-    y: &'a Entries,
-    lengths: Lengths,
-    work: &mut Work,
-) -> Replayed {
+pub fn run(l: List, lengths: Lengths, work: &mut Work) -> Replayed {
+    let sizes = l.sizes;
     let words = replay::required(sizes.n, sizes.m, sizes.t);
     refill(work, words + 8);
     let mut answers = [7u8; 4104];
@@ -101,11 +94,11 @@ pub fn run<'a>(
     let reply = plain(call(
         sizes,
         lengths,
-        a,
-        b,
-        start,
-        x,
-        y,
+        &l.a,
+        &l.b,
+        &l.start,
+        &l.x,
+        &l.y,
         &mut answers,
         &mut names,
         work,

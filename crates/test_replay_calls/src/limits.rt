@@ -15,7 +15,7 @@ use test_random::cases::Fault;
 fn replayed(c: Case, work: &mut Work) -> Replayed {
     let l = cases::make(c);
     let lengths = calls::lengths(l.sizes, c.short, c.long);
-    calls::run(l.sizes, &l.a, &l.b, &l.start, &l.x, &l.y, lengths, work)
+    calls::run(l, lengths, work)
 }
 
 // The number and the place of each case.
@@ -33,8 +33,8 @@ fn case_replies(work: &mut Work) -> [usize; 54] {
 fn short_refused(work: &mut Work) -> usize {
     let mut count: usize = 0;
     for i in 1..9 {
-        let c = Case::path(0).with_events(OPENS, ASKS);
-        let r = replayed(c.with_fault(Fault::Short(i)), work);
+        let c = Case::path(0, OPENS, ASKS).with_fault(Fault::Short(i));
+        let r = replayed(c, work);
         count = counts::counted(count, replays::code(r) == 2);
     }
     count
@@ -128,8 +128,9 @@ of event: # at #\n\
 // Internal: runs the cases, and prints their replies and counts.
 pub fn report(work: &mut Work) {
     report_cases(work);
-    let silent = replayed(Case::sized(4096, 8192, 0).with_start(0), work);
-    let r = silent.reply;
+    let mut silent = Case::sized(4096, 8192, 0);
+    silent.start[1] = 0;
+    let r = replayed(silent, work).reply;
     let numbers = [
         r.code,
         r.place,

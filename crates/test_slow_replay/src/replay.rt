@@ -10,6 +10,7 @@ use test_library::replays::Answers;
 use test_library::replays::CLOSES;
 use test_library::replays::Event;
 use test_library::replays::Lengths;
+use test_library::replays::List;
 use test_library::replays::OPENS;
 use test_library::replays::Replayed;
 use test_library::replays::Sizes;
@@ -396,13 +397,13 @@ fn refused(code: usize, place: usize) -> Replayed {
 }
 
 // The outcome where sizes, lengths and share are allowed.
-fn list_reply(
+fn list_reply<'a>(
     sizes: Sizes,
-    a: &Entries,
-    b: &Entries,
-    start: &Entries,
-    x: &Entries,
-    y: &Entries,
+    a: &'a Entries,
+    b: &'a Entries,
+    start: &'a Entries,
+    x: &'a Entries,
+    y: &'a Entries,
     places: usize,
 ) -> Replayed {
     let m = sizes.m;
@@ -424,19 +425,10 @@ fn list_reply(
 }
 
 // Internal: the outcome of a list whose tables have these lengths.
-pub fn reply<'a>(
-    sizes: Sizes,
-    a: &'a Entries,
-    b: &'a Entries,
-    start: &'a Entries,
-    x: &'a Entries,
-    y: &'a Entries,
-    lengths: Lengths,
-    places: usize,
-) -> Replayed {
-    let code = frame_fault(sizes, lengths);
+pub fn reply(l: List, lengths: Lengths, places: usize) -> Replayed {
+    let code = frame_fault(l.sizes, lengths);
     if code > 0 {
         return refused(code, 0);
     }
-    list_reply(sizes, a, b, start, x, y, places)
+    list_reply(l.sizes, &l.a, &l.b, &l.start, &l.x, &l.y, places)
 }

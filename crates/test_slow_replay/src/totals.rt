@@ -9,6 +9,7 @@ use test_library::replays;
 use test_library::replays::Answers;
 use test_library::replays::CLOSES;
 use test_library::replays::Event;
+use test_library::replays::List;
 use test_library::replays::OPENS;
 use test_library::replays::Replayed;
 use test_library::replays::Sizes;
@@ -227,21 +228,17 @@ fn with_accepted<'a>(
 }
 
 // Internal: counts a list, with its outcome by the slow replay, whether another replay disagrees, and how many of the planted faults were noticed.
-pub fn add<'a>(
+pub fn add(
     before: Totals,
-    sizes: Sizes,
-    a: &'a Entries,
-    b: &'a Entries,
-    start: &'a Entries,
-    x: &'a Entries,
-    y: &'a Entries,
+    l: List,
     want: Replayed,
     trial: Trial,
     disagrees: bool,
     noticed: usize,
 ) -> Totals {
+    let sizes = l.sizes;
     let reply = want.reply;
-    let mut t = with_start(before, sizes.m, start);
+    let mut t = with_start(before, sizes.m, &l.start);
     t.lists = counts::plus(t.lists, 1);
     t.full = counts::counted(t.full, sizes.t == trial.most);
     t.disagreements = counts::counted(t.disagreements, disagrees);
@@ -256,11 +253,11 @@ pub fn add<'a>(
     with_accepted(
         t,
         sizes,
-        a,
-        b,
-        start,
-        x,
-        y,
+        &l.a,
+        &l.b,
+        &l.start,
+        &l.x,
+        &l.y,
         &want.answers,
         &want.names,
         trial.places,

@@ -4,10 +4,10 @@ use Rattle.test_random.proofs.lists.make_start.Statement.{statement}
 use Rattle.test_random.proofs.lists.make_start.Tie as tie
 
 abbrev Inv-loop : tie.InvT-loop
-Inv-loop start₀ open₀ m plan e₀ start «open» e = e ≤ m
+Inv-loop start₀ open₀ m s eighths e₀ start «open» e = e ≤ m
 
 abbrev μ-loop : tie.MeasureT-loop
-μ-loop start₀ open₀ m plan e₀ start «open» e = m - e
+μ-loop start₀ open₀ m s eighths e₀ start «open» e = m - e
 
 pub make-start-spec : {M : Type 1} → statement M
 make-start-spec =

@@ -12,14 +12,14 @@ use Rattle.test_slow_replay.proofs.replay.first_part.Reads as first-part-reads
 use Rattle.test_replay.proofs.windows.+run.{statement}
 use Rattle.test_replay.proofs.windows.+run.Tie.{close}
 
-abbrev μ-run : Measures 6 run-kinds.ps ℕ
+abbrev μ-run : Measures 2 run-kinds.ps ℕ
 μ-run κs a = a .1 .1 .1 .1 .1 .1 .1 .1 .0
 
-abbrev run-at : ℕ → In 6 run-kinds.ps
-run-at t = and 6 run-kinds.ps (is 6 run-kinds.ps μ-run t) run.Pre
+abbrev run-at : ℕ → In 2 run-kinds.ps
+run-at t = and 2 run-kinds.ps (is 2 run-kinds.ps μ-run t) run.Pre
 
-abbrev run-below : ℕ → In 6 run-kinds.ps
-run-below t = and 6 run-kinds.ps (falls 6 run-kinds.ps _<_ μ-run t) run.Pre
+abbrev run-below : ℕ → In 2 run-kinds.ps
+run-below t = and 2 run-kinds.ps (falls 2 run-kinds.ps _<_ μ-run t) run.Pre
 
 abbrev calls : ℕ → run-lts.Claims
 calls t = (cut-reads.Asked, cut-reads.Learnt, with-window-reads.Asked, with-window-reads.Learnt, first-part-reads.Asked, first-part-reads.Learnt, run-below t, run.Post, plus-reads.Asked, plus-reads.Learnt)
