@@ -58,7 +58,8 @@ fn more_junctions() {
     }
 }
 
-// One event with this x, over three junctions and a segment that is closed at the start, or open.
+// One event with this x, over three junctions and a segment that is closed at the start, or open. A query is of two
+// different junctions.
 fn replayed(x: u16, start: u16) -> Result<(u8, usize), (usize, usize)> {
     let (mut answers, mut names) = ([9], [9]);
     let totals = replay(ReplayTables {
@@ -70,7 +71,7 @@ fn replayed(x: u16, start: u16) -> Result<(u8, usize), (usize, usize)> {
         b: &[1],
         start: &[start],
         x: &[x],
-        y: &[0],
+        y: &[u16::from(x == 0)],
         answers: &mut answers,
         names: &mut names,
         work: &mut vec![0; replay_work(3, 1, 1)],
@@ -84,7 +85,7 @@ fn replayed(x: u16, start: u16) -> Result<(u8, usize), (usize, usize)> {
 fn the_replay_goes_by_the_kind() {
     for x in 0..=u16::MAX {
         let want = match kind_of(x, 3).unwrap() {
-            Kind::Query => [Ok((if x == 0 { 2 } else { 0 }, 0)), Ok(([2, 1, 0][usize::from(x)], 1))],
+            Kind::Query => [Ok((0, 0)), Ok(([1, 1, 0][usize::from(x)], 1))],
             Kind::Opens => [Ok((NO_QUERY, 1)), Err((6, 0))],
             Kind::Closes => [Err((7, 0)), Ok((NO_QUERY, 0))],
             Kind::None => [Err((5, 0)); 2],

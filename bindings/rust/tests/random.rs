@@ -2,7 +2,8 @@
 
 mod common;
 
-use common::{random_graph, random_list, Edge, Numbers, Removals};
+use common::{list, random_graph, random_list, Edge, Numbers, Removals};
+use lumzhasel::tables::OPENS;
 
 #[test]
 fn small_lists() {
@@ -189,23 +190,16 @@ fn large_lists() {
     }
 }
 
+// How deep a replay goes depends on the number of events and on the share alone.
 #[test]
 fn the_stack_that_is_named_is_enough() {
+    let segments: Vec<(u16, u16)> = (0..8192).map(|s| (s % 4096, (s + s / 4096 + 1) % 4096)).collect();
+    let events: Vec<(u16, u16)> = (0..4096)
+        .map(|i| if i % 2 == 0 { (OPENS, i) } else { (i, i - 1) })
+        .collect();
     for p in 4..=12 {
-        let run = move || {
-            let mut r = Numbers::from(130_000);
-            let mut l = random_list(&mut r, 4096, 8192, 4096);
-            while l.t < 4096 {
-                l.t += 1;
-                l.x.push(0);
-                l.y.push(0);
-                l.answers.push(0);
-                l.names.push(0);
-                l.work.extend([0; 256]);
-            }
-            l.p = p;
-            l.call().reply.is_ok()
-        };
+        let most = list(4096, p, &segments, &events);
+        let run = move || most.call().reply.is_ok();
         let thread = std::thread::Builder::new().stack_size(64 * 1024).spawn(run).unwrap();
         assert!(thread.join().unwrap());
     }

@@ -290,12 +290,12 @@ fn sizes_over_the_limits() {
         many.replay(&lumzhasel::List::new()),
         refused(Call::Replay, Reason::Sizes, 0)
     );
-    let long = lumzhasel::List::from(vec![Event::Query(0, 0); 4097]);
-    assert_eq!(Network::new(1).replay(&long), refused(Call::Replay, Reason::Sizes, 0));
+    let long = lumzhasel::List::from(vec![Event::Query(0, 1); 4097]);
+    assert_eq!(Network::new(2).replay(&long), refused(Call::Replay, Reason::Sizes, 0));
     assert_eq!(
         Network::new(1).contract(&[0; 8193]),
         refused(Call::Contract, Reason::Sizes, 0)
     );
-    let most = lumzhasel::List::from(vec![Event::Query(0, 0); 4096]);
+    let most = lumzhasel::List::from(vec![Event::Query(0, 1); 4096]);
     assert_eq!(Network::new(4096).replay(&most).unwrap().totals.queries, 4096);
 }

@@ -24,13 +24,16 @@ fn is_line(out: &Output, count: usize, line: &[u8]) -> bool {
     n == count
 }
 
-// Whether an input is refused so. Its sizes are these and the share 8, and zeros follow.
+// Whether an input is refused so. Its sizes are these and the share 8, and zeros follow, but for two that make queries of two junctions where the sizes ask for
+// 34 bytes.
 fn refused(n: u8, m: u8, t: u8, count: usize, line: &[u8]) -> bool {
     let mut bytes = [0u8; 5120];
     bytes[0] = n;
     bytes[2] = m;
     bytes[4] = t;
     bytes[6] = 8;
+    bytes[30] = 1;
+    bytes[32] = 1;
     let mut out = [0u8; 2048];
     let r = respond(&bytes, count, &mut out);
     is_line(&out, r, line)

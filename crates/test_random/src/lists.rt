@@ -89,6 +89,10 @@ fn asked(s: usize, side: usize, n: usize, places: usize, i: usize) -> usize {
     random::at(s, side, i, counts::least(counts::plus(i, 2), places))
 }
 
+fn may_ask_for_a_junction_with_itself(kind: usize) -> bool {
+    kind != networks::RING
+}
+
 // Event i, which changes one of all segments, or one of two of each of so many roads of a ring; or it asks.
 fn next_event(open: &mut Marks, sizes: Sizes, w: Network, roads: usize, i: usize) -> Event {
     let count = changed(sizes.m, roads);
@@ -96,10 +100,13 @@ fn next_event(open: &mut Marks, sizes: Sizes, w: Network, roads: usize, i: usize
     if c < count {
         return toggled(open, segment(w.places, roads, c));
     }
-    Event {
-        x: asked(w.seed, 5, sizes.n, w.places, i),
-        y: asked(w.seed, 6, sizes.n, w.places, i),
+    let x = asked(w.seed, 5, sizes.n, w.places, i);
+    let y = asked(w.seed, 6, sizes.n, w.places, i);
+    if (x == y) & !may_ask_for_a_junction_with_itself(w.kind) {
+        let next = random::round(counts::plus(y, 1), w.places);
+        return Event { x, y: next };
     }
+    Event { x, y }
 }
 
 fn make_events(
@@ -193,6 +200,16 @@ fn bad_start(s: usize) -> usize {
     }
 }
 
+// A share below 4 or above 12, one of them 4 modulo 16.
+fn bad_share(s: usize) -> usize {
+    match random::at(s, 30, 0, 4) {
+        0 => 3,
+        1 => 13,
+        2 => 0,
+        _ => 20,
+    }
+}
+
 // The list with an event that is refused, or that may be.
 fn with_bad_event(list: List, s: usize, what: usize) -> List {
     let mut l = list;
@@ -205,10 +222,13 @@ fn with_bad_event(list: List, s: usize, what: usize) -> List {
     l
 }
 
-// The list with faults: at an end, at a starting entry, at an event, or at several of these.
+// The list with faults: of the share, at an end, at a starting entry, at an event, or several of these.
 fn spoilt(list: List, s: usize) -> List {
     let mut l = list;
     let what = random::at(s, 14, 0, 9);
+    if random::at(s, 29, 0, 8) == 0 {
+        l.sizes.p = bad_share(s);
+    }
     let bad = networks::bad_end(s, l.sizes.n);
     if (what < 2) & (bad.side == 0) {
         entries::set(&mut l.a, bad.segment, bad.value);

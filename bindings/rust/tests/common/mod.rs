@@ -610,6 +610,10 @@ pub fn graph(n: usize, edges: &[(u16, u16)], active: &[u16]) -> Graph {
     }
 }
 
+fn query_maybe_with_itself(r: &mut Numbers, n: usize) -> (u16, u16) {
+    (r.below(n) as u16, r.below(n) as u16)
+}
+
 /// A list without a fault, of at most these sizes. In most of them segments have the ends of others, in either order.
 pub fn random_list(r: &mut Numbers, junctions: usize, segments: usize, events: usize) -> List {
     let n = 1 + r.below(junctions);
@@ -631,7 +635,7 @@ pub fn random_list(r: &mut Numbers, junctions: usize, segments: usize, events: u
     let mut told = Vec::new();
     for _ in 0..t {
         if m == 0 || r.below(3) == 0 {
-            told.push((r.below(n) as u16, r.below(n) as u16));
+            told.push(query_maybe_with_itself(r, n));
             continue;
         }
         let s = r.below(m);
