@@ -545,7 +545,7 @@ fn run_replay_vector(v: vectors::Replay) {
 #[test]
 fn replay_vectors() {
     let (calls, programs) = (vectors::replays(), vectors::programs());
-    assert_eq!((calls.len(), programs.len()), (50, 65));
+    assert_eq!((calls.len(), programs.len()), (55, 65));
     calls
         .into_iter()
         .chain(programs)

@@ -37,7 +37,7 @@ fn run_replay(r: &mut Numbers, v: vectors::Replay) {
 fn replays() {
     let mut r = Numbers::from(300_000);
     let all = vectors::replays();
-    assert_eq!(all.len(), 50);
+    assert_eq!(all.len(), 55);
     all.into_iter().for_each(|v| run_replay(&mut r, v));
 }
 

@@ -1,7 +1,8 @@
-// Replays made by a slow program before any code of the product; they stand on standard input. They are those of document 02, No. 7: 17 are accepted and 33
-// refused. A vector is a line of numbers of four digits in base 16, then ; at its end. Ten of the sizes: N, M, T, the share and zeros; ten of the lengths: of
-// A, B, the starting table, X, Y, the answers, the names and the work table, and two zeros; ten of the reply: a refusal's number and its place, the queries,
-// the segments open at the end, kept and zeros. Then come the first five tables of these lengths; and where it is accepted the answers and the names.
+// Replays made by a slow program before any code of the product; they stand on standard input. The first 50 are those of document 02, No. 7: 17 are accepted
+// and 33 refused. The other five are of No. 5, all accepted. A vector is a line of numbers of four digits in base 16, then ; at its end. Ten of the sizes: N, M,
+// T, the share and zeros; ten of the lengths: of A, B, the starting table, X, Y, the answers, the names and the work table, and two zeros; ten of the reply: a
+// refusal's number and its place, the queries, the segments open at the end, kept and zeros. Then come the first five tables of these lengths; and where it is
+// accepted the answers and the names.
 use libc::STDIN_FILENO;
 use test_library::counts;
 use test_library::print;
