@@ -12,10 +12,10 @@ use test_random::lists;
 use test_replay_calls::calls;
 use test_replay_calls::calls::Work;
 use test_replay_calls::limits;
+use test_replay_totals::totals;
+use test_replay_totals::totals::Totals;
+use test_replay_totals::totals::Trial;
 use test_slow_replay::replay;
-use test_slow_replay::totals;
-use test_slow_replay::totals::Totals;
-use test_slow_replay::totals::Trial;
 
 pub(crate) const SMALL: Trial = Trial {
     places: 0,

@@ -12,9 +12,9 @@ use test_library::tables;
 use test_random::lists;
 use test_replay_calls::calls;
 use test_replay_calls::calls::Work;
+use test_replay_totals::totals;
+use test_replay_totals::totals::Totals;
 use test_slow_replay::replay;
-use test_slow_replay::totals;
-use test_slow_replay::totals::Totals;
 ghost use Prim.Native.Nat.{_<_};
 
 // Makes the starting table of a window: the segments that are open before its first event.

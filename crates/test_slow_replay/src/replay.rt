@@ -19,15 +19,15 @@ use test_library::tables::Marks;
 use test_slow_graphs::graphs;
 ghost use Prim.Native.Nat.{_<_, _≤_};
 
-// Changes the segments by an event.
-pub(crate) fn change(open: &mut Marks, e: Event) {
+// Internal: changes the segments by an event.
+pub fn change(open: &mut Marks, e: Event) {
     if e.x >= CLOSES {
         tables::mark(open, e.y, e.x == OPENS);
     }
 }
 
-// Marks the segments that the starting table opens.
-pub(crate) fn mark_start(open: &mut Marks, m: usize, start: &Entries) {
+// Internal: marks the segments that the starting table opens.
+pub fn mark_start(open: &mut Marks, m: usize, start: &Entries) {
     for e in 0..m {
         tables::mark(open, e, entries::at(start, e) == 1);
     }
@@ -165,8 +165,8 @@ fn answer(m: usize, a: &Entries, b: &Entries, open: &Marks, e: Event, places: us
     graphs::answer(m, a, b, &edges, e.x, e.y)
 }
 
-// How many open roads part the two junctions of a query with the answer 1.
-pub(crate) fn parting_roads(m: usize, a: &Entries, b: &Entries, open: &Marks, e: Event) -> usize {
+// Internal: how many open roads part the two junctions of a query with the answer 1.
+pub fn parting_roads(m: usize, a: &Entries, b: &Entries, open: &Marks, e: Event) -> usize {
     let mut edges = [false; 8192];
     roads::mark(&mut edges, m, a, b, open);
     graphs::parting(m, a, b, &edges, e.x, e.y)

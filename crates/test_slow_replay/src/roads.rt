@@ -80,8 +80,8 @@ fn has_copy(a: &Entries, b: &Entries, e: usize, turned: bool) -> bool {
     false
 }
 
-// Whether a road has two segments, and where turned, two that are drawn in different orders.
-pub(crate) fn any_copy(m: usize, a: &Entries, b: &Entries, turned: bool) -> bool {
+// Internal: whether a road has two segments, and where turned, two that are drawn in different orders.
+pub fn any_copy(m: usize, a: &Entries, b: &Entries, turned: bool) -> bool {
     for e in 0..m {
         if has_copy(a, b, e, turned) {
             return true;
@@ -90,8 +90,8 @@ pub(crate) fn any_copy(m: usize, a: &Entries, b: &Entries, turned: bool) -> bool
     false
 }
 
-// Whether another segment of the road of segment e is open.
-pub(crate) fn other_open(m: usize, a: &Entries, b: &Entries, open: &Marks, e: usize) -> bool {
+// Internal: whether another segment of the road of segment e is open.
+pub fn other_open(m: usize, a: &Entries, b: &Entries, open: &Marks, e: usize) -> bool {
     for f in 0..m {
         if (f != e) & tables::marked(open, f) {
             if is_one(a, b, e, f) {

@@ -1,7 +1,7 @@
 use Prim.Native.Nat.{_≤_, _-_}
 use borrow.Author.Needs.{needs}
-use Rattle.test_slow_replay.proofs.totals.with_ones.Statement.{statement}
-use Rattle.test_slow_replay.proofs.totals.with_ones.Tie as tie
+use Rattle.test_replay_totals.proofs.totals.with_ones.Statement.{statement}
+use Rattle.test_replay_totals.proofs.totals.with_ones.Tie as tie
 
 abbrev Inv-loop : tie.InvT-loop
 Inv-loop a b start x y answers names m n t₀ open₀ i₀ t «open» i = i ≤ n

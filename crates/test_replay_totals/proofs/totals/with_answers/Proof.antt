@@ -1,7 +1,7 @@
 use Prim.Native.Nat.{_≤_, _-_}
 use borrow.Author.Needs.{needs}
-use Rattle.test_slow_replay.proofs.totals.with_answers.Statement.{statement}
-use Rattle.test_slow_replay.proofs.totals.with_answers.Tie as tie
+use Rattle.test_replay_totals.proofs.totals.with_answers.Statement.{statement}
+use Rattle.test_replay_totals.proofs.totals.with_answers.Tie as tie
 
 abbrev Inv-loop : tie.InvT-loop
 Inv-loop answers count t₀ v₀ t v = v ≤ 4

@@ -1,7 +1,7 @@
 use Prim.Native.Nat.{_≤_, _-_}
 use borrow.Author.Needs.{needs}
-use Rattle.test_slow_replay.proofs.totals.changes_beside.Statement.{statement}
-use Rattle.test_slow_replay.proofs.totals.changes_beside.Tie as tie
+use Rattle.test_replay_totals.proofs.totals.changes_beside.Statement.{statement}
+use Rattle.test_replay_totals.proofs.totals.changes_beside.Tie as tie
 
 abbrev Inv-loop : tie.InvT-loop
 Inv-loop a b start x y kind m t open₀ i₀ «open» i = i ≤ t

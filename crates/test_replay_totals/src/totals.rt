@@ -1,6 +1,4 @@
 // Counts of lists on which a replay is compared with the slow one.
-use crate::replay;
-use crate::roads;
 use test_library::counts;
 use test_library::entries;
 use test_library::entries::Entries;
@@ -16,6 +14,8 @@ use test_library::replays::Sizes;
 use test_library::tables;
 use test_library::tables::Marks;
 use test_slow_graphs::graphs;
+use test_slow_replay::replay;
+use test_slow_replay::roads;
 
 // How a list is tried: the places of the ring that it is on, or 0; the most events that such a list may have; and how many faults are planted in what is wanted.
 pub struct Trial {
