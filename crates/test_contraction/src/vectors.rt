@@ -4,8 +4,8 @@
 // zeros; ten of the lengths: of the first and the second ends of the edges, their names, the active entries, the map, the first and the second ends of the
 // edges out, their names, the pieces and the work table; ten of the reply: a refusal's number and its place, the nodes, the edges and zeros. Then come the
 // first four tables of these lengths; and where it is accepted the map, the first and the second ends of the edges out, their names, and the pieces.
-use crate::calls;
 use libc::STDIN_FILENO;
+use test_contraction_calls::calls;
 use test_library::contractions;
 use test_library::contractions::Graph;
 use test_library::contractions::Lengths;

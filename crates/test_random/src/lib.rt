@@ -1,5 +1,4 @@
-// Internal, for the tests alone: random networks, contractions and lists, and fixed lists at the limits and with faults. Nothing here calls the product.
-pub mod cases;
+// Internal, for the tests alone: random networks, contractions and lists. Nothing here calls the product.
 pub mod graphs;
 pub mod lists;
-mod networks;
+pub mod networks;

@@ -6,12 +6,12 @@ use test_library::random;
 
 // What the segments are drawn by: the kind, the seed, how many there are, over how many of the first junctions, and along how many of the first edges of this
 // kind, in either order, so that many segments are of one road; or, where roads is 0, segment e is edge e.
-pub(crate) struct Network {
-    pub(crate) kind: usize,
-    pub(crate) seed: usize,
-    pub(crate) segments: usize,
-    pub(crate) places: usize,
-    pub(crate) roads: usize,
+pub struct Network {
+    pub kind: usize,
+    pub seed: usize,
+    pub segments: usize,
+    pub places: usize,
+    pub roads: usize,
 }
 
 // An end that is no junction: of which side, of which segment.
@@ -22,7 +22,7 @@ pub(crate) struct BadEnd {
 }
 
 // A path, with loops at its last node for the edges that are left.
-pub(crate) const PATH: usize = 9;
+pub const PATH: usize = 9;
 
 // A ring, with more edges beside the first ones for those that are left, and each edge in either order.
 pub(crate) const RING: usize = 10;
@@ -76,8 +76,8 @@ fn segment_end(w: Network, e: usize, side: usize) -> usize {
     end(w.kind, w.seed, w.places, along, counts::plus(side, turned))
 }
 
-// Makes the ends on one side of all segments.
-pub(crate) fn make_ends(t: &mut Entries, w: Network, side: usize) {
+// Internal: makes the ends on one side of all segments.
+pub fn make_ends(t: &mut Entries, w: Network, side: usize) {
     let m = w.segments;
     for e in 0..m {
         entries::set(t, e, segment_end(w, e, side));

@@ -12,10 +12,10 @@ use test_random::lists;
 use test_replay_calls::calls;
 use test_replay_calls::calls::Work;
 use test_replay_calls::limits;
-use test_replay_totals::totals;
-use test_replay_totals::totals::Totals;
-use test_replay_totals::totals::Trial;
 use test_slow_replay::replay;
+use test_totals::list_totals;
+use test_totals::list_totals::Totals;
+use test_totals::list_totals::Trial;
 
 pub(crate) const SMALL: Trial = Trial {
     places: 0,
@@ -35,7 +35,7 @@ pub(crate) fn compare(
     let r = calls::run(l, lengths, work);
     let noticed = replays::noticed(r, want, trial.places, trial.planted);
     let disagrees = !replays::agrees(r, want, l.sizes.t);
-    totals::add(t, l, want, trial, disagrees, noticed)
+    list_totals::add(t, l, want, trial, disagrees, noticed)
 }
 
 // Counts the small list s, of which a table may be one entry short or longer.
@@ -66,7 +66,7 @@ fn with_ring(t: Totals, i: usize, work: &mut Work) -> Totals {
 }
 
 fn run_small(work: &mut Work) -> Totals {
-    let mut t = totals::none();
+    let mut t = list_totals::none();
     for s in 0..60000 {
         let next = with_small(t, s, work);
         t = next;
@@ -75,7 +75,7 @@ fn run_small(work: &mut Work) -> Totals {
 }
 
 fn run_large(work: &mut Work) -> Totals {
-    let mut t = totals::none();
+    let mut t = list_totals::none();
     for s in 0..36 {
         let next = with_large(t, s, work);
         t = next;
@@ -84,7 +84,7 @@ fn run_large(work: &mut Work) -> Totals {
 }
 
 fn run_rings(work: &mut Work) -> Totals {
-    let mut t = totals::none();
+    let mut t = list_totals::none();
     for i in 0..10 {
         let next = with_ring(t, i, work);
         t = next;
@@ -94,12 +94,12 @@ fn run_rings(work: &mut Work) -> Totals {
 
 fn report_lists(work: &mut Work) {
     let small = run_small(work);
-    totals::report(small);
-    totals::report_ones(small);
+    list_totals::report(small);
+    list_totals::report_ones(small);
     let large = run_large(work);
-    totals::report(large);
-    totals::report_ones(large);
-    totals::report(run_rings(work));
+    list_totals::report(large);
+    list_totals::report_ones(large);
+    list_totals::report(run_rings(work));
 }
 
 fn main() {

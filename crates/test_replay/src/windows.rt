@@ -12,9 +12,9 @@ use test_library::tables;
 use test_random::lists;
 use test_replay_calls::calls;
 use test_replay_calls::calls::Work;
-use test_replay_totals::totals;
-use test_replay_totals::totals::Totals;
 use test_slow_replay::replay;
+use test_totals::list_totals;
+use test_totals::list_totals::Totals;
 ghost use Prim.Native.Nat.{_<_};
 
 // Makes the starting table of a window: the segments that are open before its first event.
@@ -113,7 +113,7 @@ fn with_windows(t: Totals, l: List, work: &mut Work) -> Totals {
 
 // The windows of the first random lists.
 fn run_all(work: &mut Work) -> Totals {
-    let mut t = totals::none();
+    let mut t = list_totals::none();
     for s in 0..2000 {
         let next = with_windows(t, lists::small(s), work);
         t = next;

@@ -2,18 +2,17 @@
 // the refusals.
 use crate::calls;
 use crate::calls::Work;
+use test_cases::ASKS;
+use test_cases::Case;
+use test_cases::Fault;
 use test_library::counts;
 use test_library::print;
 use test_library::replays;
 use test_library::replays::OPENS;
 use test_library::replays::Replayed;
-use test_random::cases;
-use test_random::cases::ASKS;
-use test_random::cases::Case;
-use test_random::cases::Fault;
 
 fn replayed(c: Case, work: &mut Work) -> Replayed {
-    let l = cases::make(c);
+    let l = test_cases::make(c);
     let lengths = calls::lengths(l.sizes, c.short, c.long);
     calls::run(l, lengths, work)
 }
@@ -22,7 +21,7 @@ fn replayed(c: Case, work: &mut Work) -> Replayed {
 fn case_replies(work: &mut Work) -> [usize; 54] {
     let mut numbers = [0usize; 54];
     for i in 0..27 {
-        let r = replayed(cases::case_at(i), work);
+        let r = replayed(test_cases::case_at(i), work);
         numbers[i * 2] = replays::code(r);
         numbers[i * 2 + 1] = r.reply.place;
     }
@@ -42,8 +41,8 @@ fn short_refused(work: &mut Work) -> usize {
 
 // Whether a case with two faults is refused by the first.
 fn first_counts(first: Fault, second: Fault, work: &mut Work) -> bool {
-    let r = replayed(cases::pair(first, second), work);
-    let want = cases::refusal_of(first);
+    let r = replayed(test_cases::pair(first, second), work);
+    let want = test_cases::refusal_of(first);
     (replays::code(r) == want.code) & (r.reply.place == want.place)
 }
 
@@ -52,7 +51,11 @@ fn pairs_refused(work: &mut Work) -> usize {
     let mut count: usize = 0;
     for i in 0..81 {
         if i / 9 < i % 9 {
-            let right = first_counts(cases::fault_at(i / 9), cases::fault_at(i % 9), work);
+            let right = first_counts(
+                test_cases::fault_at(i / 9),
+                test_cases::fault_at(i % 9),
+                work,
+            );
             count = counts::counted(count, right);
         }
     }
@@ -63,9 +66,9 @@ fn pairs_refused(work: &mut Work) -> usize {
 fn long_counts(table: usize, i: usize, work: &mut Work) -> bool {
     let long = Fault::Long(table);
     if i < 2 {
-        return first_counts(cases::fault_at(i), long, work);
+        return first_counts(test_cases::fault_at(i), long, work);
     }
-    first_counts(long, cases::fault_at(i), work)
+    first_counts(long, test_cases::fault_at(i), work)
 }
 
 // How many of the five tables that are only read, each one entry longer, alone and beside each other fault, are refused by the first.
