@@ -10,7 +10,7 @@ use lib.ListN.{drop, getD, length, length-drop, length-map, length-take, set, ta
 use lib.Seq.{getD-drop, getD-take, sets, take-take}
 use native.Mathlib.Nat.{mul-le-mul-left}
 use native.Mathlib.Omega.{arith}
-use borrow.Author.Tests.{eq-eqb, eqb-false, eqb-true, ltb-false, ltb-true, ne-eqb}
+use borrow.Author.Tests.{eqb-false, eqb-true, ltb-false, ltb-true}
 use borrow.Rule.Slice.PartMut.{putMid, take-put}
 use Rattle.theory_graph.proofs.Booleans.{onBool}
 use Rattle.theory_graph.proofs.EdgeCount.{firsts-most, small-edges, small-edges-most}
@@ -42,7 +42,9 @@ use Rattle.replay_step.proofs.StepLaws.{active-length}
 use Rattle.replay_step.proofs.WordLaws.{sets-two}
 use Rattle.replay_step.specs.Area.{Area, SmallArea, StepReady, Stepped, areaEdges, span}
 use Rattle.replay_step.specs.declared.Window as W
-use Rattle.replay_windows.specs.Descent.{OneDone, WindowDone, WindowReady, Written, byteBy, nameBy, written}
+use Rattle.replay_leaf.proofs.LeafLaws.{byte-3, byte-read}
+use Rattle.replay_leaf.specs.Leaf.{byteBy, nameBy}
+use Rattle.replay_windows.specs.Descent.{OneDone, WindowDone, WindowReady, Written, written}
 
 -- ---- the counts of an area
 most-less : (k n : ℕ) → k ≤ 2 * n → 0 < n → mostNodes k + 2 ≤ 4 * n
@@ -267,26 +269,6 @@ byte-change g i t = ap (λ b. cond b (answer (plain (openGraph g i)) (event g i 
 byte-query : (g : Timeline) (i : ℕ) → asksAt g i ≡ true → byte g i ≡ answer (plain (openGraph g i)) (event g i .0) (event g i .1)
 unfolding byte
 byte-query g i t = ap (λ b. cond b (answer (plain (openGraph g i)) (event g i .0) (event g i .1)) 3) t
-
--- the byte by the tag and the counts: each way out has one byte, whatever the other numbers are. The bytes are not spelled here, so that byte-read alone tells
--- whether they are the right ones
-module _ (tag nodes edges : ℕ) where
-  pub byte-3 : ¬ (tag ≡ 0) → byteBy 1 0 0 ≡ byteBy tag nodes edges
-  byte-3 h = rw (ne-eqb tag 0 h) refl
-
-  pub byte-2 : tag ≡ 0 → nodes ≡ 1 → byteBy 0 1 0 ≡ byteBy tag nodes edges
-  byte-2 z e = rw (eq-eqb tag 0 z, eq-eqb nodes 1 e) refl
-
-  pub byte-0 : tag ≡ 0 → ¬ (nodes ≡ 1) → edges ≡ 0 → byteBy 0 0 0 ≡ byteBy tag nodes edges
-  byte-0 z h e = rw (eq-eqb tag 0 z, ne-eqb nodes 1 h, eq-eqb edges 0 e) refl
-
-  pub byte-1 : tag ≡ 0 → ¬ (nodes ≡ 1) → ¬ (edges ≡ 0) → byteBy 0 0 1 ≡ byteBy tag nodes edges
-  byte-1 z h e = rw (eq-eqb tag 0 z, ne-eqb nodes 1 h, ne-eqb edges 0 e) refl
-
-  -- demand 2 at a leaf: the byte of a query by the counts is the one that is read off the small graph
-  byte-read : (H : Named) → tag ≡ 0 → length H ≡ edges → byteBy tag nodes edges ≡ readOff nodes (plain H)
-  byte-read [] z e = rw (eq-eqb tag 0 z, eq-eqb edges 0 (sym e)) refl
-  byte-read (h ∷ H) z e = rw (eq-eqb tag 0 z, ne-eqb edges 0 (λ q. omega arith)) refl
 
 -- a small graph that says 1 has an edge
 read-one : (nodes : ℕ) (H : Named) → readOff nodes (plain H) ≡ 1 → 0 < length H

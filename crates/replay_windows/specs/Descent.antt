@@ -1,10 +1,8 @@
 -- What a window promises: the bytes and the names of its events, and kept over it and all windows below it.
 -- Assumes nothing: these are definitions.
 use Prim.Native.Nat.{_*_, _+_, _<_, _≤_, ℕ}
-use mathlib.Core.Bool.{cond}
 use mathlib.Core.List.{List, map}
 use mathlib.Core.Path.{_≡_}
-use lib.Dec.{eqb}
 use lib.ListN.{length, set, take}
 use lib.Seq.{sets}
 use Rattle.theory_graph.specs.Lists.{sum, table}
@@ -47,14 +45,6 @@ pub record WindowDone (w : Window) (p : ℕ) (v : List ℕ) (before after : Writ
   pub replied : (g : Timeline) → Sound g → w .at + w .events ≤ size g → SmallArea g w v → Replied g (w .at) (w .events) p before after kept
 
 -- ---- a window of one event
--- its byte: by the event's tag, and for a query by the nodes and the edges of the small graph
-abbrev pub byteBy : ℕ → ℕ → ℕ → ℕ
-byteBy tag nodes edges = cond (eqb tag 0) (cond (eqb nodes 1) 2 (cond (eqb edges 0) 0 1)) 3
-
--- its name: that of the small graph's one edge where the byte is 1, else 65,535
-abbrev pub nameBy : ℕ → ℕ → ℕ
-nameBy byte name = cond (eqb byte 1) name 65535
-
 pub record OneDone (w : Window) (v : List ℕ) (before after : Written) : Type 0 where
   pub answers : (g : Timeline) → Sound g → w .at < size g → SmallArea g w v → after .answers ≡ set (before .answers) (w .at) (byte g (w .at))
   pub names : (g : Timeline) → Sound g → w .at < size g → SmallArea g w v → after .names ≡ set (before .names) (w .at) (nameAt g (w .at))

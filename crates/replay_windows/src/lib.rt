@@ -3,7 +3,7 @@ ghost use mathlib.Core.Path.{_≡_};
 ghost use Prim.Native.Nat.{_*_, _<_, _≤_};
 ghost use lib.ListN.{length, set, take};
 ghost use Rattle.theory_timeline.specs.Windows.{firstPart};
-ghost use Rattle.replay_windows.specs.Descent.{OneDone, WindowDone, WindowReady, byteBy, nameBy, written};
+ghost use Rattle.replay_windows.specs.Descent.{OneDone, WindowDone, WindowReady, written};
 
 // The events of the first part of a window of n events.
 fn first_part(n: usize, p: usize) -> usize
@@ -12,33 +12,6 @@ fn first_part(n: usize, p: usize) -> usize
 {
     let f = n * p / 16;
     if f < 1 { 1 } else { f }
-}
-
-// The byte of a window of one event: by the event's tag, and for a query by the nodes and the edges of the window's small graph.
-fn byte_of(tag: u32, nodes: usize, edges: usize) -> u8
-    ensures { λ r. ⌜ r ≡ byteBy tag nodes edges ⌝ }
-{
-    if tag != 0 {
-        return 3;
-    }
-    if nodes == 1 {
-        return 2;
-    }
-    if edges == 0 {
-        return 0;
-    }
-    1
-}
-
-// The name of a window of one event: that of the small graph's one edge where the byte is 1, else none.
-fn name_of(byte: u8, name: u32) -> u16
-    requires { ⌜ (byte ≡ 1 → name < 65536) ⌝ }
-    ensures { λ r. ⌜ r ≡ nameBy byte name ⌝ }
-{
-    if byte == 1 {
-        return name as u16;
-    }
-    65535
 }
 
 // Writes the byte of an event.
@@ -63,8 +36,8 @@ fn one(w: replay_step::Window, p: usize, answers: &mut [u8], names: &mut [u16], 
     ensures { λ _. ⌜ OneDone w (take 17 (now (work .entry))) (written (now (answers .entry)) (now (names .entry)))
         (written (now (answers .exit)) (now (names .exit))) ⌝ }
 {
-    let byte = byte_of(work[2], w.nodes, w.edges);
-    let name = name_of(byte, work[13]);
+    let byte = replay_leaf::byte_of(work[2], w.nodes, w.edges);
+    let name = replay_leaf::name_of(byte, work[13]);
     put_byte(answers, w.at, byte);
     put_name(names, w.at, name);
 }

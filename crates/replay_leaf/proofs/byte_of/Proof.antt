@@ -1,8 +1,8 @@
 -- Each way out is one case of the byte.
 use native.Mathlib.Omega.{arith}
-use Rattle.replay_windows.proofs.DescentLaws.{byte-0, byte-1, byte-2, byte-3}
-use Rattle.replay_windows.proofs.byte_of.Statement.{statement}
-use Rattle.replay_windows.proofs.byte_of.Tie as tie
+use Rattle.replay_leaf.proofs.LeafLaws.{byte-0, byte-1, byte-2, byte-3}
+use Rattle.replay_leaf.proofs.byte_of.Statement.{statement}
+use Rattle.replay_leaf.proofs.byte_of.Tie as tie
 
 returns : tie.Need-returns
 returns c =

@@ -3,8 +3,8 @@ use mathlib.Core.Path.{ap, sym}
 use native.Mathlib.Omega.{arith}
 use borrow.Author.Tests.{eq-eqb, ne-eqb}
 use mathlib.Core.Bool.{cond}
-use Rattle.replay_windows.proofs.name_of.Statement.{statement}
-use Rattle.replay_windows.proofs.name_of.Tie as tie
+use Rattle.replay_leaf.proofs.name_of.Statement.{statement}
+use Rattle.replay_leaf.proofs.name_of.Tie as tie
 
 cast-result : tie.Need-cast-result
 cast-result c = omega (arith, c .before .pre (omega arith))
