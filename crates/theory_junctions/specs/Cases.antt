@@ -1,0 +1,69 @@
+-- Replies of small graphs, computed by a program that follows document 02's words, with three graphs that show what document 000's Lemma 7 leaves out.
+-- Assumes nothing: these are definitions.
+use Prim.Native.Nat.{ℕ}
+use mathlib.Core.List.{List, [], _∷_}
+use mathlib.Core.Path.{_≡_}
+use Rattle.theory_graph.specs.Graph.{Edge}
+use Rattle.theory_junctions.specs.Reply.{reply}
+
+-- edges, two junctions, and their reply
+pub record Row : Type 0 where
+  pub edges : List Edge
+  pub x : ℕ
+  pub y : ℕ
+  pub wanted : ℕ
+
+abbrev row : List Edge → ℕ → ℕ → ℕ → Row
+row E x y r = record { edges = E; x = x; y = y; wanted = r }
+
+abbrev pub AllHold : List Row → Type 0
+AllHold [] = Unit {0}
+AllHold (r ∷ rs) = (reply (r .edges) (r .x) (r .y) ≡ r .wanted) × AllHold rs
+
+abbrev pub table : List Row
+table =
+    row ((0, 1) ∷ (1, 2) ∷ (2, 3) ∷ []) 0 3 1 ∷
+    row ((0, 1) ∷ (1, 2) ∷ (2, 3) ∷ (3, 0) ∷ []) 0 2 2 ∷
+    row ((0, 2) ∷ (2, 1) ∷ []) 0 1 1 ∷
+    row ((0, 1) ∷ []) 0 1 2 ∷
+    row ((0, 1) ∷ (0, 1) ∷ []) 0 1 2 ∷
+    row ((0, 0) ∷ (1, 2) ∷ []) 0 1 0 ∷
+    row ((0, 1) ∷ (1, 2) ∷ (2, 0) ∷ (2, 3) ∷ (3, 4) ∷ (4, 2) ∷ []) 0 3 1 ∷
+    row ((0, 1) ∷ []) 2 2 2 ∷
+    row ([]) 0 1 0 ∷
+    row ((2, 4) ∷ (0, 3) ∷ (1, 0) ∷ (1, 0) ∷ (2, 3) ∷ (1, 3) ∷ (4, 0) ∷ []) 4 1 2 ∷
+    row ((0, 1) ∷ (1, 0) ∷ (1, 0) ∷ (0, 0) ∷ (2, 2) ∷ (1, 0) ∷ (0, 0) ∷ []) 0 0 2 ∷
+    row ((1, 2) ∷ (2, 1) ∷ (1, 1) ∷ []) 1 3 0 ∷
+    row ((2, 3) ∷ (1, 1) ∷ []) 2 0 0 ∷
+    row ((4, 4) ∷ (0, 4) ∷ (2, 0) ∷ (2, 2) ∷ []) 2 3 0 ∷
+    row ((3, 3) ∷ (1, 0) ∷ (2, 0) ∷ []) 2 3 0 ∷
+    row ((1, 1) ∷ (1, 2) ∷ (0, 1) ∷ (0, 2) ∷ (0, 2) ∷ (0, 0) ∷ []) 0 1 2 ∷
+    row ((2, 4) ∷ (2, 3) ∷ (0, 4) ∷ (2, 2) ∷ (0, 3) ∷ (0, 1) ∷ []) 2 4 2 ∷
+    row ((2, 2) ∷ (4, 0) ∷ (2, 2) ∷ []) 2 1 0 ∷
+    row ((0, 2) ∷ (2, 1) ∷ (1, 0) ∷ (2, 0) ∷ (0, 2) ∷ (2, 1) ∷ (0, 0) ∷ []) 2 2 2 ∷
+    row ((2, 3) ∷ (3, 1) ∷ (0, 0) ∷ (3, 2) ∷ (1, 1) ∷ (4, 1) ∷ (3, 0) ∷ (1, 3) ∷ []) 2 1 1 ∷
+    row ((1, 1) ∷ (0, 1) ∷ (2, 0) ∷ (2, 1) ∷ (1, 2) ∷ (2, 1) ∷ (1, 1) ∷ (1, 1) ∷ []) 1 0 2 ∷
+    row ((2, 0) ∷ (2, 1) ∷ (1, 0) ∷ (0, 1) ∷ (1, 2) ∷ []) 2 2 2 ∷
+    row ((3, 2) ∷ (1, 3) ∷ (2, 2) ∷ (4, 1) ∷ (4, 1) ∷ (1, 2) ∷ (3, 2) ∷ []) 0 3 0 ∷
+    row ((3, 5) ∷ (4, 0) ∷ (4, 1) ∷ (1, 5) ∷ []) 2 0 0 ∷
+    row ((2, 3) ∷ (0, 4) ∷ (2, 0) ∷ (4, 4) ∷ (2, 0) ∷ []) 2 4 1 ∷
+    row ((0, 2) ∷ (0, 4) ∷ (4, 0) ∷ (5, 3) ∷ (4, 1) ∷ (0, 3) ∷ (0, 2) ∷ []) 5 4 1 ∷
+    row ((0, 2) ∷ (2, 1) ∷ []) 0 1 1 ∷
+    row ((2, 0) ∷ (4, 0) ∷ (4, 5) ∷ (3, 0) ∷ (1, 3) ∷ []) 5 1 1 ∷
+    row ((1, 2) ∷ (2, 4) ∷ (5, 2) ∷ (3, 3) ∷ []) 1 5 1 ∷
+    row ((3, 1) ∷ (1, 0) ∷ (1, 0) ∷ (4, 1) ∷ []) 0 4 1 ∷
+    []
+
+-- ---- what Lemma 7 of document 000 leaves out: a graph, and the graph after a merge that a condition of specs/Classes forbids; the reply changes
+abbrev pub merges : List Row
+merges =
+    -- the top is active: the path 0-2-1 with 2 merged into 0
+    row ((0, 2) ∷ (2, 1) ∷ []) 0 1 1 ∷
+    row ((0, 0) ∷ (0, 1) ∷ []) 0 1 2 ∷
+    -- the class has another relevant member: 1 merged into 0 on the triangle 0, 1, 2, with the edges 3-5 and 4-6 added between active junctions
+    row ((0, 1) ∷ (1, 2) ∷ (2, 0) ∷ (1, 3) ∷ (1, 4) ∷ (0, 5) ∷ (0, 6) ∷ (2, 7) ∷ (3, 5) ∷ (4, 6) ∷ []) 3 4 2 ∷
+    row ((0, 0) ∷ (0, 2) ∷ (2, 0) ∷ (0, 3) ∷ (0, 4) ∷ (0, 5) ∷ (0, 6) ∷ (2, 7) ∷ (3, 5) ∷ (4, 6) ∷ []) 3 4 1 ∷
+    -- the member is the top of two classes: 1 merged into 0, with the same edges added
+    row ((0, 1) ∷ (1, 3) ∷ (1, 4) ∷ (0, 5) ∷ (0, 6) ∷ (3, 5) ∷ (4, 6) ∷ []) 3 4 2 ∷
+    row ((0, 0) ∷ (0, 3) ∷ (0, 4) ∷ (0, 5) ∷ (0, 6) ∷ (3, 5) ∷ (4, 6) ∷ []) 3 4 1 ∷
+    []

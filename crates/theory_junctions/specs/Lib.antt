@@ -1,0 +1,7 @@
+pub mod Reply
+pub mod Colouring
+pub mod Blocks
+pub mod Classes
+pub mod PathMerging
+pub mod Reduce
+pub mod Cases
