@@ -10,8 +10,8 @@ ghost use Rattle.core_components.specs.Tops.{OwnTops, CanCompress, Compr
 ghost use Rattle.core_components.specs.Merging.{CanMergeEdge, EdgeMerged, CanMerge, EdgesMerged};
 ghost use Rattle.core_components.specs.Components.{CanMergeComponents, Components};
 
-// The top of v; the path to it is halved on the way.
-fn find(work: &mut [u32], n: usize, v: usize) -> usize
+// Internal: the top of v; the path to it is halved on the way.
+pub fn find(work: &mut [u32], n: usize, v: usize) -> usize
     requires { ⌜ CanFind n (now work) v ⌝ }
     ensures { λ r. ⌜ Found n (now (work .entry)) v r (now (work .exit)) ⌝ }
 {
@@ -100,8 +100,8 @@ fn merge_edges(work: &mut [u32], n: usize, m: usize)
     }
 }
 
-// Each of the n nodes is its own top.
-fn start_tops(work: &mut [u32], n: usize)
+// Internal: each of the n nodes is its own top.
+pub fn start_tops(work: &mut [u32], n: usize)
     requires { ⌜ (16 * n ≤ length (now work)) × (n ≤ 65536) ⌝ }
     ensures { λ _. ⌜ OwnTops n n (now (work .entry)) (now (work .exit)) ⌝ }
 {
@@ -121,8 +121,8 @@ fn compress(work: &mut [u32], n: usize, v: usize)
     core_words::put(work, v, TOP, u);
 }
 
-// The tops of the first seen nodes of the order are made final: in order, so that the top of a node's top is final already.
-fn compress_all(work: &mut [u32], n: usize, seen: usize)
+// Internal: the tops of the first seen nodes of the order are made final: in order, so that the top of a node's top is final already.
+pub fn compress_all(work: &mut [u32], n: usize, seen: usize)
     requires { ⌜ CanCompress n seen (now work) ⌝ }
     ensures { λ _. ⌜ Compressed n seen (now (work .entry)) (now (work .exit)) ⌝ }
 {

@@ -187,7 +187,7 @@ entering-new {n} {d} {v} {a} {b} {c} l z k p q = record {
 
 -- ---- edges
 -- each word behind the nodes is a field of a half-edge
-halves-kept : (n m : ℕ) (a b : List ℕ) → ((k h : ℕ) → k < 3 → 2 * m ≤ h → half n k b h ≡ half n k a h) → Past (16 * n + 6 * m) a b
+pub halves-kept : (n m : ℕ) (a b : List ℕ) → ((k h : ℕ) → k < 3 → 2 * m ≤ h → half n k b h ≡ half n k a h) → Past (16 * n + 6 * m) a b
 unfolding half
 halves-kept n m a b f i l =
     let e : 16 * n + 3 * ((i - 16 * n) / 3) + (i - 16 * n) % 3 ≡ i = omega arith in

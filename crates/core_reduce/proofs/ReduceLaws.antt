@@ -54,7 +54,7 @@ listed-pairs {a = a} l = record {
 }
 
 -- the edges in the words without their names
-plain-in-words : (n m : ℕ) (w : List ℕ) → plain (edgesIn n m w) ≡ table (λ e. (half n TO w (2 * e), half n TO w (2 * e + 1))) 0 m
+pub plain-in-words : (n m : ℕ) (w : List ℕ) → plain (edgesIn n m w) ≡ table (λ e. (half n TO w (2 * e), half n TO w (2 * e + 1))) 0 m
 plain-in-words n m w = table-map (λ (e : Entry). e .0) (λ e. ((half n TO w (2 * e), half n TO w (2 * e + 1)), half n NAME w (2 * e))) 0 m
 
 plain-out : (e : ℕ) (w : List ℕ) → plain (edgesOut e w) ≡ edgeTable (node LOWER w) (node UPPER w) 0 e
@@ -69,10 +69,10 @@ module _ {n m k : ℕ} {w₀ : List ℕ} (s : Loaded n m k w₀) where
     can-link = record { few = s .few; much = s .much; room = rw (c .rest .same) (s .room); ends = rw (c .rest .halves TO) (s .ends); empty = c .zero HEAD (omega arith) refl }
 
     module _ {w₂ : List ℕ} (q : Linking n m w₁ w₂ (2 * m) × AdjacencyLists n m w₂) where
-      act₂ : (i : ℕ) → i < k → node ACTIVE w₂ i ≡ node ACTIVE w₀ i
+      pub act₂ : (i : ℕ) → i < k → node ACTIVE w₂ i ≡ node ACTIVE w₀ i
       act₂ i l = q .0 .nodes ACTIVE (omega arith) (λ e. omega arith) i (omega (arith, s .less)) ∙ ap (λ f. f i) (c .rest .nodes ACTIVE (omega arith) refl)
 
-      mark₂ : (v : ℕ) → v < n → node MARK w₂ v ≡ node MARK w₀ v
+      pub mark₂ : (v : ℕ) → v < n → node MARK w₂ v ≡ node MARK w₀ v
       mark₂ v l = q .0 .nodes MARK (omega arith) (λ e. omega arith) v l ∙ ap (λ f. f v) (c .rest .nodes MARK (omega arith) refl)
 
       actives : (i : ℕ) → i < k → (node ACTIVE w₂ i < n) × (0 < node MARK w₂ (node ACTIVE w₂ i))

@@ -52,8 +52,8 @@ fn clear_node(work: &mut [u32], n: usize, v: usize)
     core_words::put(work, v, NUMBER, 0);
 }
 
-// Clears the fields that start at 0.
-fn clear_nodes(work: &mut [u32], n: usize)
+// Internal: clears the fields that start at 0.
+pub fn clear_nodes(work: &mut [u32], n: usize)
     requires { ⌜ (16 * n ≤ length (now work)) × (n ≤ 65536) ⌝ }
     ensures { λ _. ⌜ Cleared startFields n n (now (work .entry)) (now (work .exit)) ⌝ }
 {

@@ -1,0 +1,3 @@
+pub mod BlocksFound
+pub mod ReadLaws
+pub mod ReduceLaws

@@ -1,0 +1,4 @@
+pub mod SearchedForest
+pub mod ClassLaws
+pub mod PathLaws
+pub mod EdgeLaws

@@ -1,0 +1,2 @@
+pub mod SearchSets
+pub mod Classes

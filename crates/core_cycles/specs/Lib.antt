@@ -1,0 +1,3 @@
+pub mod BlocksIn
+pub mod Numbering
+pub mod Writing
