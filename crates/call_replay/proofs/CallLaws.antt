@@ -1,35 +1,36 @@
 -- The whole list and the public call: from the events' words to the windows, the queries, and the outcome of an accepted replay and of a refusal.
 -- In order of the code. Assumes nothing.
-use Prim.Native.Nat.{_*_, _+_, _-_, _<_, _≤_, suc, zero, ℕ}
-use mathlib.Core.Bool.{Bool, cond, false, true}
-use mathlib.Core.List.{List, [], _++_, _∷_, map}
+use Prim.Native.Nat.{_*_, _+_, _-_, _<_, _≤_, ℕ}
+use mathlib.Core.Bool.{Bool, false, true}
+use mathlib.Core.List.{List, _++_, map}
 use mathlib.Core.Path.{_∙_, _≡_, ap, refl, subst, sym}
-use lib.ListN.{drop, getD, length, length-drop, length-replicate, length-take, replicate, take}
-use lib.Seq.{drop-at, length-take-le, sets, sets-eq}
+use lib.ListN.{drop, length, length-drop, length-replicate, length-take, replicate, take}
+use lib.Seq.{length-take-le, sets}
 use native.Mathlib.Omega.{arith}
 use borrow.Author.Tests.{ne-eqb}
-use Rattle.call_kinds.specs.Kinds.{isQuery, kindOf}
 use Rattle.call_sizes.specs.Refusal.{Refusal}
 use Rattle.replay_checks.specs.Check.{CheckedTables}
 use Rattle.replay_checks.specs.declared.Checked.{Checked}
+use Rattle.replay_events.proofs.QueryLaws.{queries-same}
 use Rattle.replay_events.proofs.WritingLaws.{size-is}
 use Rattle.replay_events.specs.Kinds.{queriesBy}
 use Rattle.replay_events.specs.Writing.{EventsWritten, listOf}
 use Rattle.replay_start.specs.Whole.{ListIn, WholeMade, WholeReady}
+use Rattle.replay_step.proofs.WordLaws.{over-prefix, sets-over, table-range}
 use Rattle.replay_step.specs.Area.{SmallArea}
 use Rattle.replay_step.specs.declared.Window.{Window}
 use Rattle.replay_windows.proofs.DescentLaws.{lent-take}
 use Rattle.replay_windows.specs.Descent.{Replied, WindowDone, WindowReady, Written, written}
 use Rattle.theory_graph.proofs.TableLaws.{pairs-at}
 use Rattle.theory_graph.specs.Lists.{over, range, sum, table}
-use Rattle.theory_timeline.proofs.Acceptance.{Accepted, accepted-from, accepted-sound, events-length}
-use Rattle.theory_timeline.proofs.Counting.{count, count-split}
+use Rattle.theory_timeline.proofs.Acceptance.{Accepted, AcceptedList, accepted-from, accepted-sound, events-length}
+use Rattle.theory_timeline.proofs.Counting.{count}
 use Rattle.theory_timeline.proofs.DemandThree.{accepted-done, bytes-length, demand-3, names-length}
 use Rattle.theory_timeline.specs.Call.{outcome}
 use Rattle.theory_timeline.specs.DemandThree.{KeepsDemand3}
 use Rattle.theory_timeline.specs.Events.{Event}
 use Rattle.theory_timeline.specs.Replay.{Faultless, Lent, Outcome, byte, bytes, done, fault, given, nameAt, namesAt, openAtEnd, queries, refused, replay, required}
-use Rattle.theory_timeline.specs.Windows.{Timeline, asksAt, event, kept, size, small, windows, windowsFrom}
+use Rattle.theory_timeline.specs.Windows.{Timeline, asksAt, kept, size, small, windows, windowsFrom}
 use Rattle.theory_timeline.specs.declared.ReplayReply.the-variants.{Done, Refused}
 use Rattle.call_replay.specs.List.{ListReady, ListReplied}
 
@@ -57,7 +58,7 @@ module _ {n p : ℕ} {a b start x y answers names work : List ℕ} (q : ListRead
     list-in : ListIn n t a b counts w g
     list-in = record { sound = q .events .sound; junctions = refl; segments = refl; all = size-is (q .events); events = e .events; counted = e .counts }
 
-    pub whole-need : WholeReady n t a b counts area w
+    pub whole-need : WholeReady n t a b counts area (area + 17 * t) w
     whole-need = record {
       g = g;
       list = list-in;
@@ -65,6 +66,7 @@ module _ {n p : ℕ} {a b start x y answers names work : List ℕ} (q : ListRead
       some = some;
       front = omega arith;
       apart = omega arith;
+      behind = omega arith;
       room = omega (arith, q .room);
       much = q .events .much;
     }
@@ -94,37 +96,7 @@ module _ {n p : ℕ} {a b start x y answers names work : List ℕ} (q : ListRead
           → ListReplied n p a b start x y (written answers names) after kept
       list-replied d = let u = d .replied g (q .events .sound) (omega (arith, m .at, m .events, size-is (q .events))) small-in in rw (m .at, m .events) at u
 
--- ---- the queries
--- by X alone they are those of the list
-queries-same : (g : Timeline) (x : List ℕ) (t : ℕ) → t ≤ size g → ((i : ℕ) → i < t → getD x i 0 ≡ event g i .0)
-    → queriesBy (g .junctions) x t ≡ count (asksAt g) 0 t
-unfolding queriesBy
-queries-same g x zero l h = refl
-queries-same g x (suc t) l h =
-    let f : ℕ → Bool = asksAt g in
-    let z : suc t ≡ t + 1 = omega arith in
-    let y : 0 + t ≡ t = omega arith in
-    let c : _≡_ {A = ℕ} (count f t 1) (cond (f t) 1 0) = count-one (f t) in
-    let e : count f 0 (suc t) ≡ count f 0 t + count f t 1 = ap (count f 0) z ∙ count-split f 0 t 1 ∙ ap (λ (k : ℕ). count f 0 t + count f k 1) y in
-    let b : _≡_ {A = ℕ} (cond (isQuery (kindOf (g .junctions) (getD x t 0))) 1 0) (cond (f t) 1 0) =
-    ap (λ (v : ℕ). cond (isQuery (kindOf (g .junctions) v)) 1 0) (h t (omega arith)) in
-    omega (arith, queries-same g x t (omega arith) (λ i u. h i (omega arith)))
-  where
-    count-one : (b : Bool) → length {A = ℕ} (cond b (t ∷ []) []) ≡ cond b 1 0
-    count-one true = refl
-    count-one false = refl
-
 -- ---- an accepted replay
-sets-over : (vs l : List ℕ) → length vs ≤ length l → sets l 0 vs ≡ over vs l
-sets-over vs l h = let z : 0 + length vs ≡ length vs = omega arith in sets-eq vs l 0 (omega arith) ∙ ap (λ (k : ℕ). vs ++ drop k l) z
-
-events-table : (f : ℕ → ℕ) (i k : ℕ) → table f i k ≡ map f (range i k)
-events-table f i zero = refl
-events-table f i (suc k) = ap (λ (l : List ℕ). f i ∷ l) (events-table f (suc i) k)
-
-over-prefix : (vs zs w : List ℕ) → length zs ≡ length vs → over vs (zs ++ drop (length vs) w) ≡ over vs w
-over-prefix vs zs w e = ap (λ (l : List ℕ). vs ++ l) (drop-at zs (drop (length vs) w) (length vs) e)
-
 -- a list with k words of work; and what its windows leave
 abbrev ReadyOf : Lent → ℕ → ℕ → Type 0
 ReadyOf l p k =
@@ -145,47 +117,47 @@ module _ (l : Lent) (p : ℕ) (f : Faultless l p) where
   unfolding given
   list-need =
       let w = length-take-le need (l .work) (granted .work-long) in
-      let la = granted .exact .a-exact in
-      let lx = granted .exact .x-exact in
+      let la = granted .list .exact .a-exact in
+      let lx = granted .list .exact .x-exact in
       record {
         events = record {
-          sound = accepted-sound l p granted;
-          segments = granted .exact .b-exact ∙ sym la;
-          start-long = granted .exact .start-exact ∙ sym la;
-          events = granted .exact .y-exact ∙ sym lx;
-          much = omega (arith, granted .t-fits);
+          sound = accepted-sound l p (granted .list);
+          segments = granted .list .exact .b-exact ∙ sym la;
+          start-long = granted .list .exact .start-exact ∙ sym la;
+          events = granted .list .exact .y-exact ∙ sym lx;
+          much = omega (arith, granted .list .t-fits);
           room = omega arith;
         };
-        share = granted .share;
-        long = omega (arith, granted .answers-long);
+        share = granted .list .share;
+        long = omega (arith, granted .list .answers-long);
         names-long = omega (arith, granted .names-long);
         room = omega arith;
       }
 
   queries-are : queriesBy (l .n) (l .x) (l .t) ≡ count (asksAt (given l)) 0 (l .t)
   unfolding given
-  queries-are = queries-same (given l) (l .x) (l .t) (omega (arith, events-length l p granted)) λ i u.
-      sym (ap (λ (e : Event). e .0) (pairs-at (l .x) (l .y) i (omega (arith, granted .exact .x-exact)) (omega (arith, granted .exact .y-exact))))
+  queries-are = queries-same (given l) (l .x) (l .t) (omega (arith, events-length l p (granted .list))) λ i u.
+      sym (ap (λ (e : Event). e .0) (pairs-at (l .x) (l .y) i (omega (arith, granted .list .exact .x-exact)) (omega (arith, granted .list .exact .y-exact))))
 
   module _ {after : Written} {kept′ : ℕ} (d : RepliedOf l p after kept′) where
     replied : Replied (given l) 0 (l .t) p (written (l .answers) (l .names)) after kept′
     unfolding given
-    replied = rw (granted .exact .x-exact) at d
+    replied = rw (granted .list .exact .x-exact) at d
 
     -- a table with an entry for each event written over its first entries
     table-is : (f : ℕ → ℕ) (before : List ℕ) → length (map f (range 0 (size (given l)))) ≤ length before
         → sets before 0 (table f 0 (l .t)) ≡ over (map f (range 0 (size (given l)))) before
     table-is f before h =
-        ap (λ (k : ℕ). sets before 0 (table f 0 k)) (sym (events-length l p granted)) ∙ ap (sets before 0) (events-table f 0 (size (given l)))
+        ap (λ (k : ℕ). sets before 0 (table f 0 k)) (sym (events-length l p (granted .list))) ∙ ap (sets before 0) (table-range f 0 (size (given l)))
         ∙ sets-over (map f (range 0 (size (given l)))) before h
 
     answers-is : after .answers ≡ over (bytes (given l)) (l .answers)
     unfolding bytes
-    answers-is = replied .answers ∙ table-is (byte (given l)) (l .answers) (omega (arith, bytes-length l p granted, granted .answers-long))
+    answers-is = replied .answers ∙ table-is (byte (given l)) (l .answers) (omega (arith, bytes-length l p (granted .list), granted .list .answers-long))
 
     names-is : after .names ≡ over (namesAt (given l)) (l .names)
     unfolding namesAt
-    names-is = replied .names ∙ table-is (nameAt (given l)) (l .names) (omega (arith, names-length l p granted, granted .names-long))
+    names-is = replied .names ∙ table-is (nameAt (given l)) (l .names) (omega (arith, names-length l p (granted .list), granted .names-long))
 
     pub done-is : {cleared : List ℕ} (zs : List ℕ) (q o : ℕ) → q ≡ queriesBy (l .n) (l .x) (l .t) → o ≡ openAtEnd (given l) → length zs ≡ length (take need (l .work))
         → cleared ≡ over (replicate need 0) (zs ++ drop need (l .work)) → outcome (Done (record { queries = q; «open» = o; kept = kept′ })) (after .answers) (after .names) cleared ≡ done l p
@@ -193,8 +165,8 @@ module _ (l : Lent) (p : ℕ) (f : Faultless l p) where
     done-is {cleared} zs q o eq eo lz ew =
         let lr : length (replicate {A = ℕ} need 0) ≡ need = length-replicate need 0 in
         let lw : length (take need (l .work)) ≡ need = length-take-le need (l .work) (granted .work-long) in
-        let e1 = eq ∙ queries-are ∙ ap (count (asksAt (given l)) 0) (sym (events-length l p granted)) in
-        let e3 = replied .kept ∙ ap (λ (k : ℕ). sum (map (λ w. (small (given l) w) .nodes) (windowsFrom p k 0 k))) (sym (events-length l p granted)) in
+        let e1 = eq ∙ queries-are ∙ ap (count (asksAt (given l)) 0) (sym (events-length l p (granted .list))) in
+        let e3 = replied .kept ∙ ap (λ (k : ℕ). sum (map (λ w. (small (given l) w) .nodes) (windowsFrom p k 0 k))) (sym (events-length l p (granted .list))) in
         let e5 = ew ∙ ap (λ (k : ℕ). over (replicate need 0) (zs ++ drop k (l .work))) (sym lr) ∙ over-prefix (replicate need 0) zs (l .work) (lz ∙ lw ∙ sym lr) in
         λ i. record { accepted = true; code = 0; place = 0; queries = e1 i; opened = eo i; kept = e3 i; answers = answers-is i; names = names-is i; work = e5 i }
 
@@ -220,12 +192,12 @@ replayed l p r f e = promise l p r (e ∙ sym (accepted-done l p f))
 
 -- ---- where the check finds nothing
 module _ {l : Lent} {p : ℕ} {r : Checked} (c : CheckedTables l p r) (z : r .code ≡ 0) where
-  pub grants : Accepted l p
-  grants = granted l p (faultless c z)
+  pub grants : AcceptedList l p
+  grants = granted l p (faultless c z) .list
 
   module _ (k : ℕ) (e : k ≡ required (l .t) (l .n) (l .m)) where
     pub work-need : k ≤ length (l .work)
-    work-need = omega (arith, grants .work-long)
+    work-need = omega (arith, granted l p (faultless c z) .work-long)
 
     pub list-ready : ReadyOf l p k
     list-ready = rw e (list-need l p (faultless c z))

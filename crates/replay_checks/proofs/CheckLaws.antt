@@ -24,7 +24,7 @@ use Rattle.call_sizes.specs.Sizes.{sizeFaults}
 use Rattle.theory_graph.proofs.Booleans.{onBool}
 use Rattle.theory_graph.proofs.TableLaws.{pairs-at}
 use Rattle.theory_graph.specs.Lists.{pairs, sum}
-use Rattle.theory_timeline.proofs.Acceptance.{Accepted, accepted-from, accepted-sound, exact-from, fault-fine, pairs-both}
+use Rattle.theory_timeline.proofs.Acceptance.{AcceptedList, accepted-from, accepted-sound, exact-from, fault-fine, pairs-both}
 use Rattle.theory_timeline.proofs.Networks.{after-append}
 use Rattle.theory_timeline.specs.Events.{Event, SegmentSet, after, afterAll, changes, closes, opens}
 use Rattle.theory_timeline.specs.Replay.{Lent, eventFault, fault, faultAt, faultOfKind, faults, given, listFaults, longTables, readLengths, shareFaults, shortTables, tableLengths}
@@ -43,7 +43,7 @@ unfolding openBefore given
 ends-with l = ap (λ (k : List Event). afterAll (l .n) k (atStart (l .start))) (take-all (length (pairs (l .x) (l .y))) (pairs (l .x) (l .y)) (omega arith))
 
 -- those open at the start are segments: the starting table is as long as the segments are many
-starts-below : (l : Lent) (p : ℕ) → Accepted l p → StartsBelow (given l)
+starts-below : (l : Lent) (p : ℕ) → AcceptedList l p → StartsBelow (given l)
 unfolding given
 starts-below l p a s h = omega (arith, start-below (l .start) s h, a .exact .start-exact, pairs-both (l .a) (l .b) (a .exact .a-exact) (a .exact .b-exact))
 
@@ -120,7 +120,7 @@ module _ (l : Lent) (p : ℕ) where
           refusal = c .refusal ∙ sym list-fault;
           open-last = λ q.
               let (held, o, e) = c .last (ap (λ (f : Refusal). f .0) (c .refusal ∙ sym list-fault) ∙ q) in
-              let a = accepted-from l p q in
+              let a = accepted-from l p q .list in
               e ∙ open-count (given l) (accepted-sound l p a) (starts-below l p a) held (o ∙ sym (ends-with l));
         }
 

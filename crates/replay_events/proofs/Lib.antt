@@ -1,3 +1,4 @@
 pub mod KindLaws
 pub mod TaggingLaws
 pub mod WritingLaws
+pub mod QueryLaws

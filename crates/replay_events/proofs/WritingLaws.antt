@@ -30,7 +30,7 @@ use Rattle.theory_timeline.specs.Roads.{road}
 use Rattle.theory_timeline.specs.Steps.{Sound}
 use Rattle.theory_timeline.specs.Tags.{eventWords, key, keyOf, last, namesKey, next, seekLast, tag, word}
 use Rattle.theory_timeline.specs.Windows.{Timeline, active, changesAt, during, event, openBefore, roadsBefore, size}
-use Rattle.replay_step.proofs.StepLaws.{active-length}
+use Rattle.replay_step.proofs.LoadLaws.{active-length}
 use Rattle.replay_step.proofs.WordLaws.{map-self, mid-sets}
 use Rattle.replay_step.specs.Area.{EventsIn}
 use Rattle.replay_roads.specs.Counting.{RoadTables, RoadsCounted}

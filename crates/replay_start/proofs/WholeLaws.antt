@@ -18,10 +18,11 @@ use Rattle.replay_events.specs.Writing.{namesTag}
 use Rattle.replay_start.proofs.StartLaws.{any-same, pick-numbers}
 use Rattle.replay_start.specs.Start.{Cleared, LoadReady, fixed, namedBy, segment, tagsFrom}
 use Rattle.replay_start.specs.Whole.{ListIn, StartReady, WholeLoaded, WholeMade, WholeReady}
-use Rattle.replay_step.proofs.StepLaws.{entered-same, small-area, window-length, windowOf}
+use Rattle.replay_step.proofs.LoadLaws.{entered-same, window-length}
+use Rattle.replay_step.proofs.StepLaws.{small-area, windowOf}
 use Rattle.replay_step.proofs.WordLaws.{front-get, low-map, map-self, mid-less, mid-take}
 use Rattle.replay_step.specs.Area.{areaEdges}
-use Rattle.replay_step.specs.Load.{ActiveReady, Actives, AddedBy, AreaMade, scratch}
+use Rattle.replay_step.specs.Load.{ActiveReady, Actives, AddedBy, AreaMade}
 use Rattle.replay_step.specs.declared.Graph.{Graph}
 use Rattle.replay_step.specs.declared.Part.{Part}
 use Rattle.theory_graph.proofs.Booleans.{onBool}
@@ -36,13 +37,13 @@ use Rattle.theory_timeline.proofs.CountLaws.{road-open}
 use Rattle.theory_timeline.proofs.EventLaws.{pick-same}
 use Rattle.theory_timeline.proofs.TagLaws.{named-during, quiet, words-at}
 use Rattle.theory_timeline.specs.Events.{namedRoads, networkOf, pick}
-use Rattle.theory_timeline.specs.Tags.{keyOf, namesKey, pickEvents, word}
+use Rattle.theory_timeline.specs.Tags.{eventWords, keyOf, namesKey, pickEvents, word}
 use Rattle.theory_timeline.specs.Windows.{Timeline, active, during, network, openBefore, roadsBefore}
 
 -- ---- what is loaded: the named roads cleared (v₁), active nodes entered (w₁), roads loaded (z)
 module _ {n : ℕ} {p : Part} {a b : List ℕ} {counts : ℕ} {v : List ℕ} (q : StartReady n p a b counts v) where
   abbrev s : ℕ
-  s = scratch p
+  s = p .scratch
 
   module _ {v₁ : List ℕ} (M : Cleared (p .words) 0 (p .events) counts v v₁) where
     pub enter-need : ActiveReady (p .places) (2 * p .events) s n v₁
@@ -57,7 +58,7 @@ module _ {n : ℕ} {p : Part} {a b : List ℕ} {counts : ℕ} {v : List ℕ} (q 
       pub roads-need : LoadReady n s a b counts 0 (length a) 0 w₁
       roads-need = record {
         b-long = q .b-long;
-        apart = omega (arith, q .apart);
+        apart = omega (arith, q .apart, q .behind);
         order = omega arith;
         inside = omega arith;
         much = q .much;
@@ -77,12 +78,12 @@ module _ {n : ℕ} {p : Part} {a b : List ℕ} {counts : ℕ} {v : List ℕ} (q 
         front-z = B .edged .front ∙ A .front
 
         front-v : take counts z ≡ take counts v
-        front-v = same-front counts v z long-z λ d l. front-get s d v₁ z front-z (omega (arith, q .apart)) ∙ M .front d l
+        front-v = same-front counts v z long-z λ d l. front-get s d v₁ z front-z (omega (arith, q .apart, q .behind)) ∙ M .front d l
 
         -- a road has a count left where it had one and no event names it
         fixed-is : (r : ℕ) → r < length a → fixed counts w₁ r ≡ (ltb 0 (getD v (counts + r) 0) && not (namedBy (p .words) 0 (p .events) v r))
         fixed-is r l =
-            ap (ltb 0) (front-get s (counts + r) v₁ w₁ (A .front) (omega (arith, q .apart)) ∙ M .left r (omega (arith, q .apart, q .active .room)))
+            ap (ltb 0) (front-get s (counts + r) v₁ w₁ (A .front) (omega (arith, q .apart, q .behind)) ∙ M .left r (omega (arith, q .apart, q .behind, q .active .room)))
             ∙ left (namedBy (p .words) 0 (p .events) v r) (getD v (counts + r) 0)
           where
             left : (b : Bool) (c : ℕ) → ltb 0 (cond b 0 c) ≡ (ltb 0 c && not b)
@@ -123,8 +124,8 @@ module _ {n : ℕ} {p : Part} {a b : List ℕ} {counts : ℕ} {v : List ℕ} (q 
         }
 
 -- ---- what stands in the words and the tables of a list
-abbrev pub above : ℕ → ℕ → Part
-above t area = record { at = 0; events = t; places = 0; words = 2 * t; area = area }
+abbrev pub above : ℕ → ℕ → ℕ → Part
+above t area scratch = record { at = 0; events = t; places = 0; words = 2 * t; area = area; scratch = scratch }
 
 module _ {n t : ℕ} {a b : List ℕ} {counts : ℕ} {v : List ℕ} {g : Timeline} (q : ListIn n t a b counts v g) where
   tags-are : (j : ℕ) → j < t → tagsFrom (2 * t) v j ≡ word g 0 j
@@ -158,15 +159,15 @@ module _ {n t : ℕ} {a b : List ℕ} {counts : ℕ} {v : List ℕ} {g : Timelin
       ∙ road-open (g .segments) (openBefore g t) r ∙ ap (ltb 0) (sym (q .counted r l)))
       (named-is r))
 
-  network-is : length b ≡ length a → pick (λ r. ltb 0 (getD v (counts + r) 0) && not (namedBy (2 * t) 0 t v r)) 0 (pairs a b) ≡ network g (0, t)
+  pub network-is : length b ≡ length a → pick (λ r. ltb 0 (getD v (counts + r) 0) && not (namedBy (2 * t) 0 t v r)) 0 (pairs a b) ≡ network g (0, t)
   unfolding network networkOf
   network-is e = sym (
       ap (pick (λ r. roadsBefore g 0 r && not (namedRoads (g .junctions) (g .segments) (during g (0, t)) r)) 0) (q .segments)
       ∙ pick-same (λ r. roadsBefore g 0 r && not (namedRoads (g .junctions) (g .segments) (during g (0, t)) r)) (λ r. ltb 0 (getD v (counts + r) 0) && not (namedBy (2 * t) 0 t v r)) 0
       (pairs a b) (λ r l. open-is (0 + r) (omega (arith, pairs-equal a b e))))
 
--- ---- its small graph
-module _ {n t : ℕ} {a b : List ℕ} {counts area : ℕ} {v : List ℕ} (q : WholeReady n t a b counts area v) where
+-- ---- what its load needs, and what is loaded
+module _ {n t : ℕ} {a b : List ℕ} {counts area scratch : ℕ} {v : List ℕ} (q : WholeReady n t a b counts area scratch v) where
   listed : (i : ℕ) → i < 2 * t → getD v i 0 < n
   listed i l =
       let g = q .g in
@@ -181,10 +182,10 @@ module _ {n t : ℕ} {a b : List ℕ} {counts area : ℕ} {v : List ℕ} (q : Wh
   segments-are : length (q .g .segments) ≡ length a
   segments-are = ap length (q .list .segments) ∙ pairs-equal a b (q .b-long)
 
-  pub whole-need : StartReady n (above t area) a b counts v
+  pub whole-need : StartReady n (above t area scratch) a b counts v
   whole-need = record {
     active = record {
-      front = omega (arith, q .front, q .apart);
+      front = omega (arith, q .front, q .apart, q .behind);
       room = omega (arith, q .room);
       many = omega (arith, q .list .sound .few, q .list .junctions);
       nodes = λ i l. let z : 0 + i ≡ i = omega arith in omega (arith, ap (λ k. getD v k 0) z, listed i l);
@@ -192,39 +193,48 @@ module _ {n t : ℕ} {a b : List ℕ} {counts area : ℕ} {v : List ℕ} (q : Wh
     named = record {
       much = q .much;
       apart = omega (arith, q .front);
-      room = omega (arith, q .apart, q .room);
+      room = omega (arith, q .apart, q .behind, q .room);
       keys = λ j l s. let k = tags-are (q .list) j l in
           let u = word-key (q .g) (q .list .sound) j (omega (arith, q .list .all)) (omega arith) in
-          subst (λ (x : ℕ). counts + keyOf x < length v) (sym k) (omega (arith, q .apart, q .room, segments-are));
+          subst (λ (x : ℕ). counts + keyOf x < length v) (sym k) (omega (arith, q .apart, q .behind, q .room, segments-are));
     };
     places = omega (arith, q .front);
     apart = q .apart;
+    behind = q .behind;
     b-long = q .b-long;
     much = omega (arith, q .list .sound .segments-few, segments-are);
     room = omega (arith, q .room);
     nodes = ends-low n a b (q .b-long) (subst₂ (λ (m : ℕ) (E : List Edge). endsIn (λ v. ltb v m) E ≡ true) (q .list .junctions) (q .list .segments) (q .list .sound .ends));
   }
 
-  module _ {z : List ℕ} {l : Graph} (wl : WholeLoaded n (above t area) a b counts v z l) (lz : length z ≡ length v) {y : List ℕ} {r : Counts}
-      (am : AreaMade (above t area) l z y r) where
+  module _ {z : List ℕ} {l : Graph} (wl : WholeLoaded n (above t area scratch) a b counts v z l) (lz : length z ≡ length v) {g : Timeline} (e : ListIn n t a b counts v g) where
     words-z : (i k : ℕ) → i + k ≤ 5 * t → take k (drop i z) ≡ take k (drop i (take (5 * t) v))
     words-z i k h =
-        mid-less i k counts v z (omega (arith, q .front)) (omega (arith, q .front, q .apart, q .room)) (omega (arith, q .front, q .apart, q .room)) (wl .front)
-        ∙ sym (mid-take i k (5 * t) v h (omega (arith, q .front, q .apart, q .room)))
+        mid-less i k counts v z (omega (arith, q .front)) (omega (arith, q .front, q .apart, q .behind, q .room)) (omega (arith, q .front, q .apart, q .behind, q .room)) (wl .front)
+        ∙ sym (mid-take i k (5 * t) v h (omega (arith, q .front, q .apart, q .behind, q .room)))
 
-    pub whole-made : WholeMade n t a b counts area v y (windowOf (above t area) r)
-    whole-made = record {
-      at = refl;
-      events = refl;
-      made = λ g e.
-          let T : take (2 * t) (drop 0 z) ≡ active g (0, t) = words-z 0 (2 * t) (omega arith) ∙ e .events .places ∙ map-self (active g (0, t)) in
-          let s : IsNamedSmallGraph (edgesIn (l .nodes) (l .edges) (drop (area + 17 * t) z)) (active g (0, t)) (r .nodes)
-          (areaEdges t (r .edges) (take (17 * t) (drop area y))) (am .ρ) (am .σ) =
-          rw T at (am .small) in
-          small-area g (e .sound) (windowOf (above t area) r)
-          (subst (λ (G : Named). IsNamedSmallGraph G (active g (0, t)) (r .nodes) (areaEdges t (r .edges) (take (17 * t) (drop area y))) (am .ρ) (am .σ))
-          (wl .edges ∙ network-is e (q .b-long)) s) (record {
-            places = am .places ∙ ap (map (am .σ)) T;
-            words = am .words ∙ words-z (2 * t) (3 * t) (omega arith) ∙ e .events .words;
-          });
-    }
+    pub whole-places : take (2 * t) (drop 0 z) ≡ active g (0, t)
+    whole-places = words-z 0 (2 * t) (omega arith) ∙ e .events .places ∙ map-self (active g (0, t))
+
+    pub whole-words : take (3 * t) (drop (2 * t) z) ≡ eventWords g 0 t
+    whole-words = words-z (2 * t) (3 * t) (omega arith) ∙ e .events .words
+
+    pub whole-network : edgesIn (l .nodes) (l .edges) (drop scratch z) ≡ network g (0, t)
+    whole-network = wl .edges ∙ network-is e (q .b-long)
+
+-- ---- its small graph
+pub whole-made : {n t : ℕ} {a b : List ℕ} {counts area : ℕ} {v : List ℕ} → WholeReady n t a b counts area (area + 17 * t) v → {z : List ℕ} {l : Graph}
+    → WholeLoaded n (above t area (area + 17 * t)) a b counts v z l → length z ≡ length v → {y : List ℕ} {r : Counts} → AreaMade (above t area (area + 17 * t)) l z y r
+    → WholeMade n t a b counts area v y (windowOf (above t area (area + 17 * t)) r)
+whole-made {t = t} {area = area} q {z} {l} wl lz {y} {r} am = record {
+  at = refl;
+  events = refl;
+  made = λ g e.
+      let T = whole-places q wl lz e in
+      let s : IsNamedSmallGraph (edgesIn (l .nodes) (l .edges) (drop (area + 17 * t) z)) (active g (0, t)) (r .nodes)
+      (areaEdges t (r .edges) (take (17 * t) (drop area y))) (am .ρ) (am .σ) =
+      rw T at (am .small) in
+      small-area g (e .sound) (windowOf (above t area (area + 17 * t)) r)
+      (subst (λ (G : Named). IsNamedSmallGraph G (active g (0, t)) (r .nodes) (areaEdges t (r .edges) (take (17 * t) (drop area y))) (am .ρ) (am .σ)) (whole-network q wl lz e) s)
+      (record { places = am .places ∙ ap (map (am .σ)) T; words = am .words ∙ whole-words q wl lz e });
+}

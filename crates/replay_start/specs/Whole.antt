@@ -10,7 +10,7 @@ use Rattle.core_reduce.specs.Core.{edgesIn}
 use Rattle.replay_roads.specs.Runs.{run}
 use Rattle.replay_start.specs.Start.{ClearReady, namedBy}
 use Rattle.replay_step.specs.Area.{EventsIn, SmallArea}
-use Rattle.replay_step.specs.Load.{ActiveReady, MakeReady, scratch}
+use Rattle.replay_step.specs.Load.{ActiveReady, MakeReady}
 use Rattle.replay_step.specs.declared.Graph.{Graph}
 use Rattle.replay_step.specs.declared.Part.{Part}
 use Rattle.replay_step.specs.declared.Window.{Window}
@@ -22,13 +22,14 @@ use Rattle.theory_timeline.specs.Windows.{Timeline, size}
 
 -- ---- what is loaded
 pub record StartReady (n : ℕ) (p : Part) (a b : List ℕ) (counts : ℕ) (v : List ℕ) : Type 0 where
-  pub active : ActiveReady (p .places) (2 * p .events) (scratch p) n v
+  pub active : ActiveReady (p .places) (2 * p .events) (p .scratch) n v
   pub named : ClearReady (p .words) (p .events) counts v
   pub places : p .places + 2 * p .events ≤ counts
   pub apart : counts + length a ≤ p .area
+  pub behind : p .area ≤ p .scratch
   pub b-long : length b ≡ length a
   pub much : length a ≤ 8192
-  pub room : scratch p + 16 * n + 6 * length a ≤ length v
+  pub room : p .scratch + 16 * n + 6 * length a ≤ length v
   pub nodes : (u : ℕ) → u < length a → (getD a u 0 < n) × (getD b u 0 < n)
 
 -- all n junctions, and each road that has an open segment and that no event names by its tag, with its name
@@ -36,7 +37,7 @@ pub record WholeLoaded (n : ℕ) (p : Part) (a b : List ℕ) (counts : ℕ) (v z
   pub nodes : l .nodes ≡ n
   pub front : take counts z ≡ take counts v
   pub ready : MakeReady p l z
-  pub edges : edgesIn (l .nodes) (l .edges) (drop (scratch p) z)
+  pub edges : edgesIn (l .nodes) (l .edges) (drop (p .scratch) z)
       ≡ pick (λ r. ltb 0 (run counts v r) && not (namedBy (p .words) 0 (p .events) v r)) 0 (pairs a b)
 
 -- ---- the whole list
@@ -49,14 +50,16 @@ pub record ListIn (n t : ℕ) (a b : List ℕ) (counts : ℕ) (v : List ℕ) (g 
   pub events : EventsIn g (0, t) (λ u. u) (take (5 * t) v)
   pub counted : (r : ℕ) → r < length a → run counts v r ≡ openCount g t r
 
-pub record WholeReady (n t : ℕ) (a b : List ℕ) (counts area : ℕ) (v : List ℕ) : Type 0 where
+-- what is loaded stands from `scratch` on, behind the area
+pub record WholeReady (n t : ℕ) (a b : List ℕ) (counts area scratch : ℕ) (v : List ℕ) : Type 0 where
   pub g : Timeline
   pub list : ListIn n t a b counts v g
   pub b-long : length b ≡ length a
   pub some : 0 < t
   pub front : 5 * t ≤ counts
   pub apart : counts + length a ≤ area
-  pub room : area + 17 * t + 16 * n + 6 * length a ≤ length v
+  pub behind : area ≤ scratch
+  pub room : scratch + 16 * n + 6 * length a ≤ length v
   pub much : t ≤ 4096
 
 -- its small graph stands in its area, for every such list

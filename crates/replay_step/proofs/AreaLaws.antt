@@ -2,10 +2,10 @@
 -- Assumes nothing.
 use Prim.Native.Nat.{_*_, _+_, _-_, _<_, _≤_, ℕ}
 use mathlib.Core.List.{List, List·Memᴰ, map}
-use mathlib.Core.Path.{_∙_, _≡_, ap, ap₂, subst, sym}
+use mathlib.Core.Path.{_∙_, _≡_, ap, ap₂, refl, subst, sym}
 use lib.Dec.{eqb}
 use lib.ListN.{drop, getD, length, length-drop, length-map, length-take, take}
-use lib.Seq.{drop-drop, length-sets, sets, take-take}
+use lib.Seq.{drop-drop, sets, take-take}
 use native.Mathlib.Omega.{arith}
 use borrow.Rule.Slice.PartMut.{putMid, same-len-mid, take-put}
 use Rattle.core_loading.proofs.LoadingLaws.{entered-most}
@@ -22,9 +22,10 @@ use Rattle.theory_graph.specs.Lists.{firsts, pairs, table}
 use Rattle.theory_names.proofs.NamedContraction.{named-small-repeats}
 use Rattle.theory_names.specs.Names.{Named, plain}
 use Rattle.theory_names.specs.NamedSmallGraph.{IsNamedSmallGraph}
-use Rattle.replay_step.proofs.WordLaws.{drop-back, drop-sets, front-get, mid-before, mid-less, mid-sets, mid-take, take-less, take-sets, take-whole}
+use Rattle.replay_step.proofs.RunLaws.{FiveRuns, behind-3, behind-4, behind-5, front-6, long-6, run-1, run-2, run-3, run-4, run-5}
+use Rattle.replay_step.proofs.WordLaws.{drop-back, fill-length, front-get, mid-before, mid-less, mid-take, take-less, take-whole}
 use Rattle.replay_step.specs.Area.{areaEdges}
-use Rattle.replay_step.specs.Load.{AreaMade, MakeReady, scratch}
+use Rattle.replay_step.specs.Load.{AreaMade, MakeReady}
 use Rattle.replay_step.specs.declared.Graph.{Graph}
 use Rattle.replay_step.specs.declared.Part.{Part}
 
@@ -51,9 +52,9 @@ module _ {n m k : ℕ} {w z : List ℕ} {h e : ℕ} (q : Reduced n m k w z h e) 
       )
 
 -- ---- what the contraction needs
-module _ {p : Part} {l : Graph} {w : List ℕ} (q : MakeReady p l w) where
+module _ {p : Part} {l : Graph} {w : List ℕ} (q : MakeReady p l w) (far : p .scratch ≡ p .area + 17 * p .events) where
   abbrev s : ℕ
-  s = scratch p
+  s = p .scratch
 
   abbrev c : ℕ
   c = p .events
@@ -120,12 +121,24 @@ module _ {p : Part} {l : Graph} {w : List ℕ} (q : MakeReady p l w) where
       λ i u. omega (arith, q .nodes i u, front-get s (p .places + i) w w₁ front-1 (omega (arith, q .places))),
     )
 
-    pub fields-need : (z : List ℕ) → length z ≡ length w → (A + 5 * c + r .edges ≤ s) × (A + 9 * c + r .edges ≤ s) × (s + 16 * r .edges ≤ length z)
-    fields-need z e = (omega (arith, few-out), omega (arith, few-out), omega (arith, q .room, reduced-low K))
+    pub fields-need : (z : List ℕ) → length z ≡ length w → (A + 5 * c + r .edges ≤ s) × (A + 9 * c + r .edges ≤ s) × (A + 13 * c + r .edges ≤ s) × (s + 16 * r .edges ≤ length z)
+    fields-need z e = (omega (arith, few-out), omega (arith, few-out), omega (arith, few-out), omega (arith, q .room, reduced-low K))
 
-    module _ {w₂ w₃ w₄ w₅ : List ℕ} (e₂ : w₂ ≡ sets w₁ A (map (node MAPPED (drop s w₁)) (take (2 * c) (drop (p .places) w₁))))
+    -- before the last run is written: the words are as many as they were
+    pub names-need : {w₂ w₃ w₄ w₅ : List ℕ} → w₂ ≡ sets w₁ A (map (node MAPPED (drop s w₁)) (take (2 * c) (drop (p .places) w₁)))
+        → w₃ ≡ sets w₂ (A + 2 * c) (take (3 * c) (drop (p .words) w₂)) → w₄ ≡ sets w₃ (A + 5 * c) (table (node LOWER (drop s w₃)) 0 (r .edges))
+        → w₅ ≡ sets w₄ (A + 9 * c) (table (node UPPER (drop s w₄)) 0 (r .edges)) → (A + 13 * c + r .edges ≤ s) × (s + 16 * r .edges ≤ length w₅)
+    names-need {w₂} {w₃} {w₄} {w₅} e₂ e₃ e₄ e₅ =
+        let l₂ = fill-length w₁ A (map (node MAPPED (drop s w₁)) (take (2 * c) (drop (p .places) w₁))) e₂ in
+        let l₃ = fill-length w₂ (A + 2 * c) (take (3 * c) (drop (p .words) w₂)) e₃ in
+        let l₄ = fill-length w₃ (A + 5 * c) (table (node LOWER (drop s w₃)) 0 (r .edges)) e₄ in
+        let l₅ = fill-length w₄ (A + 9 * c) (table (node UPPER (drop s w₄)) 0 (r .edges)) e₅ in
+        let l : length w₅ ≡ length w = l₅ ∙ l₄ ∙ l₃ ∙ l₂ ∙ length-1 in
+        let (_, _, a, b) = fields-need w₅ l in (a, b)
+
+    module _ {w₂ w₃ w₄ w₅ w₆ : List ℕ} (e₂ : w₂ ≡ sets w₁ A (map (node MAPPED (drop s w₁)) (take (2 * c) (drop (p .places) w₁))))
         (e₃ : w₃ ≡ sets w₂ (A + 2 * c) (take (3 * c) (drop (p .words) w₂))) (e₄ : w₄ ≡ sets w₃ (A + 5 * c) (table (node LOWER (drop s w₃)) 0 (r .edges)))
-        (e₅ : w₅ ≡ sets w₄ (A + 9 * c) (table (node UPPER (drop s w₄)) 0 (r .edges))) where
+        (e₅ : w₅ ≡ sets w₄ (A + 9 * c) (table (node UPPER (drop s w₄)) 0 (r .edges))) (e₆ : w₆ ≡ sets w₅ (A + 13 * c) (table (node NAMED (drop s w₅)) 0 (r .edges))) where
       abbrev e : ℕ
       e = r .edges
 
@@ -142,135 +155,101 @@ module _ {p : Part} {l : Graph} {w : List ℕ} (q : MakeReady p l w) where
       abbrev Y : List ℕ
       Y = table (node UPPER (drop s w₄)) 0 e
 
+      abbrev N : List ℕ
+      N = table (node NAMED (drop s w₅)) 0 e
+
       length-M : length M ≡ 2 * c
       length-M = length-map (take (2 * c) (drop (p .places) w₁)) (node MAPPED (drop s w₁)) ∙ ap length T-1 ∙ length-T
 
       length-2 : length w₂ ≡ length w
-      length-2 = ap length e₂ ∙ length-sets w₁ A M ∙ length-1
+      length-2 = fill-length w₁ A M e₂ ∙ length-1
 
       length-W : length W ≡ 3 * c
       length-W = rw (length-take, length-drop) (omega (arith, length-2, q .room, q .words))
 
-      length-3 : length w₃ ≡ length w
-      length-3 = ap length e₃ ∙ length-sets w₂ (A + 2 * c) W ∙ length-2
-
       length-X : length X ≡ e
       length-X = table-length (node LOWER (drop s w₃)) 0 e
-
-      length-4 : length w₄ ≡ length w
-      length-4 = ap length e₄ ∙ length-sets w₃ (A + 5 * c) X ∙ length-3
 
       length-Y : length Y ≡ e
       length-Y = table-length (node UPPER (drop s w₄)) 0 e
 
-      length-5 : length w₅ ≡ length w
-      length-5 = ap length e₅ ∙ length-sets w₄ (A + 9 * c) Y ∙ length-4
+      length-N : length N ≡ e
+      length-N = table-length (node NAMED (drop s w₅)) 0 e
 
-      pub names-need : (A + 13 * c + r .edges ≤ s) × (s + 16 * r .edges ≤ length w₅)
-      names-need = (omega (arith, few-out), omega (arith, q .room, reduced-low K, length-5))
+      runs : FiveRuns A (A + 2 * c) (A + 5 * c) (A + 9 * c) (A + 13 * c) s M W X Y N w₁ w₂ w₃ w₄ w₅ w₆
+      runs = record {
+        e₂ = e₂;
+        e₃ = e₃;
+        e₄ = e₄;
+        e₅ = e₅;
+        e₆ = e₆;
+        o₁ = omega (arith, length-M);
+        o₂ = omega (arith, length-W);
+        o₃ = omega (arith, length-X, few-out);
+        o₄ = omega (arith, length-Y, few-out);
+        o₅ = omega (arith, length-N, few-out);
+        long = omega (arith, length-1, q .room);
+      }
 
-      -- the contraction's words stay
-      behind-3 : drop s w₃ ≡ zs
-      behind-3 =
-          ap (drop s) e₃ ∙ drop-sets W w₂ (A + 2 * c) s (omega (arith, length-W))
-          ∙ ap (drop s) e₂ ∙ drop-sets M w₁ A s (omega (arith, length-M)) ∙ behind-1
+      -- what stands from A + i on in the area
+      abbrev z : List ℕ
+      z = take (17 * c) (drop A w₆)
 
-      behind-4 : drop s w₄ ≡ zs
-      behind-4 = ap (drop s) e₄ ∙ drop-sets X w₃ (A + 5 * c) s (omega (arith, length-X, few-out)) ∙ behind-3
+      at-z : (i j k : ℕ) → i + j ≤ 17 * c → A + i ≡ k → take j (drop i z) ≡ take j (drop k w₆)
+      at-z i j k h b =
+          mid-take i j (17 * c) (drop A w₆) h (rw length-drop (omega (arith, long-6 runs, length-1, q .room)))
+          ∙ ap (take j) (drop-drop i A w₆) ∙ ap (λ (k : ℕ). take j (drop k w₆)) b
 
-      behind-5 : drop s w₅ ≡ zs
-      behind-5 = ap (drop s) e₅ ∙ drop-sets Y w₄ (A + 9 * c) s (omega (arith, length-Y, few-out)) ∙ behind-4
+      places : take (2 * c) z ≡ map (node MAPPED zs) T
+      places =
+          take-take (2 * c) (17 * c) (drop A w₆) (omega arith)
+          ∙ ap (λ j. take j (drop A w₆)) (sym length-M) ∙ run-1 runs ∙ ap₂ (λ f l. map (node MAPPED f) l) behind-1 T-1
 
-      module _ {w₆ : List ℕ} (e₆ : w₆ ≡ sets w₅ (A + 13 * c) (table (node NAMED (drop s w₅)) 0 (r .edges))) where
-        abbrev N : List ℕ
-        N = table (node NAMED (drop s w₅)) 0 e
+      words : take (3 * c) (drop (2 * c) z) ≡ take (3 * c) (drop (p .words) w)
+      words =
+          at-z (2 * c) (3 * c) (A + 2 * c) (omega arith) refl
+          ∙ ap (λ j. take j (drop (A + 2 * c) w₆)) (sym length-W) ∙ run-2 runs
+          ∙ ap (λ l. take (3 * c) (drop (p .words) l)) e₂ ∙ mid-before M w₁ A (p .words) (3 * c) (q .words) (omega (arith, length-1, q .room, q .words))
+          ∙ mid-less (p .words) (3 * c) s w w₁ (omega (arith, q .words)) (omega (arith, length-1, q .room, q .words)) (omega (arith, q .room, q .words)) front-1
 
-        length-N : length N ≡ e
-        length-N = table-length (node NAMED (drop s w₅)) 0 e
+      lows : take e (drop (5 * c) z) ≡ table (node LOWER zs) 0 e
+      lows =
+          at-z (5 * c) e (A + 5 * c) (omega (arith, few-out)) refl
+          ∙ ap (λ j. take j (drop (A + 5 * c) w₆)) (sym length-X) ∙ run-3 runs ∙ ap (λ l. table (node LOWER l) 0 e) (behind-3 runs ∙ behind-1)
 
-        length-6 : length w₆ ≡ length w
-        length-6 = ap length e₆ ∙ length-sets w₅ (A + 13 * c) N ∙ length-5
+      highs : take e (drop (9 * c) z) ≡ table (node UPPER zs) 0 e
+      highs =
+          at-z (9 * c) e (A + 9 * c) (omega (arith, few-out)) refl
+          ∙ ap (λ j. take j (drop (A + 9 * c) w₆)) (sym length-Y) ∙ run-4 runs ∙ ap (λ l. table (node UPPER l) 0 e) (behind-4 runs ∙ behind-1)
 
-        -- what stands from A + i on in the area
-        abbrev z : List ℕ
-        z = take (17 * c) (drop A w₆)
+      names : take e (drop (13 * c) z) ≡ table (node NAMED zs) 0 e
+      names =
+          at-z (13 * c) e (A + 13 * c) (omega (arith, few-out)) refl
+          ∙ ap (λ j. take j (drop (A + 13 * c) w₆)) (sym length-N) ∙ run-5 runs ∙ ap (λ l. table (node NAMED l) 0 e) (behind-5 runs ∙ behind-1)
 
-        at-z : (i j : ℕ) → i + j ≤ 17 * c → take j (drop i z) ≡ take j (drop (A + i) w₆)
-        at-z i j h = mid-take i j (17 * c) (drop A w₆) h (rw length-drop (omega (arith, length-6, q .room))) ∙ ap (take j) (drop-drop i A w₆)
+      edges-z : areaEdges c e z ≡ edgesOut e zs
+      edges-z =
+          ap₂ pairs (ap₂ pairs lows highs ∙ pairs-tables (node LOWER zs) (node UPPER zs) 0 e) names
+          ∙ pairs-tables (λ j. (node LOWER zs j, node UPPER zs j)) (node NAMED zs) 0 e
 
-        -- and what a later run does not touch
-        back-6 : (i j : ℕ) → i + j ≤ A + 13 * c → take j (drop i w₆) ≡ take j (drop i w₅)
-        back-6 i j h = ap (λ l. take j (drop i l)) e₆ ∙ mid-before N w₅ (A + 13 * c) i j h (omega (arith, length-5, q .room))
+      numbers : (t : ℕ) → List·Memᴰ t T → node MAPPED zs t ≡ K .σ t
+      numbers t m =
+          let (j, b, x) = table-mem (node ACTIVE L) 0 (l .active) t (subst (λ (S : List ℕ). List·Memᴰ t S) (sym list-L) (in-firsts T t m)) in
+          ap (node MAPPED zs) x ∙ K .numbers j (omega arith) ∙ ap (K .σ) (sym x)
 
-        back-5 : (i j : ℕ) → i + j ≤ A + 9 * c → take j (drop i w₅) ≡ take j (drop i w₄)
-        back-5 i j h = ap (λ l. take j (drop i l)) e₅ ∙ mid-before Y w₄ (A + 9 * c) i j h (omega (arith, length-4, q .room))
+      graph-z : IsNamedSmallGraph (edgesIn (l .nodes) (l .edges) (drop s w)) T (r .nodes) (areaEdges c e z) (K .ρ) (K .σ)
+      graph-z =
+          let h : IsNamedSmallGraph (edgesIn (l .nodes) (l .edges) L) (firsts eqb T) (r .nodes) (edgesOut e zs) (K .ρ) (K .σ) =
+          subst (λ (S : List ℕ). IsNamedSmallGraph (edgesIn (l .nodes) (l .edges) L) S (r .nodes) (edgesOut e zs) (K .ρ) (K .σ)) list-L (K .small) in
+          subst (λ (v : List ℕ). IsNamedSmallGraph (edgesIn (l .nodes) (l .edges) v) T (r .nodes) (areaEdges c e z) (K .ρ) (K .σ)) same-L
+          (subst (λ (H : Named). IsNamedSmallGraph (edgesIn (l .nodes) (l .edges) L) T (r .nodes) H (K .ρ) (K .σ)) (sym edges-z) (named-small-repeats _ T _ _ _ _ h))
 
-        back-4 : (i j : ℕ) → i + j ≤ A + 5 * c → take j (drop i w₄) ≡ take j (drop i w₃)
-        back-4 i j h = ap (λ l. take j (drop i l)) e₄ ∙ mid-before X w₃ (A + 5 * c) i j h (omega (arith, length-3, q .room))
-
-        back-3 : (i j : ℕ) → i + j ≤ A + 2 * c → take j (drop i w₃) ≡ take j (drop i w₂)
-        back-3 i j h = ap (λ l. take j (drop i l)) e₃ ∙ mid-before W w₂ (A + 2 * c) i j h (omega (arith, length-2, q .room))
-
-        places : take (2 * c) z ≡ map (node MAPPED zs) T
-        places =
-            take-take (2 * c) (17 * c) (drop A w₆) (omega arith)
-            ∙ back-6 A (2 * c) (omega arith) ∙ back-5 A (2 * c) (omega arith) ∙ back-4 A (2 * c) (omega arith) ∙ back-3 A (2 * c) (omega arith)
-            ∙ ap (λ l. take (2 * c) (drop A l)) e₂ ∙ ap (λ j. take j (drop A (sets w₁ A M))) (sym length-M) ∙ mid-sets M w₁ A (omega (arith, length-M, length-1, q .room))
-            ∙ ap₂ (λ f l. map (node MAPPED f) l) behind-1 T-1
-
-        words : take (3 * c) (drop (2 * c) z) ≡ take (3 * c) (drop (p .words) w)
-        words =
-            at-z (2 * c) (3 * c) (omega arith)
-            ∙ back-6 (A + 2 * c) (3 * c) (omega arith) ∙ back-5 (A + 2 * c) (3 * c) (omega arith) ∙ back-4 (A + 2 * c) (3 * c) (omega arith)
-            ∙ ap (λ l. take (3 * c) (drop (A + 2 * c) l)) e₃ ∙ ap (λ j. take j (drop (A + 2 * c) (sets w₂ (A + 2 * c) W))) (sym length-W)
-            ∙ mid-sets W w₂ (A + 2 * c) (omega (arith, length-W, length-2, q .room))
-            ∙ ap (λ l. take (3 * c) (drop (p .words) l)) e₂ ∙ mid-before M w₁ A (p .words) (3 * c) (q .words) (omega (arith, length-1, q .room, q .words))
-            ∙ mid-less (p .words) (3 * c) s w w₁ (omega (arith, q .words)) (omega (arith, length-1, q .room, q .words)) (omega (arith, q .room, q .words)) front-1
-
-        lows : take e (drop (5 * c) z) ≡ table (node LOWER zs) 0 e
-        lows =
-            at-z (5 * c) e (omega (arith, few-out)) ∙ back-6 (A + 5 * c) e (omega (arith, few-out)) ∙ back-5 (A + 5 * c) e (omega (arith, few-out))
-            ∙ ap (λ l. take e (drop (A + 5 * c) l)) e₄ ∙ ap (λ j. take j (drop (A + 5 * c) (sets w₃ (A + 5 * c) X))) (sym length-X)
-            ∙ mid-sets X w₃ (A + 5 * c) (omega (arith, length-X, few-out, length-3, q .room)) ∙ ap (λ l. table (node LOWER l) 0 e) behind-3
-
-        highs : take e (drop (9 * c) z) ≡ table (node UPPER zs) 0 e
-        highs =
-            at-z (9 * c) e (omega (arith, few-out)) ∙ back-6 (A + 9 * c) e (omega (arith, few-out))
-            ∙ ap (λ l. take e (drop (A + 9 * c) l)) e₅ ∙ ap (λ j. take j (drop (A + 9 * c) (sets w₄ (A + 9 * c) Y))) (sym length-Y)
-            ∙ mid-sets Y w₄ (A + 9 * c) (omega (arith, length-Y, few-out, length-4, q .room)) ∙ ap (λ l. table (node UPPER l) 0 e) behind-4
-
-        names : take e (drop (13 * c) z) ≡ table (node NAMED zs) 0 e
-        names =
-            at-z (13 * c) e (omega (arith, few-out))
-            ∙ ap (λ l. take e (drop (A + 13 * c) l)) e₆ ∙ ap (λ j. take j (drop (A + 13 * c) (sets w₅ (A + 13 * c) N))) (sym length-N)
-            ∙ mid-sets N w₅ (A + 13 * c) (omega (arith, length-N, few-out, length-5, q .room)) ∙ ap (λ l. table (node NAMED l) 0 e) behind-5
-
-        edges-z : areaEdges c e z ≡ edgesOut e zs
-        edges-z =
-            ap₂ pairs (ap₂ pairs lows highs ∙ pairs-tables (node LOWER zs) (node UPPER zs) 0 e) names
-            ∙ pairs-tables (λ j. (node LOWER zs j, node UPPER zs j)) (node NAMED zs) 0 e
-
-        numbers : (t : ℕ) → List·Memᴰ t T → node MAPPED zs t ≡ K .σ t
-        numbers t m =
-            let (j, b, x) = table-mem (node ACTIVE L) 0 (l .active) t (subst (λ (S : List ℕ). List·Memᴰ t S) (sym list-L) (in-firsts T t m)) in
-            ap (node MAPPED zs) x ∙ K .numbers j (omega arith) ∙ ap (K .σ) (sym x)
-
-        graph-z : IsNamedSmallGraph (edgesIn (l .nodes) (l .edges) (drop s w)) T (r .nodes) (areaEdges c e z) (K .ρ) (K .σ)
-        graph-z =
-            let h : IsNamedSmallGraph (edgesIn (l .nodes) (l .edges) L) (firsts eqb T) (r .nodes) (edgesOut e zs) (K .ρ) (K .σ) =
-            subst (λ (S : List ℕ). IsNamedSmallGraph (edgesIn (l .nodes) (l .edges) L) S (r .nodes) (edgesOut e zs) (K .ρ) (K .σ)) list-L (K .small) in
-            subst (λ (v : List ℕ). IsNamedSmallGraph (edgesIn (l .nodes) (l .edges) v) T (r .nodes) (areaEdges c e z) (K .ρ) (K .σ)) same-L
-            (subst (λ (H : Named). IsNamedSmallGraph (edgesIn (l .nodes) (l .edges) L) T (r .nodes) H (K .ρ) (K .σ)) (sym edges-z) (named-small-repeats _ T _ _ _ _ h))
-
-        pub area-made : AreaMade p l w w₆ r
-        area-made = record {
-          front =
-              ap (take A) e₆ ∙ take-sets N w₅ (A + 13 * c) A (omega arith) ∙ ap (take A) e₅ ∙ take-sets Y w₄ (A + 9 * c) A (omega arith) ∙ ap (take A) e₄ ∙ take-sets X w₃ (A + 5 * c) A (omega arith)
-              ∙ ap (take A) e₃ ∙ take-sets W w₂ (A + 2 * c) A (omega arith) ∙ ap (take A) e₂ ∙ take-sets M w₁ A A (omega arith)
-              ∙ take-less A s w w₁ (omega arith) front-1;
-          ρ = K .ρ;
-          σ = K .σ;
-          small = graph-z;
-          places = places ∙ map-equal (node MAPPED zs) (K .σ) T numbers;
-          words = words;
-        }
+      pub area-made : AreaMade p l w w₆ r
+      area-made = record {
+        front = front-6 runs ∙ take-less A s w w₁ (omega arith) front-1;
+        ρ = K .ρ;
+        σ = K .σ;
+        small = graph-z;
+        places = places ∙ map-equal (node MAPPED zs) (K .σ) T numbers;
+        words = words;
+      }

@@ -18,7 +18,7 @@ use Rattle.theory_timeline.specs.Windows as Windows
 use Rattle.replay_step.proofs.EdgeLaws.{There, added-more, added-none, added-put, added-skip}
 use Rattle.replay_step.proofs.WordLaws.{front-get}
 use Rattle.replay_step.specs.Area.{span}
-use Rattle.replay_step.specs.Load.{AddReady, Added, addsIn, entryIn, scratch}
+use Rattle.replay_step.specs.Load.{AddReady, Added, addsIn, entryIn}
 use Rattle.replay_step.specs.declared.Part.{Part}
 use Rattle.replay_step.specs.declared.Window.{Window}
 
@@ -54,7 +54,7 @@ adds-same w c e {t′ = t′} {x′ = x′} {y = y} a b d = ap₂ (λ (t x : ℕ
 
 -- ---- one event
 module _ {w : Window} {p : Part} {i m : ℕ} {v : List ℕ} (q : AddReady w p i (i + 1) m v) where
-  there : There (scratch p) (w .nodes) m v
+  there : There (p .scratch) (w .nodes) m v
   there = record { ends = q .ends; names = q .names }
 
   pub add-none : addsIn w p v i ≡ false → Added w p i (i + 1) m v v m
@@ -66,7 +66,7 @@ module _ {w : Window} {p : Part} {i m : ℕ} {v : List ℕ} (q : AddReady w p i 
   adds-tag e = and-elim (ltb 0 (getD v (2 * w .events + 3 * i) 0)) _ e (λ t _. ltb-true 0 (getD v (2 * w .events + 3 * i) 0) t)
 
   pub add-need : (a b t : ℕ) → a ≡ getD v (2 * i) 0 → b ≡ getD v (2 * i + 1) 0 → t ≡ getD v (2 * w .events + 3 * i) 0
-      → (16 * w .nodes + 6 * m + 6 ≤ length (take (length v - scratch p) (drop (scratch p) v))) × (a < 65536) × (b < 65536) × (keyOf t < 65536) × (w .nodes ≤ 65536) × (m < 32768)
+      → (16 * w .nodes + 6 * m + 6 ≤ length (take (length v - p .scratch) (drop (p .scratch) v))) × (a < 65536) × (b < 65536) × (keyOf t < 65536) × (w .nodes ≤ 65536) × (m < 32768)
   add-need a b t ea eb et =
       let la = q .nodes (2 * i) (omega (arith, q .inside)) in
       let lb = q .nodes (2 * i + 1) (omega (arith, q .inside)) in (
@@ -79,8 +79,8 @@ module _ {w : Window} {p : Part} {i m : ℕ} {v : List ℕ} (q : AddReady w p i 
       )
 
   pub add-put : addsIn w p v i ≡ true → (a b t : ℕ) → a ≡ getD v (2 * i) 0 → b ≡ getD v (2 * i + 1) 0 → t ≡ getD v (2 * w .events + 3 * i) 0 → (zs : List ℕ)
-      → PutEdge (w .nodes) m a b (keyOf t) (take (length v - scratch p) (drop (scratch p) v)) zs
-      → Added w p i (i + 1) m v (putMid (scratch p) (length v - scratch p) v zs) (m + 1)
+      → PutEdge (w .nodes) m a b (keyOf t) (take (length v - p .scratch) (drop (p .scratch) v)) zs
+      → Added w p i (i + 1) m v (putMid (p .scratch) (length v - p .scratch) v zs) (m + 1)
   add-put e a b t ea eb et zs k =
       added-put there e (ap₂ (λ (x : Edge) (y : ℕ). (x, y)) (ap₂ (λ (x y : ℕ). (x, y)) ea eb) (ap keyOf et)) (omega (arith, q .nodes (2 * i) (omega (arith, q .inside))))
       (omega (arith, q .nodes (2 * i + 1) (omega (arith, q .inside)))) (rw et (q .keys i (omega (arith, q .inside)))) (omega (arith, q .room)) k
@@ -100,7 +100,7 @@ module _ {w : Window} {p : Part} {i j m : ℕ} {v : List ℕ} (q : AddReady w p 
 
   module _ {e k : ℕ} {z : List ℕ} (a : Added w p i e m v z k) (lo : i ≤ e) (l : e < j) where
     front-is : (d : ℕ) → d < 5 * w .events → getD z d 0 ≡ getD v d 0
-    front-is d u = front-get (scratch p) d v z (a .edged .front) (omega (arith, q .front))
+    front-is d u = front-get (p .scratch) d v z (a .edged .front) (omega (arith, q .front))
 
     pub adding-ready : AddReady w p e (e + 1) k z
     adding-ready = record {

@@ -22,7 +22,7 @@ use Rattle.theory_timeline.specs.Tags.{pickEvents}
 use Rattle.replay_step.proofs.WordLaws.{drop-back, front-get, take-whole}
 use Rattle.replay_step.specs.Area.{areaEdges}
 use Rattle.core_loading.specs.Loading.{PutEdge}
-use Rattle.replay_step.specs.Load.{AddedBy, Copied, EdgesReady, Edged}
+use Rattle.replay_step.specs.Load.{AddedBy, Copied, EdgesReady, Edged, edgeAt}
 use Rattle.core_words.specs.Fields.{NAME, TO, half, node}
 
 -- the first j edges, and the edge behind them
@@ -136,69 +136,70 @@ area-table e m v h l =
     triples-table m (drop (5 * e) v) (drop (9 * e) v) (drop (13 * e) v) (rw length-drop (omega arith)) (rw length-drop (omega arith)) (rw length-drop (omega arith))
     ∙ table-equal _ _ 0 m (λ j a b. ap₂ (λ (x : Edge) (y : ℕ). (x, y)) (ap₂ (λ (x y : ℕ). (x, y)) (getD-drop (5 * e) v j 0) (getD-drop (9 * e) v j 0)) (getD-drop (13 * e) v j 0))
 
+-- its three runs, in words that begin with it
+pub area-runs : (e m : ℕ) (v : List ℕ) → 17 * e ≤ length v → m ≤ 4 * e → table (edgeAt (5 * e) (4 * e) v) 0 m ≡ areaEdges e m (take (17 * e) v)
+area-runs e m v h l =
+    let a = take (17 * e) v in
+    table-equal (edgeAt (5 * e) (4 * e) v) (areaEntry e a) 0 m (λ j b c.
+    let x : 5 * e + 4 * e + j ≡ 9 * e + j = omega arith in
+    let y : 5 * e + 2 * (4 * e) + j ≡ 13 * e + j = omega arith in
+    ap₂ (λ (x : Edge) (y : ℕ). (x, y))
+    (ap₂ (λ (x y : ℕ). (x, y)) (sym (getD-take (17 * e) v (5 * e + j) 0 (omega arith))) (ap (λ (k : ℕ). getD v k 0) x ∙ sym (getD-take (17 * e) v (9 * e + j) 0 (omega arith))))
+    (ap (λ (k : ℕ). getD v k 0) y ∙ sym (getD-take (17 * e) v (13 * e + j) 0 (omega arith))))
+    ∙ sym (area-table e m a (rw length-take (omega arith)) l)
+
 -- ---- the loop that copies: j edges so far
-pub record Copying (e m s n : ℕ) (w z : List ℕ) (j : ℕ) : Type 0 where
+pub record Copying (from q m s n : ℕ) (w z : List ℕ) (j : ℕ) : Type 0 where
   pub low : j ≤ m
   pub long : length z ≡ length w
   pub edged : Edged s n j w z
-  pub same : edgesIn n j (drop s z) ≡ table (areaEntry e w) 0 j
+  pub same : edgesIn n j (drop s z) ≡ table (edgeAt from q w) 0 j
 
-pub copying-none : (e m s n : ℕ) (w : List ℕ) → Copying e m s n w w 0
-copying-none e m s n w = record {
+pub copying-none : (from q m s n : ℕ) (w : List ℕ) → Copying from q m s n w w 0
+copying-none from q m s n w = record {
   low = omega arith;
   long = refl;
   edged = record { front = refl; nodes = λ i t v u. refl; ends = λ h u. absurd (omega arith); names = λ h u. absurd (omega arith) };
   same = refl;
 }
 
-module _ {e m s n j : ℕ} {w z : List ℕ} (q : EdgesReady e m s n w) (k : Copying e m s n w z j) (l : j < m) where
-  reads : (i : ℕ) → i < 17 * e → getD z i 0 ≡ getD w i 0
-  reads i u = front-get s i w z (k .edged .front) (omega (arith, q .front))
+module _ {from q m s n j : ℕ} {w z : List ℕ} (e : EdgesReady from q m s n w) (k : Copying from q m s n w z j) (l : j < m) where
+  reads : (i : ℕ) → i < from + 3 * q → getD z i 0 ≡ getD w i 0
+  reads i u = front-get s i w z (k .edged .front) (omega (arith, e .front))
 
-  entry-read : areaEntry e z j ≡ areaEntry e w j
-  entry-read = ap₂ (λ (x : Edge) (y : ℕ). (x, y)) (ap₂ (λ (x y : ℕ). (x, y)) (reads (5 * e + j) (omega (arith, q .few))) (reads (9 * e + j) (omega (arith, q .few))))
-      (reads (13 * e + j) (omega (arith, q .few)))
+  entry-read : edgeAt from q z j ≡ edgeAt from q w j
+  entry-read = ap₂ (λ (x : Edge) (y : ℕ). (x, y)) (ap₂ (λ (x y : ℕ). (x, y)) (reads (from + j) (omega (arith, e .few))) (reads (from + q + j) (omega (arith, e .few))))
+      (reads (from + 2 * q + j) (omega (arith, e .few)))
 
-  pub copying-ends : (getD z (5 * e + j) 0 < n) × (getD z (9 * e + j) 0 < n) × (getD z (13 * e + j) 0 < 65536)
+  pub copying-ends : (getD z (from + j) 0 < n) × (getD z (from + q + j) 0 < n) × (getD z (from + 2 * q + j) 0 < 65536)
   copying-ends =
-      let r = q .nodes j l in (
-        omega (arith, r .0, reads (5 * e + j) (omega (arith, q .few))),
-        omega (arith, r .1, reads (9 * e + j) (omega (arith, q .few))),
-        omega (arith, r .2, reads (13 * e + j) (omega (arith, q .few))),
+      let r = e .nodes j l in (
+        omega (arith, r .0, reads (from + j) (omega (arith, e .few))),
+        omega (arith, r .1, reads (from + q + j) (omega (arith, e .few))),
+        omega (arith, r .2, reads (from + 2 * q + j) (omega (arith, e .few))),
       )
 
-  pub copying-need : (16 * n + 6 * j + 6 ≤ length (take (length z - s) (drop s z))) × (getD z (5 * e + j) 0 < 65536) × (getD z (9 * e + j) 0 < 65536) × (getD z (13 * e + j) 0 < 65536)
-      × (n ≤ 65536) × (j < 32768)
+  pub copying-need : (16 * n + 6 * j + 6 ≤ length (take (length z - s) (drop s z))) × (getD z (from + j) 0 < 65536) × (getD z (from + q + j) 0 < 65536)
+      × (getD z (from + 2 * q + j) 0 < 65536) × (n ≤ 65536) × (j < 32768)
   copying-need = (
-    rw (length-take, length-drop) (omega (arith, q .room, k .long)),
-    omega (arith, copying-ends .0, q .many),
-    omega (arith, copying-ends .1, q .many),
+    rw (length-take, length-drop) (omega (arith, e .room, k .long)),
+    omega (arith, copying-ends .0, e .many),
+    omega (arith, copying-ends .1, e .many),
     copying-ends .2,
-    q .many,
-    omega (arith, q .few, q .much),
+    e .many,
+    omega (arith, e .much),
   )
 
-  pub copying-more : (zs : List ℕ) → PutEdge n j (getD z (5 * e + j) 0) (getD z (9 * e + j) 0) (getD z (13 * e + j) 0) (take (length z - s) (drop s z)) zs
-      → Copying e m s n w (putMid s (length z - s) z zs) (j + 1)
+  pub copying-more : (zs : List ℕ) → PutEdge n j (getD z (from + j) 0) (getD z (from + q + j) 0) (getD z (from + 2 * q + j) 0) (take (length z - s) (drop s z)) zs
+      → Copying from q m s n w (putMid s (length z - s) z zs) (j + 1)
   copying-more zs p =
-      let f : s ≤ length z = omega (arith, q .room, k .long) in
+      let f : s ≤ length z = omega (arith, e .room, k .long) in
       record {
         low = omega arith;
         long = same-len-mid s (length z - s) z zs (p .same) ∙ k .long;
         edged = edged-more (k .edged) p f (copying-ends .0) (copying-ends .1) (copying-ends .2);
-        same = edges-more (k .edged) p f ∙ ap₂ (λ (G : Named) (x : Entry). G ++ (x ∷ [])) (k .same) entry-read ∙ sym (table-more (areaEntry e w) j);
+        same = edges-more (k .edged) p f ∙ ap₂ (λ (G : Named) (x : Entry). G ++ (x ∷ [])) (k .same) entry-read ∙ sym (table-more (edgeAt from q w) j);
       }
 
-pub copied : {e m s n j : ℕ} {w z : List ℕ} → EdgesReady e m s n w → Copying e m s n w z j → j ≡ m → Copied e m s n w z
-copied {e} {m} {s} {n} {j} {w} {z} q k x =
-    let r : Edged s n m w z = rw x at (k .edged) in
-    let t : edgesIn n m (drop s z) ≡ table (areaEntry e w) 0 m = rw x at (k .same) in
-    let a = take (17 * e) w in
-    record {
-      edged = r;
-      same = t ∙ sym (area-table e m a (rw length-take (omega (arith, q .front, q .room))) (q .few)
-          ∙ table-equal (areaEntry e a) (areaEntry e w) 0 m (λ i b c.
-          ap₂ (λ (x : Edge) (y : ℕ). (x, y))
-          (ap₂ (λ (x y : ℕ). (x, y)) (getD-take (17 * e) w (5 * e + i) 0 (omega (arith, q .few))) (getD-take (17 * e) w (9 * e + i) 0 (omega (arith, q .few))))
-          (getD-take (17 * e) w (13 * e + i) 0 (omega (arith, q .few)))));
-    }
+pub copied : {from q m s n j : ℕ} {w z : List ℕ} → Copying from q m s n w z j → j ≡ m → Copied from q m s n w z
+copied {from} {q} {m} {s} {n} {j} {w} {z} k x = record { edged = rw x at (k .edged); same = rw x at (k .same) }

@@ -2,5 +2,8 @@ pub mod WordLaws
 pub mod EdgeLaws
 pub mod EnterLaws
 pub mod BesideLaws
+pub mod RunLaws
 pub mod AreaLaws
+pub mod LoadLaws
+pub mod LeafLaws
 pub mod StepLaws

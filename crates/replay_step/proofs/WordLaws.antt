@@ -1,6 +1,6 @@
 -- Laws of words that are written in order, of a front that stays, and of parts of lists.
 -- In order: tables of values; runs of stores; fronts and backs of a list of words; fields written from behind the front; a map that
--- moves nothing.
+-- moves nothing; a table written over the front of another.
 -- Assumes nothing.
 use Prim.Native.Nat.{_*_, _+_, _-_, _<_, _≤_, suc, zero, ℕ}
 use mathlib.Core.List.{List, List·Memᴰ, List·Memᴰ·head, List·Memᴰ·tail, [], _++_, _∷_, append-assoc, map}
@@ -11,7 +11,7 @@ use native.Mathlib.Omega.{arith}
 use borrow.Rule.Slice.PartMut.{putMid}
 use Rattle.theory_graph.proofs.Lists.{table-length}
 use Rattle.theory_graph.proofs.TableLaws.{sets-append, table-append}
-use Rattle.theory_graph.specs.Lists.{table}
+use Rattle.theory_graph.specs.Lists.{over, range, table}
 use Rattle.core_words.specs.Fields.{MAPPED, node}
 
 -- the table of a window is that of its parts
@@ -160,3 +160,14 @@ copy-length l from q i e = fill-length l q (table (λ j. getD l (from + j) 0) 0 
 pub map-self : (S : List ℕ) → map (λ a. a) S ≡ S
 map-self [] = refl
 map-self (a ∷ S) = ap (λ l. a ∷ l) (map-self S)
+
+-- ---- a table written over the front of another
+pub sets-over : (vs l : List ℕ) → length vs ≤ length l → sets l 0 vs ≡ over vs l
+sets-over vs l h = let z : 0 + length vs ≡ length vs = omega arith in sets-eq vs l 0 (omega arith) ∙ ap (λ (k : ℕ). vs ++ drop k l) z
+
+pub table-range : (f : ℕ → ℕ) (i k : ℕ) → table f i k ≡ map f (range i k)
+table-range f i zero = refl
+table-range f i (suc k) = ap (λ (l : List ℕ). f i ∷ l) (table-range f (suc i) k)
+
+pub over-prefix : (vs zs w : List ℕ) → length zs ≡ length vs → over vs (zs ++ drop (length vs) w) ≡ over vs w
+over-prefix vs zs w e = ap (λ (l : List ℕ). vs ++ l) (drop-at zs (drop (length vs) w) (length vs) e)

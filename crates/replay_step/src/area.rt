@@ -6,10 +6,10 @@ ghost use lib.ListN.{length, getD, take, drop};
 ghost use lib.Seq.{sets};
 ghost use Rattle.theory_graph.specs.Lists.{table};
 ghost use Rattle.core_words.specs.Fields.{MAPPED, node};
-ghost use Rattle.replay_step.specs.Load.{AreaMade, MakeReady};
+ghost use Rattle.replay_step.specs.Load.{AreaMade, Behind, MakeReady};
 
-// Writes the new numbers of the nodes at the `count` words from `from` on, at q.
-pub(crate) fn put_map(work: &mut [u32], from: usize, count: usize, s: usize, q: usize, n: usize)
+// Internal: writes the new numbers of the nodes at the `count` words from `from` on, at q.
+pub fn put_map(work: &mut [u32], from: usize, count: usize, s: usize, q: usize, n: usize)
     requires { ⌜ (from + count ≤ q) × (q + count ≤ s) × (s + 16 * n ≤ length (now work)) ×
         ((i : ℕ) → i < count → getD (now work) (from + i) 0 < n) ⌝ }
     ensures { λ _. ⌜ now (work .exit) ≡ sets (now (work .entry)) q
@@ -39,8 +39,8 @@ pub(crate) fn put_field(work: &mut [u32], m: usize, k: usize, s: usize, q: usize
     }
 }
 
-// Copies the `count` words from `from` on, to q.
-pub(crate) fn copy_words(work: &mut [u32], from: usize, count: usize, q: usize)
+// Internal: copies the `count` words from `from` on, to q.
+pub fn copy_words(work: &mut [u32], from: usize, count: usize, q: usize)
     requires { ⌜ (from + count ≤ q) × (q + count ≤ length (now work)) ⌝ }
     ensures { λ _. ⌜ now (work .exit) ≡ sets (now (work .entry)) q (take count (drop from (now (work .entry)))) ⌝ }
 {
@@ -55,13 +55,13 @@ pub(crate) fn copy_words(work: &mut [u32], from: usize, count: usize, q: usize)
 
 // Internal: contracts the graph that is loaded behind the part's area, and writes the area: the nodes and the edges that it has then.
 pub fn make_area(part: crate::Part, l: crate::Graph, work: &mut [u32]) -> core_reduce::Counts
-    requires { ⌜ MakeReady part l (now work) ⌝ }
+    requires { ⌜ MakeReady part l (now work) × Behind part ⌝ }
     ensures { λ r. ⌜ AreaMade part l (now (work .entry)) (now (work .exit)) r ⌝ }
 {
     let q = part.area;
     let c = part.events;
     let names = q + 13 * c;
-    let s = q + 17 * c;
+    let s = part.scratch;
     let n = l.nodes;
     let r = core_reduce::reduce(&mut work[s..], n, l.edges, l.active);
     put_map(work, part.places, 2 * c, s, q, n);

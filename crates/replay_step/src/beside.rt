@@ -65,7 +65,7 @@ pub(crate) fn add_event(
     let b = core_words::word(work, 2 * i + 1);
     let tag = core_words::word(work, 2 * w.events + 3 * i);
     let c = (tag - 1) / 4;
-    let s = part.area + 17 * part.events;
+    let s = part.scratch;
     let n = w.nodes;
     core_loading::put_edge(&mut work[s..], n, m, a, b, c);
     m + 1

@@ -5,7 +5,7 @@ mod beside;
 pub mod load;
 
 ghost use Rattle.replay_step.specs.Area.{StepReady, Stepped};
-ghost use Rattle.replay_step.specs.Load.{IsPart, PartLoaded};
+ghost use Rattle.replay_step.specs.Load.{LoadReady, PartLoaded};
 
 // Internal: a window of a list by its first event and its number of events, with the nodes and the edges of the graph in its area.
 pub struct Window {
@@ -15,14 +15,15 @@ pub struct Window {
     pub edges: usize,
 }
 
-// Internal: a part whose area is to be made: its first event and its number of events; where its places and the words of its events stand, and where its
-// area begins.
+// Internal: a part whose area is to be made: its first event and its number of events; where its places and the words of its events stand; where its area
+// begins, and behind it the words of the graph that is loaded.
 pub struct Part {
     pub at: usize,
     pub events: usize,
     pub places: usize,
     pub words: usize,
     pub area: usize,
+    pub scratch: usize,
 }
 
 // Internal: a graph that is loaded behind a part's area: its nodes, its edges, and how many different active nodes it has.
@@ -32,16 +33,16 @@ pub struct Graph {
     pub active: usize,
 }
 
-// Loads the window's graph with the edges that its part adds.
-fn load_part(w: Window, part: Part, work: &mut [u32]) -> Graph
-    requires { ⌜ StepReady w (part .at) (part .events) (now work) × IsPart w part ⌝ }
-    ensures { λ r. ⌜ PartLoaded w part (now (work .entry)) (now (work .exit)) r ⌝ }
+// Internal: loads the window's graph, whose area has room for `most` edges, with the edges that its part adds.
+pub fn load_part(w: Window, most: usize, part: Part, work: &mut [u32]) -> Graph
+    requires { ⌜ LoadReady w most part (now work) ⌝ }
+    ensures { λ r. ⌜ PartLoaded w most part (now (work .entry)) (now (work .exit)) r ⌝ }
 {
     let n = w.nodes;
     let e = w.events;
-    let s = part.area + 17 * part.events;
+    let s = part.scratch;
     let k = load::enter_places(work, part.places, 2 * part.events, s, n);
-    load::copy_edges(work, e, w.edges, s, n);
+    load::copy_edges(work, 5 * e, most, w.edges, s, n);
     let a = part.at - w.at;
     let m = beside::add_events(w, part, 0, a, work, w.edges);
     let all = beside::add_events(w, part, a + part.events, e, work, m);
@@ -64,8 +65,9 @@ pub fn step(w: Window, lo: usize, c: usize, work: &mut [u32]) -> Window
         places: 2 * a,
         words: 2 * w.events + 3 * a,
         area: 17 * w.events,
+        scratch: 17 * w.events + 17 * c,
     };
-    let l = load_part(w, part, work);
+    let l = load_part(w, 4 * w.events, part, work);
     let small = area::make_area(part, l, work);
     Window {
         at: lo,

@@ -29,17 +29,17 @@ pub fn enter_places(work: &mut [u32], from: usize, count: usize, s: usize, n: us
     enter_all(work, from, count, s, n)
 }
 
-// Copies the m edges of an area of e events into the words from s on.
-pub(crate) fn copy_edges(work: &mut [u32], e: usize, m: usize, s: usize, n: usize)
-    requires { ⌜ EdgesReady e m s n (now work) ⌝ }
-    ensures { λ _. ⌜ Copied e m s n (now (work .entry)) (now (work .exit)) ⌝ }
+// Copies m edges into the words from s on: their smaller ends stand from `from` on, their larger ends from q words further on, their names again q words further.
+pub(crate) fn copy_edges(work: &mut [u32], from: usize, q: usize, m: usize, s: usize, n: usize)
+    requires { ⌜ EdgesReady from q m s n (now work) ⌝ }
+    ensures { λ _. ⌜ Copied from q m s n (now (work .entry)) (now (work .exit)) ⌝ }
 {
     let mut j: usize = 0;
     // The first j edges are loaded; the front and the nodes' fields are as they were.
     while j < m {
-        let a = work[5 * e + j] as usize;
-        let b = work[9 * e + j] as usize;
-        let c = work[13 * e + j] as usize;
+        let a = work[from + j] as usize;
+        let b = work[from + q + j] as usize;
+        let c = work[from + 2 * q + j] as usize;
         core_loading::put_edge(&mut work[s..], n, j, a, b, c);
         j += 1;
     }

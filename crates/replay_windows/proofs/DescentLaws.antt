@@ -2,12 +2,12 @@
 -- In order: the counts of an area; the windows of a share; what a step and a part need; a window of two parts; a window of one event.
 -- Assumes nothing.
 use Prim.Native.Nat.{_*_, _+_, _-_, _<_, _≤_, suc, zero, ℕ}
-use mathlib.Core.Bool.{Bool, cond, false, not, true}
+use mathlib.Core.Bool.{Bool, cond, false, true}
 use mathlib.Core.List.{List, List·Memᴰ, [], _++_, _∷_, map}
 use mathlib.Core.Path.{_∙_, _≡_, ap, ap₂, refl, subst, sym}
 use lib.Dec.{eqb, ltb}
 use lib.ListN.{drop, getD, length, length-drop, length-map, length-take, set, take}
-use lib.Seq.{getD-drop, getD-take, sets, take-take}
+use lib.Seq.{getD-take, sets, take-take}
 use native.Mathlib.Nat.{mul-le-mul-left}
 use native.Mathlib.Omega.{arith}
 use borrow.Author.Tests.{eqb-false, eqb-true, ltb-false, ltb-true}
@@ -25,20 +25,18 @@ use Rattle.theory_names.proofs.NamedSmallCuts.{named-small-carries, named-small
 use Rattle.theory_names.proofs.NamedUniqueness.{named-renumbered-small}
 use Rattle.theory_names.specs.Names.{Entry, Named, Sixteen, hangs, plain}
 use Rattle.theory_names.specs.NamedSmallGraph.{IsNamedSmallGraph, readName}
-use Rattle.theory_timeline.proofs.Acceptance.{sound-changes, sound-good}
+use Rattle.theory_timeline.proofs.Acceptance.{sound-good}
 use Rattle.theory_timeline.proofs.DemandThree.{named-is}
-use Rattle.theory_timeline.proofs.EventLaws.{asks-changes}
 use Rattle.theory_timeline.proofs.Leaves.{alone, alone-name, during-one}
 use Rattle.theory_timeline.proofs.Networks.{network-sixteen}
-use Rattle.theory_timeline.proofs.TagLaws.{tag-says, word-change, word-none, words-at}
 use Rattle.theory_timeline.proofs.WindowLaws.{large-one, small-one}
 use Rattle.theory_timeline.specs.DemandThree.{Allowed}
 use Rattle.theory_timeline.specs.Replay.{byte, nameAt}
 use Rattle.theory_timeline.specs.Steps.{Sound}
-use Rattle.theory_timeline.specs.Tags.{eventWords, tag, word}
 use Rattle.theory_timeline.specs.Windows.{Timeline, Window, active, asksAt, during, event, firstPart, network, openBefore, openGraph, size, small, windowsFrom}
 use Rattle.replay_step.proofs.EdgeLaws.{area-table, areaEntry}
-use Rattle.replay_step.proofs.StepLaws.{active-length}
+use Rattle.replay_step.proofs.LeafLaws.{leaf-asks, leaf-changes}
+use Rattle.replay_step.proofs.LoadLaws.{active-length}
 use Rattle.replay_step.proofs.WordLaws.{sets-two}
 use Rattle.replay_step.specs.Area.{Area, SmallArea, StepReady, Stepped, areaEdges, span}
 use Rattle.replay_step.specs.declared.Window as W
@@ -285,25 +283,11 @@ first-name f zero l = absurd (omega arith)
 first-name f (suc k) l = refl
 
 module _ {w : W.Window} (v : List ℕ) (one : w .events ≡ 1) (l : 17 ≤ length v) (g : Timeline) (sound : Sound g) (i : w .at < size g) (a : SmallArea g w (take 17 v)) where
-  -- the tag of its event
-  first-word : getD v 2 0 ≡ word g 0 (w .at)
-  first-word =
-      let z : w .at + 0 ≡ w .at = omega arith in
-      let W = a .events .words in
-      let x : take 3 (drop 2 (take 17 v)) ≡ eventWords g (w .at) 1 = rw one at W in
-      sym (getD-take 17 v 2 0 (omega arith)) ∙ sym (getD-take 3 (drop 2 (take 17 v)) 0 0 (omega arith) ∙ getD-drop 2 (take 17 v) 0 0)
-      ∙ ap (λ l. getD l 0 0) x ∙ words-at g (w .at) 1 0 0 (omega arith) (omega arith) ∙ ap (word g 0) z
-
   changed : ¬ (getD v 2 0 ≡ 0) → asksAt g (w .at) ≡ false
-  changed h = onBool (asksAt g (w .at))
-      (λ q. absurd (h (first-word ∙ word-none g (w .at) 0 (asks-changes (g .junctions) (event g (w .at)) q))))
-      (λ q. q)
+  changed = leaf-changes w one 17 v (omega arith) g sound i (a .σ) (a .events)
 
   asked : getD v 2 0 ≡ 0 → asksAt g (w .at) ≡ true
-  asked z = onBool (asksAt g (w .at)) (λ q. q) (λ q.
-      let t = ltb-true 0 (tag g (w .at)) (tag-says g (w .at) .change) in
-      let c = sound-changes g sound (w .at) (omega arith) ∙ ap not q in
-      absurd (omega (arith, first-word, word-change g (w .at) c .0)))
+  asked = leaf-asks w one 17 v (omega arith) g sound i (a .σ) (a .events)
 
   some : 0 < w .events
   some = omega arith

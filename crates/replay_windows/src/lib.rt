@@ -5,8 +5,8 @@ ghost use lib.ListN.{length, set, take};
 ghost use Rattle.theory_timeline.specs.Windows.{firstPart};
 ghost use Rattle.replay_windows.specs.Descent.{OneDone, WindowDone, WindowReady, written};
 
-// The events of the first part of a window of n events.
-fn first_part(n: usize, p: usize) -> usize
+// Internal: the events of the first part of a window of n events.
+pub fn first_part(n: usize, p: usize) -> usize
     requires { ⌜ (n ≤ 4096) × (p ≤ 12) ⌝ }
     ensures { λ r. ⌜ r ≡ firstPart p n ⌝ }
 {
@@ -14,8 +14,8 @@ fn first_part(n: usize, p: usize) -> usize
     if f < 1 { 1 } else { f }
 }
 
-// Writes the byte of an event.
-fn put_byte(answers: &mut [u8], event: usize, byte: u8)
+// Internal: writes the byte of an event.
+pub fn put_byte(answers: &mut [u8], event: usize, byte: u8)
     requires { ⌜ event < length (now answers) ⌝ }
     ensures { λ _. ⌜ now (answers .exit) ≡ set (now (answers .entry)) event byte ⌝ }
 {

@@ -22,14 +22,14 @@ use Rattle.call_kinds.proofs.KindLaws.{closes-some, opens-some, query-junction,
 use Rattle.call_kinds.specs.Kinds.{isClosing, isOpening, isQuery, kindOf}
 use Rattle.call_kinds.specs.declared.Kind.{Kind}
 use Rattle.call_kinds.specs.declared.Kind.the-variants.{Closes, None, Opens, Query}
-use Rattle.call_sizes.proofs.RefusalLaws.{Numbered, Silent, below-long, fault-silent, long-numbered, numbered-append, seek-found, seek-none}
+use Rattle.call_sizes.proofs.RefusalLaws.{Long, Numbered, Silent, below-long, fault-silent, long-numbered, numbered-append, seek-found, seek-none}
 use Rattle.call_sizes.proofs.RefusalLaws.{short-numbered, silent-left, silent-right, sizes-numbered, skip-silent}
-use Rattle.call_sizes.specs.Refusal.{Refusal, Row, firstFault, badEnds, badStart}
+use Rattle.call_sizes.specs.Refusal.{Refusal, Row, firstFault, badEnds, badStart, shortRows}
 use Rattle.call_sizes.specs.Sizes.{sizeFaults}
 use Rattle.theory_timeline.specs.DemandThree.{Allowed}
 use Rattle.theory_timeline.specs.Events.{Event, SegmentSet, activeOf, asks, changes, closes, ends, opens, pick}
-use Rattle.theory_timeline.specs.Replay.{Exact, Faultless, Lent, eventFault, fault, faultAt, faultOfKind, faults, given, listFaults, longTables, readLengths, required, shareFaults}
-use Rattle.theory_timeline.specs.Replay.{shortTables, tableLengths}
+use Rattle.theory_timeline.specs.Replay.{Exact, Faultless, Lent, eventFault, fault, faultAt, faultOfKind, faults, faultsWith, given, lengthsWith, listFaults, longTables, ownLengths}
+use Rattle.theory_timeline.specs.Replay.{readLengths, required, shareFaults, shortTables, tableLengths}
 use Rattle.theory_timeline.specs.Steps.{Sound}
 use Rattle.theory_timeline.specs.Windows.{Timeline, Window, active, asksAt, changesAt, during, event, openBefore, size}
 
@@ -185,18 +185,22 @@ pub sound-changes : (g : Timeline) → Sound g → (i : ℕ) → i < size g → 
 sound-changes g s i l = fine-changes (sound-fine g s i l)
 
 -- ---- what an accepted replay was lent
-pub record Accepted (l : Lent) (p : ℕ) : Type 0 where
+-- but for the name table and the work table
+pub record AcceptedList (l : Lent) (p : ℕ) : Type 0 where
   pub n-fits : l .n ≤ 4096
   pub m-fits : l .m ≤ 8192
   pub t-fits : l .t ≤ 4096
   pub exact : Exact (l .m) (l .t) (l .a) (l .b) (l .start) (l .x) (l .y)
   pub answers-long : l .t ≤ length (l .answers)
-  pub names-long : l .t ≤ length (l .names)
-  pub work-long : required (l .t) (l .n) (l .m) ≤ length (l .work)
   pub share : Allowed p
   pub ends-fit : (s : ℕ) → s < l .m → badEnds (l .n) (l .a) (l .b) s ≡ false
   pub start-fits : (s : ℕ) → s < l .m → getD (l .start) s 0 ≤ 1
   pub events-fine : (i : ℕ) → i < l .t → faultAt l i ≡ 0
+
+pub record Accepted (l : Lent) (p : ℕ) : Type 0 where
+  pub list : AcceptedList l p
+  pub names-long : l .t ≤ length (l .names)
+  pub work-long : required (l .t) (l .n) (l .m) ≤ length (l .work)
 
 list-numbered : (l : Lent) → Numbered (listFaults l)
 unfolding listFaults
@@ -205,48 +209,56 @@ list-numbered l = (λ h. omega arith, (λ h. omega arith, (λ h. positive (seek-
     positive : {x : ℕ} → not (eqb x 0) ≡ true → 0 < x
     positive {x} h = let n : ¬ (x ≡ 0) = eqb-false x 0 (not-true (eqb x 0) h) in omega arith
 
-faults-numbered : (l : Lent) (p : ℕ) → Numbered (faults l p)
-unfolding faults
-faults-numbered l p =
-    numbered-append (sizeFaults (l .n) (l .m) (l .t) 0) (shortTables l ++ longTables l ++ shareFaults p ++ listFaults l) (sizes-numbered (l .n) (l .m) (l .t) 0)
-    (numbered-append (shortTables l) (longTables l ++ shareFaults p ++ listFaults l) (short-numbered (tableLengths l))
+faults-numbered : (rest : List (ℕ × ℕ)) (l : Lent) (p : ℕ) → Numbered (faultsWith rest l p)
+faults-numbered rest l p =
+    let short = shortRows (lengthsWith rest l) in
+    numbered-append (sizeFaults (l .n) (l .m) (l .t) 0) (short ++ (longTables l ++ (shareFaults p ++ listFaults l))) (sizes-numbered (l .n) (l .m) (l .t) 0)
+    (numbered-append short (longTables l ++ (shareFaults p ++ listFaults l)) (short-numbered (lengthsWith rest l))
     (numbered-append (longTables l) (shareFaults p ++ listFaults l) (long-numbered (readLengths l))
     (numbered-append (shareFaults p) (listFaults l) (λ h. omega arith, (λ h. omega arith, tt)) (list-numbered l))))
 
 -- where neither 2 nor 12 refuses, what is only read has exactly its stated length
-pub exact-from : (l : Lent) → Silent (shortTables l) → Silent (longTables l) → Exact (l .m) (l .t) (l .a) (l .b) (l .start) (l .x) (l .y)
-exact-from l s v =
-    let (la, (lb, (ls, (lx, (ly, _))))) = below-long 2 (tableLengths l) .0 s in
+exact-long : (rest : List (ℕ × ℕ)) (l : Lent) → Long (lengthsWith rest l) → Silent (longTables l) → Exact (l .m) (l .t) (l .a) (l .b) (l .start) (l .x) (l .y)
+exact-long rest l (la, (lb, (ls, (lx, (ly, _))))) v =
     let (ma, (mb, (ms, (mx, (my, _))))) = below-long 12 (readLengths l) .0 v in
     record { a-exact = omega arith; b-exact = omega arith; start-exact = omega arith; x-exact = omega arith; y-exact = omega arith }
 
-pub accepted-from : (l : Lent) (p : ℕ) → Faultless l p → Accepted l p
-unfolding fault faults listFaults
-accepted-from l p h =
-    let s = fault-silent (faults l p) (faults-numbered l p) h in
-    let a = silent-left (sizeFaults (l .n) (l .m) (l .t) 0) (shortTables l ++ longTables l ++ shareFaults p ++ listFaults l) s in
-    let r = silent-right (sizeFaults (l .n) (l .m) (l .t) 0) (shortTables l ++ longTables l ++ shareFaults p ++ listFaults l) s in
-    let short = silent-left (shortTables l) (longTables l ++ shareFaults p ++ listFaults l) r in
-    let (_, (_, (_, (_, (_, (lr, (ln, (lw, _)))))))) = below-long 2 (tableLengths l) .0 short in
-    let v = silent-right (shortTables l) (longTables l ++ shareFaults p ++ listFaults l) r in
+pub exact-from : (l : Lent) → Silent (shortTables l) → Silent (longTables l) → Exact (l .m) (l .t) (l .a) (l .b) (l .start) (l .x) (l .y)
+exact-from l s v = exact-long (ownLengths l) l (below-long 2 (tableLengths l) .0 s) v
+
+-- what is known where no row refuses: the tables of `rest` are as long as they must be, and each field of Accepted but those of names and work
+pub faultless-list : (rest : List (ℕ × ℕ)) (l : Lent) (p : ℕ) → firstFault (faultsWith rest l p) .0 ≡ 0 → AcceptedList l p × Long rest
+unfolding listFaults
+faultless-list rest l p h =
+    let short = shortRows (lengthsWith rest l) in
+    let s = fault-silent (faultsWith rest l p) (faults-numbered rest l p) h in
+    let a = silent-left (sizeFaults (l .n) (l .m) (l .t) 0) (short ++ (longTables l ++ (shareFaults p ++ listFaults l))) s in
+    let r = silent-right (sizeFaults (l .n) (l .m) (l .t) 0) (short ++ (longTables l ++ (shareFaults p ++ listFaults l))) s in
+    let long = below-long 2 (lengthsWith rest l) .0 (silent-left short (longTables l ++ (shareFaults p ++ listFaults l)) r) in
+    let v = silent-right short (longTables l ++ (shareFaults p ++ listFaults l)) r in
     let q = silent-right (longTables l) (shareFaults p ++ listFaults l) v in
     let c = silent-left (shareFaults p) (listFaults l) q in
     let e = silent-right (shareFaults p) (listFaults l) q in
-    record {
-      n-fits = ltb-false 4096 (l .n) (a .0);
-      m-fits = ltb-false 8192 (l .m) (a .1 .0);
-      t-fits = ltb-false 4096 (l .t) (a .1 .1 .0);
-      exact = exact-from l short (silent-left (longTables l) (shareFaults p ++ listFaults l) v);
-      answers-long = lr;
-      names-long = ln;
-      work-long = lw;
-      share = (ltb-false p 4 (c .0), ltb-false 12 p (c .1 .0));
-      ends-fit = λ s k. seek-none (badEnds (l .n) (l .a) (l .b)) (l .m) s (e .0) k;
-      start-fits = λ s k. ltb-false 1 (getD (l .start) s 0) (seek-none (badStart (l .start)) (l .m) s (e .1 .0) k);
-      events-fine = λ i k. eqb-true (faultAt l i) 0 (not-false (eqb (faultAt l i) 0) (seek-none (λ i. not (eqb (faultAt l i) 0)) (l .t) i (e .1 .1 .0) k));
-    }
+    let (_, (_, (_, (_, (_, (lr, others)))))) = long in (
+      record {
+        n-fits = ltb-false 4096 (l .n) (a .0);
+        m-fits = ltb-false 8192 (l .m) (a .1 .0);
+        t-fits = ltb-false 4096 (l .t) (a .1 .1 .0);
+        exact = exact-long rest l long (silent-left (longTables l) (shareFaults p ++ listFaults l) v);
+        answers-long = lr;
+        share = (ltb-false p 4 (c .0), ltb-false 12 p (c .1 .0));
+        ends-fit = λ s k. seek-none (badEnds (l .n) (l .a) (l .b)) (l .m) s (e .0) k;
+        start-fits = λ s k. ltb-false 1 (getD (l .start) s 0) (seek-none (badStart (l .start)) (l .m) s (e .1 .0) k);
+        events-fine = λ i k. eqb-true (faultAt l i) 0 (not-false (eqb (faultAt l i) 0) (seek-none (λ i. not (eqb (faultAt l i) 0)) (l .t) i (e .1 .1 .0) k));
+      },
+      others,
+    )
 
-module _ (l : Lent) (p : ℕ) (a : Accepted l p) where
+pub accepted-from : (l : Lent) (p : ℕ) → Faultless l p → Accepted l p
+unfolding fault faults
+accepted-from l p h = let (a, (ln, (lw, _))) = faultless-list (ownLengths l) l p h in record { list = a; names-long = ln; work-long = lw }
+
+module _ (l : Lent) (p : ℕ) (a : AcceptedList l p) where
   pub events-length : size (given l) ≡ l .t
   unfolding given
   events-length = pairs-both (l .x) (l .y) (a .exact .x-exact) (a .exact .y-exact)
@@ -293,11 +305,14 @@ first-append : (rs bs cs : List Row) → firstFault bs ≡ firstFault cs → fir
 first-append [] bs cs h = h
 first-append (r ∷ rs) bs cs h = ap (λ (f : Refusal). cond (r .test) (r .code, r .place) f) (first-append rs bs cs h)
 
-pub fault-share : (l : Lent) (p q : ℕ) → Allowed p → Allowed q → fault l p ≡ fault l q
-unfolding fault faults
-fault-share l p q a b =
-    first-append (sizeFaults (l .n) (l .m) (l .t) 0) (shortTables l ++ longTables l ++ shareFaults p ++ listFaults l)
-    (shortTables l ++ longTables l ++ shareFaults q ++ listFaults l)
-    (first-append (shortTables l) (longTables l ++ shareFaults p ++ listFaults l) (longTables l ++ shareFaults q ++ listFaults l)
+pub faults-share : (rest : List (ℕ × ℕ)) (l : Lent) (p q : ℕ) → Allowed p → Allowed q → firstFault (faultsWith rest l p) ≡ firstFault (faultsWith rest l q)
+faults-share rest l p q a b =
+    let short = shortRows (lengthsWith rest l) in
+    first-append (sizeFaults (l .n) (l .m) (l .t) 0) (short ++ (longTables l ++ (shareFaults p ++ listFaults l))) (short ++ (longTables l ++ (shareFaults q ++ listFaults l)))
+    (first-append short (longTables l ++ (shareFaults p ++ listFaults l)) (longTables l ++ (shareFaults q ++ listFaults l))
     (first-append (longTables l) (shareFaults p ++ listFaults l) (shareFaults q ++ listFaults l)
     (skip-silent (shareFaults p) (listFaults l) (share-silent p a) ∙ sym (skip-silent (shareFaults q) (listFaults l) (share-silent q b)))))
+
+pub fault-share : (l : Lent) (p q : ℕ) → Allowed p → Allowed q → fault l p ≡ fault l q
+unfolding fault faults
+fault-share l p q a b = faults-share (ownLengths l) l p q a b

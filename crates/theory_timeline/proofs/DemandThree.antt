@@ -28,7 +28,7 @@ use Rattle.theory_names.proofs.NamedTransfer.{hangs-transfer}
 use Rattle.theory_names.specs.Names.{Named, classNode, hangs, plain}
 use Rattle.theory_names.specs.NamedSmallGraph.{IsNamedSmallGraph, imageNamed}
 use Rattle.call_sizes.specs.Refusal.{Refusal}
-use Rattle.theory_timeline.proofs.Acceptance.{Accepted, Good, accepted-from, accepted-good, events-length, fault-share, pick-inside}
+use Rattle.theory_timeline.proofs.Acceptance.{AcceptedList, Good, accepted-from, accepted-good, events-length, fault-share, pick-inside}
 use Rattle.theory_timeline.proofs.Networks.{network-different}
 use Rattle.theory_timeline.proofs.RoadLaws.{different-answer, different-append}
 use Rattle.theory_timeline.proofs.RoadNames.{different-name}
@@ -39,7 +39,7 @@ use Rattle.theory_timeline.specs.Roads.{DifferentRoads, roadName}
 use Rattle.theory_timeline.specs.Windows.{Timeline, Window, active, atStart, kept, network, size, small, smallNamed, stands, windows}
 
 -- ---- one window
-within-among : (S : List ℕ) (F : List Edge) → Among S F → endsIn (member S) F ≡ true
+pub within-among : (S : List ℕ) (F : List Edge) → Among S F → endsIn (member S) F ≡ true
 within-among S [] h = refl
 within-among S (e ∷ F) h =
     let (p, q) = h e (List·Memᴰ·head refl) in
@@ -99,14 +99,14 @@ module _ (g : Timeline) (good : Good g) (w : Window) where
 
 -- ---- two replays
 -- an accepted replay has the outcome `done`, and is one without a fault
-pub replay-done : (l : Lent) (p : ℕ) → (replay l p) .accepted ≡ true → (replay l p ≡ done l p) × Accepted l p
+pub replay-done : (l : Lent) (p : ℕ) → (replay l p) .accepted ≡ true → (replay l p ≡ done l p) × AcceptedList l p
 unfolding replay refused
 replay-done l p = go (eqb (fault l p .0) 0) refl
   where
     go : (b : Bool) → eqb (fault l p .0) 0 ≡ b
         → (elim b as (λ x. Outcome) [ true ↦ done l p | false ↦ refused l (fault l p) ]) .accepted ≡ true
-        → ((elim b as (λ x. Outcome) [ true ↦ done l p | false ↦ refused l (fault l p) ]) ≡ done l p) × Accepted l p
-    go true e h = (refl, accepted-from l p (eqb-true (fault l p .0) 0 e))
+        → ((elim b as (λ x. Outcome) [ true ↦ done l p | false ↦ refused l (fault l p) ]) ≡ done l p) × AcceptedList l p
+    go true e h = (refl, accepted-from l p (eqb-true (fault l p .0) 0 e) .list)
     go false e h = contradict h refl
 
 pub accepted-done : (l : Lent) (p : ℕ) → fault l p .0 ≡ 0 → replay l p ≡ done l p
@@ -121,29 +121,29 @@ done-verdict l p = go (eqb (fault l p .0) 0) refl
     go true e h = eqb-true (fault l p .0) 0 e
     go false e h = contradict h refl
 
-range-length : (i n : ℕ) → length (range i n) ≡ n
+pub range-length : (i n : ℕ) → length (range i n) ≡ n
 range-length i zero = refl
 range-length i (suc n) = ap suc (range-length (suc i) n)
 
 -- the first T entries of the answer table are the answer bytes
-pub bytes-length : (l : Lent) (p : ℕ) → Accepted l p → length (bytes (given l)) ≡ l .t
+pub bytes-length : (l : Lent) (p : ℕ) → AcceptedList l p → length (bytes (given l)) ≡ l .t
 unfolding bytes
 bytes-length l p a = length-map (range 0 (size (given l))) _ ∙ range-length 0 (size (given l)) ∙ events-length l p a
 
-pub answers-first : (l : Lent) (p : ℕ) → Accepted l p → take (l .t) ((done l p) .answers) ≡ bytes (given l)
+pub answers-first : (l : Lent) (p : ℕ) → AcceptedList l p → take (l .t) ((done l p) .answers) ≡ bytes (given l)
 unfolding done
 answers-first l p a = take-at (bytes (given l)) (drop (length (bytes (given l))) (l .answers)) (l .t) (bytes-length l p a)
 
 -- and of the name table the names
-pub names-length : (l : Lent) (p : ℕ) → Accepted l p → length (namesAt (given l)) ≡ l .t
+pub names-length : (l : Lent) (p : ℕ) → AcceptedList l p → length (namesAt (given l)) ≡ l .t
 unfolding namesAt
 names-length l p a = length-map (range 0 (size (given l))) _ ∙ range-length 0 (size (given l)) ∙ events-length l p a
 
-pub names-first : (l : Lent) (p : ℕ) → Accepted l p → take (l .t) ((done l p) .names) ≡ namesAt (given l)
+pub names-first : (l : Lent) (p : ℕ) → AcceptedList l p → take (l .t) ((done l p) .names) ≡ namesAt (given l)
 unfolding done
 names-first l p a = take-at (namesAt (given l)) (drop (length (namesAt (given l))) (l .names)) (l .t) (names-length l p a)
 
-alike-given : (l k : Lent) → Alike l k → given l ≡ given k
+pub alike-given : (l k : Lent) → Alike l k → given l ≡ given k
 unfolding given
 alike-given l k h = λ i. record { junctions = h .n i; segments = pairs (h .a i) (h .b i); start = atStart (h .start i); events = pairs (h .x i) (h .y i) }
 

@@ -27,7 +27,7 @@ use Rattle.theory_timeline.specs.Roads.{road}
 use Rattle.theory_timeline.specs.Windows.{Timeline, active, asksAt, during, event, network, openBefore, openGraph, size, small, smallNamed}
 
 -- a query by itself: its network is all that is open
-query-network : (n : ℕ) (segs : List Edge) (q : Event) (o : SegmentSet) → changes n q ≡ false → networkOf n segs (q ∷ []) o ≡ pick (openRoads segs o) 0 segs
+pub query-network : (n : ℕ) (segs : List Edge) (q : Event) (o : SegmentSet) → changes n q ≡ false → networkOf n segs (q ∷ []) o ≡ pick (openRoads segs o) 0 segs
 unfolding networkOf
 query-network n segs q o h = pick-ext (λ r. openRoads segs o r && not (namedRoads n segs (q ∷ []) r)) (openRoads segs o) same 0 segs
   where

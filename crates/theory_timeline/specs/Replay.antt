@@ -77,18 +77,23 @@ eventFault n m o e = faultOfKind n m o (e .1) (kindOf n (e .0))
 unfoldable pub faultAt : Lent → ℕ → ℕ
 faultAt l i = eventFault (l .n) (l .m) (openBefore (given l) i) (event (given l) i)
 
--- refusal 2: the length of each table, and its least length
-abbrev pub tableLengths : Lent → List (ℕ × ℕ)
-tableLengths l =
+-- refusal 2: the length of each table, and its least length. First the tables that the sibling (document 02, No. 8) is lent too, which `rest` follow
+abbrev pub lengthsWith : List (ℕ × ℕ) → Lent → List (ℕ × ℕ)
+lengthsWith rest l =
     (length (l .a), l .m)
     ∷ (length (l .b), l .m)
     ∷ (length (l .start), l .m)
     ∷ (length (l .x), l .t)
     ∷ (length (l .y), l .t)
     ∷ (length (l .answers), l .t)
-    ∷ (length (l .names), l .t)
-    ∷ (length (l .work), required (l .t) (l .n) (l .m))
-    ∷ []
+    ∷ rest
+
+-- the name table, and the work table
+abbrev pub ownLengths : Lent → List (ℕ × ℕ)
+ownLengths l = (length (l .names), l .t) ∷ (length (l .work), required (l .t) (l .n) (l .m)) ∷ []
+
+abbrev pub tableLengths : Lent → List (ℕ × ℕ)
+tableLengths l = lengthsWith (ownLengths l) l
 
 abbrev pub shortTables : Lent → List Row
 shortTables l = shortRows (tableLengths l)
@@ -121,9 +126,12 @@ listFaults l =
     let i : ℕ = seek (λ i. not (eqb (faultAt l i) 0)) 0 (l .t) in
     row (ltb s (l .m)) 4 s ∷ row (ltb u (l .m)) 11 u ∷ row (ltb i (l .t)) (faultAt l i) i ∷ []
 
--- 1, 2, 12, 3, then those of the list
+-- 1, 2, 12, 3, then those of the list; 2 speaks of the tables of `rest` too
+abbrev pub faultsWith : List (ℕ × ℕ) → Lent → ℕ → List Row
+faultsWith rest l p = sizeFaults (l .n) (l .m) (l .t) 0 ++ (shortRows (lengthsWith rest l) ++ (longTables l ++ (shareFaults p ++ listFaults l)))
+
 unfoldable pub faults : Lent → ℕ → List Row
-faults l p = sizeFaults (l .n) (l .m) (l .t) 0 ++ shortTables l ++ longTables l ++ shareFaults p ++ listFaults l
+faults l p = faultsWith (ownLengths l) l p
 
 unfoldable pub fault : Lent → ℕ → Refusal
 fault l p = firstFault (faults l p)

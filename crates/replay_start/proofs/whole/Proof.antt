@@ -1,12 +1,16 @@
 -- What is loaded, and the area made out of it.
+use mathlib.Core.Path.{refl}
 use native.Mathlib.Omega.{arith}
-use borrow.Author.Needs.{needs}
 use Rattle.replay_start.proofs.WholeLaws.{whole-made, whole-need}
+use borrow.Author.Needs.{needs}
 use Rattle.replay_start.proofs.whole.Statement.{statement}
 use Rattle.replay_start.proofs.whole.Tie as tie
 
 load-whole-requires : tie.Need-load-whole-requires
 load-whole-requires c κs = whole-need (c .before .before .before .before .pre)
+
+make-area-requires : tie.Need-make-area-requires
+make-area-requires c κs = (c .before .before .before .load-whole .ensures .ready, refl)
 
 returns : tie.Need-returns
 returns c =
@@ -16,4 +20,13 @@ returns c =
     whole-made (start .pre) (at-load-whole .load-whole .ensures) (omega arith) (at-make-area .make-area .ensures)
 
 pub whole-spec : {M : Type 1} → statement M
-whole-spec = tie.close (tie.spec (λ c. search needs) load-whole-requires (λ c κs. search needs) (λ c. search needs) returns)
+whole-spec =
+    tie.close
+    (tie.spec
+    (λ c. search needs)
+    (λ c. search needs)
+    (λ c. search needs)
+    load-whole-requires
+    make-area-requires
+    (λ c. search needs)
+    returns)

@@ -1,22 +1,25 @@
 -- What is loaded, and the area made out of it.
 use mathlib.Core.Path.{refl}
 use native.Mathlib.Omega.{arith}
-use Rattle.replay_step.proofs.StepLaws.{part-ready, stepped}
+use Rattle.replay_step.proofs.StepLaws.{load-ready, part-ready, stepped}
 use borrow.Author.Needs.{needs}
 use Rattle.replay_step.proofs.step.Statement.{statement}
 use Rattle.replay_step.proofs.step.Tie as tie
 
 load-part-requires : tie.Need-load-part-requires
 load-part-requires c κs =
-    let start = c .before .before .before .before .before .before in
-    (part-ready (start .pre) _ (omega arith), record { places = omega arith; words = omega arith; area = refl })
+    let start = c .before .before .before .before .before .before .before .before in
+    load-ready (part-ready (start .pre) _ (omega arith)) (record { places = omega arith; words = omega arith; area = refl; scratch = refl })
+
+make-area-requires : tie.Need-make-area-requires
+make-area-requires c κs = (c .before .before .before .load-part .ensures .ready, refl)
 
 returns : tie.Need-returns
 returns c =
     let at-make-area = c .before .before in
     let at-load-part = at-make-area .before .before .before .before in
-    let start = at-load-part .before .before .before .before .before .before .before in
-    stepped (part-ready (start .pre) _ (omega arith)) (record { places = omega arith; words = omega arith; area = refl })
+    let start = at-load-part .before .before .before .before .before .before .before .before .before in
+    stepped (part-ready (start .pre) _ (omega arith)) (record { places = omega arith; words = omega arith; area = refl; scratch = refl })
     (at-load-part .load-part .ensures) (omega arith) (at-make-area .make-area .ensures) _ (omega (arith, start .pre .starts))
 
 pub step-spec : {M : Type 1} → statement M
@@ -30,7 +33,11 @@ step-spec =
     (λ c. search needs)
     (λ c. search needs)
     (λ c. search needs)
+    (λ c. search needs)
+    (λ c. search needs)
+    (λ c. search needs)
+    (λ c. search needs)
     load-part-requires
-    (λ c κs. search needs)
+    make-area-requires
     (λ c. search needs)
     returns)

@@ -10,22 +10,20 @@ use Rattle.replay_step.proofs.beside.add_event.Tie as tie
 
 returns : tie.Need-returns
 returns c =
-    let start = c .before .before .before .before in
-    add-none (start .pre .0) (sym (c .before .event-adds .ensures) ∙ not-true _ (c .if1 .taken))
+    let at-event-adds = c .before in
+    let start = at-event-adds .before .before .before in
+    add-none (start .pre .0) (sym (at-event-adds .event-adds .ensures) ∙ not-true _ (c .if1 .taken))
 
 sub-c : tie.Need-sub-c
 sub-c c =
-    let at-word3 = c in
-    let at-word2 = at-word3 .before .before .before in
-    let at-word = at-word2 .before .before in
-    let at-if1 = at-word .before .before in
+    let at-if1 = c .before .before .before .before .before .before .before in
     let at-event-adds = at-if1 .before in
     let start = at-event-adds .before .before .before in
-    omega (arith, at-word3 .word3 .ensures .0, adds-tag (start .pre .0) (sym (at-event-adds .event-adds .ensures) ∙ not-false _ (at-if1 .if1 .left)))
+    omega (arith, c .word3 .ensures .0, adds-tag (start .pre .0) (sym (at-event-adds .event-adds .ensures) ∙ not-false _ (at-if1 .if1 .left)))
 
 put-edge-requires : tie.Need-put-edge-requires
 put-edge-requires c κs =
-    let at-word3 = c .before .before .before in
+    let at-word3 = c .before in
     let at-word2 = at-word3 .before .before .before in
     let at-word = at-word2 .before .before in
     let start = at-word .before .before .before .before .before .before in
@@ -34,7 +32,7 @@ put-edge-requires c κs =
 returns-2 : tie.Need-returns-2
 returns-2 c =
     let at-put-edge = c .before .before in
-    let at-word3 = at-put-edge .before .before .before .before in
+    let at-word3 = at-put-edge .before .before in
     let at-word2 = at-word3 .before .before .before in
     let at-word = at-word2 .before .before in
     let at-if1 = at-word .before .before in
@@ -60,8 +58,6 @@ add-event-spec =
     (λ c. search needs)
     (λ c κs. search needs)
     sub-c
-    (λ c. search needs)
-    (λ c. search needs)
     (λ c. search needs)
     (λ c. search needs)
     (λ c. search needs)
