@@ -1,0 +1,2 @@
+pub mod JunctionCheckLaws
+pub mod JunctionCallLaws

@@ -1,0 +1,28 @@
+-- What the checks of the sibling find; what the windows of a whole list are given, and what they leave.
+-- Assumes nothing: these are definitions.
+use Prim.Native.Nat.{_*_, _+_, _≤_, ℕ}
+use mathlib.Core.List.{List}
+use mathlib.Core.Path.{_≡_}
+use lib.ListN.{length}
+use lib.Seq.{sets}
+use Rattle.replay_checks.specs.declared.Checked.{Checked}
+use Rattle.replay_events.specs.Writing.{CanWriteEvents, listOf}
+use Rattle.theory_graph.specs.Lists.{table}
+use Rattle.theory_timeline.specs.DemandThree.{Allowed}
+use Rattle.theory_timeline.specs.Replay.{Lent, given, openAtEnd}
+use Rattle.theory_junction_timeline.specs.JunctionReplay.{JunctionFaultless, junctionByte, junctionFault}
+
+-- the first fault; where there is none, how many segments are open at the end
+pub record JunctionChecked (l : Lent) (p : ℕ) (r : Checked) : Type 0 where
+  pub refusal : (r .code, r .place) ≡ junctionFault l p
+  pub open-last : JunctionFaultless l p → r .«open» ≡ openAtEnd (given l)
+
+-- a list without a fault, tables of just its sizes, and room
+pub record JunctionListReady (n p : ℕ) (a b start x y answers work : List ℕ) : Type 0 where
+  pub events : CanWriteEvents n a b start x y work
+  pub share : Allowed p
+  pub long : length x ≤ length answers
+  pub room : 345 * length x + 28 * n + 8 * length a ≤ length work
+
+abbrev pub JunctionListReplied : ℕ → List ℕ → List ℕ → List ℕ → List ℕ → List ℕ → List ℕ → List ℕ → Type 0
+JunctionListReplied n a b start x y before after = after ≡ sets before 0 (table (junctionByte (listOf n a b start x y)) 0 (length x))

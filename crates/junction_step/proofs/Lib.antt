@@ -1,0 +1,2 @@
+pub mod JunctionAreaLaws
+pub mod JunctionStepLaws

@@ -1,0 +1,222 @@
+-- The sibling's recursion over windows: a window of one event, what a step and a part need, and how the two parts join to a window.
+-- In order: edges one after another; the byte case by case; a window of one event; a step and a part; a window of two parts.
+-- Assumes nothing.
+use Prim.Native.Nat.{_*_, _+_, _-_, _<_, _≤_, suc, zero, ℕ}
+use mathlib.Core.Bool.{Bool, _&&_, _||_, cond, false, not, true}
+use mathlib.Core.List.{List, List·Memᴰ, List·Memᴰ·head, List·Memᴰ·tail, [], _++_, _∷_, map}
+use mathlib.Core.Path.{_∙_, _≡_, ap, ap₂, refl, subst, sym}
+use lib.Dec.{eqb, ltb}
+use lib.ListN.{drop, getD, length, length-drop, length-take, set, take}
+use lib.Seq.{getD-drop, getD-take, sets}
+use native.Mathlib.Omega.{arith}
+use borrow.Author.Tests.{eq-eqb, eqb-false, eqb-true, ltb-true, ne-eqb}
+use borrow.Rule.Slice.PartMut.{putMid, take-put}
+use Rattle.theory_graph.proofs.Booleans.{onBool}
+use Rattle.theory_graph.proofs.Lists.{table-in}
+use Rattle.theory_graph.proofs.TableLaws.{table-equal, table-map, table-more}
+use Rattle.theory_graph.specs.Graph.{Edge}
+use Rattle.theory_graph.specs.Lists.{table}
+use Rattle.theory_graph.specs.SmallGraph.{noEdge}
+use Rattle.theory_junctions.specs.Reply.{adjacent, readReply}
+use Rattle.theory_names.specs.Names.{Entry, plain}
+use Rattle.theory_timeline.specs.Steps.{Sound}
+use Rattle.theory_timeline.specs.Tags.{endsAt}
+use Rattle.theory_timeline.specs.Windows.{Timeline, active, asksAt, event, firstPart, network, size}
+use Rattle.theory_junction_timeline.proofs.JunctionNetworks.{change-byte, leaf-byte}
+use Rattle.theory_junction_timeline.specs.JunctionReplay.{junctionByte}
+use Rattle.theory_junction_timeline.specs.ReducedGraph.{IsReducedGraph}
+use Rattle.replay_step.proofs.LeafLaws.{leaf-asks, leaf-changes, leaf-nodes}
+use Rattle.replay_step.proofs.WordLaws.{sets-two}
+use Rattle.replay_step.specs.Load.{edgeAt}
+use Rattle.replay_step.specs.declared.Window.{Window}
+use Rattle.replay_windows.proofs.DescentLaws.{lent-take, shares}
+use Rattle.junction_step.proofs.JunctionStepLaws.{area-nodes, graph-table}
+use Rattle.junction_step.specs.JunctionArea.{JunctionArea, JunctionStepReady, JunctionStepped, areaGraph}
+use Rattle.junction_windows.specs.JunctionDescent.{JunctionOneDone, JunctionWindowDone, JunctionWindowReady, byteAt, hits, leafGraph}
+
+-- ---- one edge
+module _ (a b x y : ℕ) where
+  pub both-no : ¬ (a ≡ x) → false ≡ (eqb a x && eqb b y)
+  both-no n = sym (ap (λ (t : Bool). t && eqb b y) (ne-eqb a x n))
+
+  pub both-yes : a ≡ x → eqb b y ≡ (eqb a x && eqb b y)
+  both-yes e = sym (ap (λ (t : Bool). t && eqb b y) (eq-eqb a x e))
+
+  pub meets-fore : {r : Bool} → r ≡ (eqb a x && eqb b y) → r ≡ true → true ≡ hits (a, b) x y
+  meets-fore e h = sym (ap (λ (t : Bool). t || eqb a y && eqb b x) (sym e ∙ h))
+
+  pub meets-back : {r t : Bool} → r ≡ (eqb a x && eqb b y) → r ≡ false → t ≡ (eqb a y && eqb b x) → t ≡ hits (a, b) x y
+  meets-back e h k = k ∙ sym (ap (λ (t : Bool). t || eqb a y && eqb b x) (sym e ∙ h))
+
+-- ---- edges one after another
+adjacent-more : (G : List Edge) (e : Edge) (x y : ℕ) → adjacent (G ++ (e ∷ [])) x y ≡ (adjacent G x y || hits e x y)
+adjacent-more [] e x y = go (eqb (e .0) x && eqb (e .1) y) (eqb (e .0) y && eqb (e .1) x)
+  where
+    go : (a b : Bool) → (a || b || false) ≡ (a || b)
+    go true b = refl
+    go false true = refl
+    go false false = refl
+adjacent-more (d ∷ G) e x y = ap (λ (b : Bool). hits d x y || b) (adjacent-more G e x y) ∙ go (hits d x y) (adjacent G x y) (hits e x y)
+  where
+    go : (a b c : Bool) → (a || (b || c)) ≡ (a || b || c)
+    go true b c = refl
+    go false b c = refl
+
+adjacent-in : (G : List Edge) (e : Edge) (x y : ℕ) → List·Memᴰ e G → hits e x y ≡ true → adjacent G x y ≡ true
+adjacent-in (d ∷ G) e x y (List·Memᴰ·head p) h = ap (λ (b : Bool). b || adjacent G x y) (ap (λ (d : Edge). hits d x y) (sym p) ∙ h)
+adjacent-in (d ∷ G) e x y (List·Memᴰ·tail m) h = go (hits d x y) (adjacent-in G e x y m h)
+  where
+    go : (a : Bool) {b : Bool} → b ≡ true → (a || b) ≡ true
+    go true h = refl
+    go false h = h
+
+module _ (v : List ℕ) (x y : ℕ) where
+  abbrev at : ℕ → Edge
+  at j = (getD v (5 + j) 0, getD v (13 + j) 0)
+
+  pub joins-none : (j : ℕ) → adjacent (leafGraph j v) x y ≡ false → hits (at j) x y ≡ false → adjacent (leafGraph (j + 1) v) x y ≡ false
+  joins-none j h k = ap (λ (G : List Edge). adjacent G x y) (table-more at j) ∙ adjacent-more (table at 0 j) (at j) x y ∙ ap₂ _||_ h k
+
+  pub joins-some : (m j : ℕ) → j < m → hits (at j) x y ≡ true → adjacent (leafGraph m v) x y ≡ true
+  joins-some m j l h = adjacent-in (leafGraph m v) (at j) x y (table-in at 0 m j (omega arith) (omega arith)) h
+
+-- ---- the byte case by case
+leaf-none : (m : ℕ) (v : List ℕ) → noEdge (leafGraph m v) ≡ eqb m 0
+leaf-none zero v = sym (eq-eqb 0 0 refl)
+leaf-none (suc m) v = sym (ne-eqb (suc m) 0 (λ z. omega arith))
+
+module _ (m : ℕ) (v : List ℕ) where
+  abbrev asked : ℕ
+  asked = readReply (leafGraph m v) (getD v 0 0) (getD v 1 0)
+
+  pub byte-3 : ¬ (getD v 2 0 ≡ 0) → _≡_ {A = ℕ} 3 (byteAt m v)
+  byte-3 h = sym (ap (λ (b : Bool). cond b asked 3) (ne-eqb (getD v 2 0) 0 h))
+
+  byte-asked : getD v 2 0 ≡ 0 → byteAt m v ≡ asked
+  byte-asked z = ap (λ (b : Bool). cond b asked 3) (eq-eqb (getD v 2 0) 0 z)
+
+  pub byte-equal : getD v 2 0 ≡ 0 → getD v 0 0 ≡ getD v 1 0 → _≡_ {A = ℕ} 2 (byteAt m v)
+  byte-equal z e =
+      sym (byte-asked z ∙ ap (λ (b : Bool). cond (b || adjacent (leafGraph m v) (getD v 0 0) (getD v 1 0)) 2 (cond (noEdge (leafGraph m v)) 0 1)) (eq-eqb (getD v 0 0) (getD v 1 0) e))
+
+  module _ (z : getD v 2 0 ≡ 0) (n : ¬ (getD v 0 0 ≡ getD v 1 0)) where
+    apart : byteAt m v ≡ cond (adjacent (leafGraph m v) (getD v 0 0) (getD v 1 0)) 2 (cond (noEdge (leafGraph m v)) 0 1)
+    apart = byte-asked z ∙ ap (λ (b : Bool). cond (b || adjacent (leafGraph m v) (getD v 0 0) (getD v 1 0)) 2 (cond (noEdge (leafGraph m v)) 0 1)) (ne-eqb (getD v 0 0) (getD v 1 0) n)
+
+    pub byte-near : adjacent (leafGraph m v) (getD v 0 0) (getD v 1 0) ≡ true → _≡_ {A = ℕ} 2 (byteAt m v)
+    byte-near h = sym (apart ∙ ap (λ (b : Bool). cond b 2 (cond (noEdge (leafGraph m v)) 0 1)) h)
+
+    pub byte-zero : adjacent (leafGraph m v) (getD v 0 0) (getD v 1 0) ≡ false → m ≡ 0 → _≡_ {A = ℕ} 0 (byteAt m v)
+    byte-zero h e = sym (apart ∙ ap₂ (λ (a b : Bool). cond a 2 (cond b 0 1)) h (leaf-none m v ∙ eq-eqb m 0 e))
+
+    pub byte-one : adjacent (leafGraph m v) (getD v 0 0) (getD v 1 0) ≡ false → ¬ (m ≡ 0) → _≡_ {A = ℕ} 1 (byteAt m v)
+    byte-one h e = sym (apart ∙ ap₂ (λ (a b : Bool). cond a 2 (cond b 0 1)) h (leaf-none m v ∙ ne-eqb m 0 e))
+
+-- ---- a window of one event
+module _ {w : Window} (v : List ℕ) (one : w .events ≡ 1) (l : 29 ≤ length v) (g : Timeline) (sound : Sound g) (i : w .at < size g) (a : JunctionArea g w (take 29 v)) where
+  -- a query's are those that it names
+  query-ends : asksAt g (w .at) ≡ true → endsAt g (w .at) ≡ event g (w .at)
+  query-ends q = ap (λ (b : Bool). cond b (event g (w .at)) (getD (g .segments) (event g (w .at) .1) (0, 0))) q
+
+  graph-is : areaGraph (w .events) (w .edges) (take 29 v) ≡ leafGraph (w .edges) v
+  graph-is =
+      let z : 29 * w .events ≡ 29 = omega arith in
+      ap (λ (k : ℕ). areaGraph (w .events) (w .edges) (take k v)) (sym z)
+      ∙ graph-table (w .events) (w .edges) v (omega arith) (a .few)
+      ∙ table-map (λ (e : Entry). e .0) (edgeAt (5 * w .events) (8 * w .events) v) 0 (w .edges)
+      ∙ table-equal _ _ 0 (w .edges) (λ j b c.
+      let x : 5 * w .events + j ≡ 5 + j = omega arith in
+      let y : 5 * w .events + 8 * w .events + j ≡ 13 + j = omega arith in
+      ap₂ (λ (s t : ℕ). (getD v s 0, getD v t 0)) x y)
+
+  pub byte-is : byteAt (w .edges) v ≡ junctionByte g (w .at)
+  byte-is = onBool (eqb (getD v 2 0) 0)
+      (λ t. let z = eqb-true (getD v 2 0) 0 t in
+      let q = leaf-asks w one 29 v (omega arith) g sound i (a .σ) (a .events) z in
+      let (e, f) = leaf-nodes w one 29 v (omega arith) g sound i (a .σ) (a .events) in
+      let G : IsReducedGraph (plain (network g (w .at, 1))) (active g (w .at, 1)) (w .nodes) (leafGraph (w .edges) v) (a .σ) =
+      subst (λ (n : ℕ). IsReducedGraph (plain (network g (w .at, n))) (active g (w .at, n)) (w .nodes) (leafGraph (w .edges) v) (a .σ)) one
+      (subst (λ (H : List Edge). IsReducedGraph (plain (network g (w .at, w .events))) (active g (w .at, w .events)) (w .nodes) H (a .σ)) graph-is (a .graph)) in
+      byte-asked (w .edges) v z
+      ∙ ap₂ (readReply (leafGraph (w .edges) v)) (e ∙ ap (λ (d : Edge). a .σ (d .0)) (query-ends q)) (f ∙ ap (λ (d : Edge). a .σ (d .1)) (query-ends q))
+      ∙ sym (leaf-byte g (w .at) i q (w .nodes) (leafGraph (w .edges) v) (a .σ) G))
+      (λ t. let h = eqb-false (getD v 2 0) 0 t in sym (byte-3 (w .edges) v h) ∙ sym (change-byte g (w .at) (leaf-changes w one 29 v (omega arith) g sound i (a .σ) (a .events) h)))
+
+module _ {w : Window} {p : ℕ} {answers v : List ℕ} (r : JunctionWindowReady w p answers v) where
+  abbrev n : ℕ
+  n = w .events
+
+  pub byte-need : n ≡ 1 → (w .edges ≤ 8) × (29 ≤ length v)
+  byte-need one = (omega (arith, r .area .few), omega (arith, r .room))
+
+  pub one-done : n ≡ 1 → {after : List ℕ} (b : ℕ) → b ≡ byteAt (w .edges) v → after ≡ set answers (w .at) b → JunctionOneDone w (take 29 v) answers after
+  one-done one b e x g s i a = x ∙ ap (set answers (w .at)) (e ∙ byte-is v one (omega (arith, r .room)) g s i a)
+
+  pub done-one : n ≡ 1 → (after : List ℕ) → JunctionOneDone w (take 29 v) answers after → JunctionWindowDone w (take (29 * n) v) answers after
+  done-one e after o g s i a = let z : 29 * n ≡ 29 = omega arith in o g s (omega arith) (rw z at a) ∙ rw e refl
+
+  -- ---- a step and a part
+  pub step-ready : (lo c : ℕ) (z : List ℕ) → w .at ≤ lo → lo + c ≤ w .at + n → 0 < c → length z ≡ length v → take (29 * n) z ≡ take (29 * n) v → JunctionStepReady w lo c z
+  step-ready lo c z a b s e f = record {
+    g = r .g;
+    sound = r .sound;
+    inside = r .inside;
+    area = rw f (r .area);
+    starts = a;
+    ends = b;
+    some = s;
+    room = omega (arith, r .room, area-nodes (r .sound) (r .inside) v (omega (arith, r .room)) (r .area) .0, r .area .few);
+    much = r .much;
+  }
+
+  -- what a step leaves for the part, in the words that are lent on
+  module _ {lo c : ℕ} {y z : List ℕ} {k : Window} (t : JunctionStepped w lo c y z k) (f : take (29 * n) y ≡ take (29 * n) v) (e : length z ≡ length v)
+      (b : lo + c ≤ w .at + n) (lo-ok : w .at ≤ lo) where
+    part-area : (g : Timeline) → Sound g → w .at + n ≤ size g → JunctionArea g w (take (29 * n) v) → JunctionArea g k (take (29 * k .events) (take (length z - 29 * n) (drop (29 * n) z)))
+    part-area g sound i a =
+        let x : 29 * n + 29 * k .events ≤ length z = omega (arith, r .room, t .events) in
+        let h : take (29 * c) (drop (29 * n) z) ≡ take (29 * k .events) (take (length z - 29 * n) (drop (29 * n) z)) =
+        ap (λ (m : ℕ). take (29 * m) (drop (29 * n) z)) (sym (t .events)) ∙ sym (lent-take (29 * n) (29 * k .events) z x) in
+        subst (λ (v : List ℕ). JunctionArea g k v) h (t .made g sound i (rw f a))
+
+    pub part-ready : (answers′ : List ℕ) → length answers′ ≡ length answers → 0 < c → 11 * c ≤ 10 * n → JunctionWindowReady k p answers′ (take (length z - 29 * n) (drop (29 * n) z))
+    part-ready answers′ l s h = record {
+      g = r .g;
+      sound = r .sound;
+      inside = omega (arith, r .inside, t .at, t .events);
+      area = part-area (r .g) (r .sound) (r .inside) (r .area);
+      some = omega (arith, t .events);
+      much = omega (arith, r .much, t .at, t .events);
+      share = r .share;
+      long = omega (arith, r .long, t .at, t .events);
+      room = rw (length-take, length-drop) (omega (arith, r .room, t .events));
+    }
+
+  -- ---- a window of two parts
+  module _ (two : 2 ≤ n) {c : ℕ} (q : c ≡ firstPart p n) {w₁ : List ℕ} {a : Window} (s : JunctionStepped w (w .at) c v w₁ a) (l₁ : length w₁ ≡ length v) where
+    pub first-ready : (a .events < n) × JunctionWindowReady a p answers (take (length w₁ - 29 * n) (drop (29 * n) w₁))
+    first-ready =
+        let sh = shares p n two (r .share) in
+        let cn : (c < n) × (0 < c) × (11 * c ≤ 10 * n) = rw q (omega arith, omega arith, sh .first) in
+        (omega (arith, s .events), part-ready s refl l₁ (omega arith) (omega arith) answers refl (cn .1) (cn .2))
+
+    -- the words after the first part: the window's area is as it was
+    pub area-kept : (zs : List ℕ) → take (29 * n) (putMid (29 * n) (length w₁ - 29 * n) w₁ zs) ≡ take (29 * n) v
+    area-kept zs = take-put (29 * n) (length w₁ - 29 * n) w₁ zs (omega (arith, r .room)) ∙ s .front
+
+    module _ {w₂ w₃ : List ℕ} {d : Window} (f : take (29 * n) w₂ ≡ take (29 * n) v) (t : JunctionStepped w (w .at + c) (n - c) w₂ w₃ d) (l₃ : length w₃ ≡ length v) where
+      pub second-ready : (mid : List ℕ) → length mid ≡ length answers → (d .events < n) × JunctionWindowReady d p mid (take (length w₃ - 29 * n) (drop (29 * n) w₃))
+      second-ready mid l =
+          let sh = shares p n two (r .share) in
+          let cn : (c < n) × (0 < c) × (11 * (n - c) ≤ 10 * n) = rw q (omega arith, omega arith, sh .second) in
+          (omega (arith, t .events), part-ready t f l₃ (omega arith) (omega arith) mid l (omega arith) (cn .2))
+
+      pub done-two : {mid after : List ℕ} → JunctionWindowDone a (take (29 * a .events) (take (length w₁ - 29 * n) (drop (29 * n) w₁))) answers mid
+          → JunctionWindowDone d (take (29 * d .events) (take (length w₃ - 29 * n) (drop (29 * n) w₃))) mid after
+          → JunctionWindowDone w (take (29 * n) v) answers after
+      done-two {mid} {after} i j g o h z =
+          let sh = shares p n two (r .share) in
+          let cn : c ≤ n = rw q (omega arith) in
+          let u = rw (s .at, s .events) at (i g o (omega (arith, s .at, s .events)) (part-area s refl l₁ (omega arith) (omega arith) g o h z)) in
+          let x = rw (t .at, t .events) at (j g o (omega (arith, t .at, t .events)) (part-area t f l₃ (omega arith) (omega arith) g o h z)) in
+          x ∙ ap (λ m. sets m (w .at + c) (table (junctionByte g) (w .at + c) (n - c))) u ∙ sym (sets-two (junctionByte g) answers (w .at) n c cn)

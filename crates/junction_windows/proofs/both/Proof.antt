@@ -1,0 +1,19 @@
+-- Each way out is one case.
+use native.Mathlib.Omega.{arith}
+use Rattle.junction_windows.proofs.JunctionDescentLaws.{both-no, both-yes}
+use borrow.Author.Needs.{needs}
+use Rattle.junction_windows.proofs.both.Statement.{statement}
+use Rattle.junction_windows.proofs.both.Tie as tie
+
+returns : tie.Need-returns
+returns c = let a = c .before .args in both-no (a .a) (a .b) (a .x) (a .y) (λ z. omega arith)
+
+returns-2 : tie.Need-returns-2
+returns-2 c = let a = c .before .args in both-yes (a .a) (a .b) (a .x) (a .y) (omega arith)
+
+pub both-spec : {M : Type 1} → statement M
+both-spec =
+    tie.close
+    (tie.spec
+    returns
+    returns-2)

@@ -1,0 +1,4 @@
+pub mod Cases
+pub mod JunctionNetworks
+pub mod JunctionReaders
+pub mod JunctionDemand
