@@ -40,7 +40,8 @@ use Rattle.core_reduce.proofs.ReduceLaws.{act₂, mark₂, plain-in-words}
 use Rattle.core_reduce.specs.Core.{activeIn, edgesIn, startFields}
 use Rattle.core_block_reduce.proofs.BlocksFound.{blocks-at}
 use Rattle.core_block_reduce.proofs.ReadLaws.{distinct-count, read-few, table-distinct}
-use Rattle.core_block_reduce.specs.Core.{BlocksReduced, CanReduce, edgesBehind, mostEdges, mostNodes}
+use Rattle.theory_junctions.specs.ReducedGraph.{mostEdges, mostJunctions}
+use Rattle.core_block_reduce.specs.Core.{BlocksReduced, CanReduce, edgesBehind}
 
 module _ {n m k : ℕ} {w₀ w₁ w₂ : List ℕ} (r : CanReduce n m k w₀) (c : Cleared startFields n n w₀ w₁) (q : Linking n m w₁ w₂ (2 * m) × AdjacencyLists n m w₂)
     {seen : ℕ} {w₃ : List ℕ} (f : SearchKeeps n w₂ w₃ × BetweenTrees n m k w₃ seen k × ForestAt n m w₃) {w₄ : List ℕ} (b : BlocksMerged n m w₃ w₄) where
@@ -178,16 +179,16 @@ module _ {n m k : ℕ} {w₀ w₁ w₂ : List ℕ} (r : CanReduce n m k w₀) (c
           abbrev own₆ : List ℕ
           own₆ = filter (numbered B₆ K₆ rel₆ order₆) order₆
 
-          sizes : (h ≤ mostNodes k) × (e ≤ mostEdges k)
+          sizes : (h ≤ mostJunctions k) × (e ≤ mostEdges k)
           sizes = onBool (ltb k 2)
               (λ t.
               let (a, z) = written-few E₆ B₆ (table (node ACTIVE w₆) 0 k) rel₆ order₆ (u .numbers .counted .is .search) (u .numbers .counted .is .relevance) (let l = ltb-true k 2 t in omega (arith, l, different-k)) own₆ (own-distinct (u .numbers)) (own-listed (u .numbers)) in
-              let i : mostNodes k ≡ k = ap (λ t. cond t k (3 * k - 3)) t in
+              let i : mostJunctions k ≡ k = ap (λ t. cond t k (3 * k - 3)) t in
               let j : mostEdges k ≡ 0 = ap (λ t. cond t 0 (4 * k - 6)) t in
               (omega (arith, a, i, different-k, count-own (u .numbers)), omega (arith, z, j, count-edges, edges-most (u .numbers))))
               (λ t.
               let (a, z) = written-size E₆ B₆ (table (node ACTIVE w₆) 0 k) rel₆ order₆ (u .numbers .counted .is .search) (u .numbers .counted .is .relevance) (let l = ltb-false k 2 t in omega (arith, l, different-k)) own₆ (own-distinct (u .numbers)) (own-listed (u .numbers)) in
-              let i : mostNodes k ≡ 3 * k - 3 = ap (λ t. cond t k (3 * k - 3)) t in
+              let i : mostJunctions k ≡ 3 * k - 3 = ap (λ t. cond t k (3 * k - 3)) t in
               let j : mostEdges k ≡ 4 * k - 6 = ap (λ t. cond t 0 (4 * k - 6)) t in
               (omega (arith, a, i, different-k, count-own (u .numbers)), omega (arith, z, j, different-k, count-edges, edges-most (u .numbers))))
 

@@ -2,16 +2,16 @@
 -- active nodes; behind them it needs room for 2 n edges more, where it writes the edges out.
 -- After: MAPPED of an active node is its new number, and TO of the half-edges 2 (m + j) and 2 (m + j) + 1 are the ends of the j-th edge out.
 -- Assumes nothing: these are definitions.
-use Prim.Native.Nat.{ℕ, _+_, _*_, _-_, _≤_, _<_}
-use mathlib.Core.Bool.{cond, true}
+use Prim.Native.Nat.{ℕ, _+_, _*_, _≤_, _<_}
+use mathlib.Core.Bool.{true}
 use mathlib.Core.Path.{_≡_}
 use mathlib.Core.List.{List}
-use lib.Dec.{ltb}
 use lib.ListN.{length, getD}
 use Rattle.theory_graph.specs.Graph.{Edge}
 use Rattle.theory_graph.specs.Lists.{member}
 use Rattle.theory_names.specs.Names.{plain}
 use Rattle.theory_junctions.specs.Colouring.{Same}
+use Rattle.theory_junctions.specs.ReducedGraph.{mostEdges, mostJunctions}
 use Rattle.theory_junctions.specs.Reply.{readReply, reply}
 use Rattle.core_words.specs.Fields.{ACTIVE, MAPPED, TO, half, node}
 use Rattle.core_cycles.specs.Writing as Writing
@@ -20,13 +20,6 @@ use Rattle.core_reduce.specs.Core.{Loaded, activeIn, edgesIn}
 -- the edges out: e of them, behind the m edges in
 abbrev pub edgesBehind : ℕ → ℕ → ℕ → List ℕ → List Edge
 edgesBehind = Writing.edgesBehind
-
--- the bounds for k different active nodes: 3k - 3 nodes and 4k - 6 edges, or k nodes and no edge where k is below 2
-abbrev pub mostNodes : ℕ → ℕ
-mostNodes k = cond (ltb k 2) k (3 * k - 3)
-
-abbrev pub mostEdges : ℕ → ℕ
-mostEdges k = cond (ltb k 2) 0 (4 * k - 6)
 
 pub record CanReduce (n m k : ℕ) (w : List ℕ) : Type 0 where
   pub loaded : Loaded n m k w
@@ -45,7 +38,7 @@ pub record BlocksReduced (n m k : ℕ) (a b : List ℕ) (h e : ℕ) : Type 0 whe
   pub below : (v : ℕ) → member (activeIn k a) v ≡ true → number v < h
   pub once : (u v : ℕ) → member (activeIn k a) u ≡ true → member (activeIn k a) v ≡ true → number u ≡ number v → u ≡ v
   pub ends : (j : ℕ) → j < e → (half n TO b (2 * (m + j)) < h) × (half n TO b (2 * (m + j) + 1) < h)
-  pub nodes : h ≤ mostNodes k
+  pub nodes : h ≤ mostJunctions k
   pub edges : e ≤ mostEdges k
   -- one or two active nodes: the reply is read off
   pub read : k ≤ 2 → (x y : ℕ) → member (activeIn k a) x ≡ true → member (activeIn k a) y ≡ true

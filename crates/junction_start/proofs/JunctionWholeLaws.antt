@@ -17,7 +17,7 @@ use Rattle.theory_names.specs.Names.{Entry, Named, plain}
 use Rattle.theory_timeline.proofs.Acceptance.{pairs-equal}
 use Rattle.theory_timeline.specs.Events.{SegmentSet, pick}
 use Rattle.theory_timeline.specs.Windows.{Timeline, active, network}
-use Rattle.theory_junction_timeline.specs.ReducedGraph.{IsReducedGraph}
+use Rattle.theory_junctions.specs.ReducedGraph.{IsReducedGraph}
 use Rattle.replay_start.proofs.WholeLaws.{above, whole-network, whole-places, whole-words}
 use Rattle.replay_roads.specs.Runs.{run}
 use Rattle.replay_start.specs.Start.{namedBy}

@@ -25,7 +25,7 @@ use Rattle.theory_graph.specs.Lists.{firsts, member, pairs, table}
 use Rattle.theory_graph.specs.SmallGraph.{different}
 use Rattle.theory_junctions.proofs.SameColourings.{same-labels}
 use Rattle.theory_names.specs.Names.{plain}
-use Rattle.theory_junction_timeline.specs.ReducedGraph.{IsReducedGraph, mostEdges, mostJunctions}
+use Rattle.theory_junctions.specs.ReducedGraph.{IsReducedGraph, mostEdges, mostJunctions}
 use Rattle.replay_step.proofs.WordLaws.{drop-back, fill-length, fill-more, front-get, getD-sets-after, mid-before, mid-less, mid-take, take-less, take-whole}
 use Rattle.replay_step.specs.declared.Graph.{Graph}
 use Rattle.replay_step.specs.declared.Part.{Part}

@@ -28,7 +28,7 @@ use Rattle.theory_timeline.specs.Steps as Steps
 use Rattle.theory_timeline.specs.Steps.{Sound, added}
 use Rattle.theory_timeline.specs.Windows.{Timeline, active, network, size}
 use Rattle.theory_junction_timeline.proofs.JunctionNetworks.{distinct-pairwise, part-reduced, reduced-equal}
-use Rattle.theory_junction_timeline.specs.ReducedGraph.{IsReducedGraph}
+use Rattle.theory_junctions.specs.ReducedGraph.{IsReducedGraph}
 use Rattle.replay_step.proofs.LoadLaws.{edges-are, places-are, window-length, words-are}
 use Rattle.replay_step.proofs.StepLaws.{keys-low, places-low, windowOf}
 use Rattle.replay_step.proofs.WordLaws.{take-less}

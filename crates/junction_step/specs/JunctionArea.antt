@@ -14,7 +14,7 @@ use Rattle.theory_graph.specs.Lists.{pairs}
 use Rattle.theory_names.specs.Names.{plain}
 use Rattle.theory_timeline.specs.Steps.{Sound}
 use Rattle.theory_timeline.specs.Windows.{Timeline, active, network, size}
-use Rattle.theory_junction_timeline.specs.ReducedGraph.{IsReducedGraph}
+use Rattle.theory_junctions.specs.ReducedGraph.{IsReducedGraph}
 use Rattle.replay_step.specs.Area.{EventsIn, span}
 use Rattle.replay_step.specs.Load.{MakeReady}
 use Rattle.replay_step.specs.declared.Graph.{Graph}

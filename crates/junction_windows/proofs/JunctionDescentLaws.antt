@@ -24,7 +24,7 @@ use Rattle.theory_timeline.specs.Tags.{endsAt}
 use Rattle.theory_timeline.specs.Windows.{Timeline, active, asksAt, event, firstPart, network, size}
 use Rattle.theory_junction_timeline.proofs.JunctionNetworks.{change-byte, leaf-byte}
 use Rattle.theory_junction_timeline.specs.JunctionReplay.{junctionByte}
-use Rattle.theory_junction_timeline.specs.ReducedGraph.{IsReducedGraph}
+use Rattle.theory_junctions.specs.ReducedGraph.{IsReducedGraph}
 use Rattle.replay_step.proofs.LeafLaws.{leaf-asks, leaf-changes, leaf-nodes}
 use Rattle.replay_step.proofs.WordLaws.{sets-two}
 use Rattle.replay_step.specs.Load.{edgeAt}

@@ -35,7 +35,7 @@ use Rattle.theory_timeline.specs.Windows.{Timeline, Window, active, asksAt, dur
 use Rattle.theory_junction_timeline.specs.JunctionDemand.{JunctionsFaithful}
 use Rattle.theory_junction_timeline.specs.JunctionReplay.{junctionByte}
 use Rattle.theory_junction_timeline.specs.JunctionSteps.{JunctionsMade, down, top}
-use Rattle.theory_junction_timeline.specs.ReducedGraph.{IsReducedGraph, mostEdges, mostJunctions}
+use Rattle.theory_junctions.specs.ReducedGraph.{IsReducedGraph, mostEdges, mostJunctions}
 
 -- ---- an edge is told by the sets that it leaves
 -- how many edges join p and q

@@ -19,7 +19,7 @@ use Rattle.theory_timeline.specs.Replay.{Lent, given}
 use Rattle.theory_timeline.specs.Windows.{Timeline, Window, active, asksAt, edgesOf, event, network, openBefore, windows}
 use Rattle.theory_junction_timeline.specs.JunctionReplay.{JunctionOutcome, replayJunctions, sparing}
 use Rattle.theory_junction_timeline.specs.JunctionSteps.{JunctionsMade}
-use Rattle.theory_junction_timeline.specs.ReducedGraph.{mostEdges, mostJunctions}
+use Rattle.theory_junctions.specs.ReducedGraph.{mostEdges, mostJunctions}
 
 -- ---- the byte of event i, in the words of document 02
 -- a route of segments of o runs between the two junctions of event i

@@ -7,7 +7,7 @@ use Rattle.theory_graph.specs.SmallGraph.{image}
 use Rattle.theory_names.specs.Names.{plain}
 use Rattle.theory_timeline.specs.Steps.{Part, added}
 use Rattle.theory_timeline.specs.Windows.{Timeline, Window, active, network, size}
-use Rattle.theory_junction_timeline.specs.ReducedGraph.{IsReducedGraph}
+use Rattle.theory_junctions.specs.ReducedGraph.{IsReducedGraph}
 
 -- A graph of n nodes with the edges H, in which junction a stands at σ a, is made for a window:
 -- for the whole list out of its network, for a part out of the graph above it and the added roads.

@@ -1,5 +1,4 @@
 pub mod JunctionReplay
-pub mod ReducedGraph
 pub mod JunctionSteps
 pub mod JunctionDemand
 pub mod JunctionCall

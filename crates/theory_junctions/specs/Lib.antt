@@ -1,5 +1,6 @@
 pub mod Reply
 pub mod Colouring
+pub mod ReducedGraph
 pub mod Blocks
 pub mod Classes
 pub mod PathMerging

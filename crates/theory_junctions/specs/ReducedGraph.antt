@@ -1,5 +1,5 @@
--- What a graph made for a window must be, so that all replies at the active junctions can be read off it, whatever is added: document 000's section 3.2 makes
--- such graphs of blocks and cycles, and the theory of them is in theory_junctions.
+-- What a reduced graph must be, so that it may stand for a larger one wherever only replies at its active junctions are asked for, whatever is added between
+-- them. Document 000's section 3.2 makes such graphs of blocks and cycles (specs/Reduce).
 -- Assumes nothing: these are definitions.
 use Prim.Native.Nat.{_*_, _-_, _<_, _≤_, ℕ}
 use mathlib.Core.Bool.{cond, true}
