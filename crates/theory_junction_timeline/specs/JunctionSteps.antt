@@ -15,3 +15,7 @@ pub data JunctionsMade (g : Timeline) : Window → ℕ → List Edge → (ℕ �
   top : {n : ℕ} {H : List Edge} {σ : ℕ → ℕ} → IsReducedGraph (plain (network g (0, size g))) (active g (0, size g)) n H σ → JunctionsMade g (0, size g) n H σ
   down : {w : Window} {n : ℕ} {H : List Edge} {σ : ℕ → ℕ} {c : Window} {n′ : ℕ} {H′ : List Edge} {σ′ : ℕ → ℕ} → JunctionsMade g w n H σ → Part w c
       → IsReducedGraph (H ++ image σ (plain (added g w c))) (map σ (active g c)) n′ H′ σ′ → JunctionsMade g c n′ H′ (λ a. σ′ (σ a))
+
+-- one is made for a window
+abbrev pub HasMade : Timeline → Window → Type 0
+HasMade g w = (n : ℕ) × (H : List Edge) × (σ : ℕ → ℕ) × JunctionsMade g w n H σ

@@ -29,3 +29,7 @@ pub record IsReducedGraph (E : List Edge) (S : List ℕ) (h : ℕ) (H : List Edg
   pub nodes : h ≤ mostJunctions (different S)
   pub edges : length H ≤ mostEdges (different S)
   pub read : different S ≤ 2 → (x y : ℕ) → List·Memᴰ x S → List·Memᴰ y S → reply E x y ≡ readReply H (σ x) (σ y)
+
+-- the edges E have a reduced graph at the active list S
+abbrev pub HasReducedGraph : List Edge → List ℕ → Type 0
+HasReducedGraph E S = (h : ℕ) × (H : List Edge) × (σ : ℕ → ℕ) × IsReducedGraph E S h H σ
