@@ -9,7 +9,6 @@ use lib.Seq.{length-take-le, sets}
 use native.Mathlib.Omega.{arith}
 use borrow.Author.Tests.{ne-eqb}
 use Rattle.call_sizes.specs.Refusal.{Refusal}
-use Rattle.replay_checks.specs.Check.{CheckedTables}
 use Rattle.replay_checks.specs.declared.Checked.{Checked}
 use Rattle.replay_events.proofs.QueryLaws.{queries-same}
 use Rattle.replay_events.proofs.WritingLaws.{size-is}
@@ -29,10 +28,10 @@ use Rattle.theory_timeline.proofs.DemandThree.{accepted-done, bytes-length, dem
 use Rattle.theory_timeline.specs.Call.{outcome}
 use Rattle.theory_timeline.specs.DemandThree.{KeepsDemand3}
 use Rattle.theory_timeline.specs.Events.{Event}
-use Rattle.theory_timeline.specs.Replay.{Faultless, Lent, Outcome, byte, bytes, done, fault, given, nameAt, namesAt, openAtEnd, queries, refused, replay, required}
+use Rattle.theory_timeline.specs.Replay.{Faultless, Lent, Outcome, byte, bytes, done, fault, faults, given, nameAt, namesAt, openAtEnd, queries, refused, replay, required}
 use Rattle.theory_timeline.specs.Windows.{Timeline, asksAt, kept, size, small, windows, windowsFrom}
 use Rattle.theory_timeline.specs.declared.ReplayReply.the-variants.{Done, Refused}
-use Rattle.call_replay.specs.List.{ListReady, ListReplied}
+use Rattle.call_replay.specs.List.{ListReady, ListReplied, ReplayChecked}
 
 -- ---- the list
 module _ {n p : ℕ} {a b start x y answers names work : List ℕ} (q : ListReady n p a b start x y answers names work) where
@@ -178,20 +177,21 @@ Promise l p r = (r ≡ replay l p) × KeepsDemand3 l p r
 promise : (l : Lent) (p : ℕ) (r : Outcome) → r ≡ replay l p → Promise l p r
 promise l p r e = (e, λ k q a b. demand-3 l k p q a b r (replay k q) e refl)
 
-pub refused-is : (l : Lent) (p : ℕ) {r : Checked} → CheckedTables l p r → 0 < r .code → Promise l p (outcome (Refused (r .code) (r .place)) (l .answers) (l .names) (l .work))
-unfolding replay refused
+pub refused-is : (l : Lent) (p : ℕ) {r : Checked} → ReplayChecked l p r → 0 < r .code → Promise l p (outcome (Refused (r .code) (r .place)) (l .answers) (l .names) (l .work))
+unfolding replay refused fault faults
 refused-is l p {r} c h = promise l p _ (ap (λ (f : Refusal). refused l f) (c .refusal)
     ∙ sym (ap (λ (b : Bool). elim b as (λ x. Outcome) [ true ↦ done l p | false ↦ refused l (fault l p) ])
     (ne-eqb (fault l p .0) 0 (λ z. omega (arith, ap (λ (f : Refusal). f .0) (c .refusal))))))
 
-pub faultless : {l : Lent} {p : ℕ} {r : Checked} → CheckedTables l p r → r .code ≡ 0 → Faultless l p
+pub faultless : {l : Lent} {p : ℕ} {r : Checked} → ReplayChecked l p r → r .code ≡ 0 → Faultless l p
+unfolding fault faults
 faultless c z = sym (ap (λ (f : Refusal). f .0) (c .refusal)) ∙ z
 
 pub replayed : (l : Lent) (p : ℕ) (r : Outcome) → Faultless l p → r ≡ done l p → Promise l p r
 replayed l p r f e = promise l p r (e ∙ sym (accepted-done l p f))
 
 -- ---- where the check finds nothing
-module _ {l : Lent} {p : ℕ} {r : Checked} (c : CheckedTables l p r) (z : r .code ≡ 0) where
+module _ {l : Lent} {p : ℕ} {r : Checked} (c : ReplayChecked l p r) (z : r .code ≡ 0) where
   pub grants : AcceptedList l p
   grants = granted l p (faultless c z) .list
 
@@ -206,6 +206,7 @@ module _ {l : Lent} {p : ℕ} {r : Checked} (c : CheckedTables l p r) (z : r .co
       pub replay-is : {cleared : List ℕ} (zs : List ℕ) (q : ℕ) → q ≡ queriesBy (l .n) (l .x) (l .t) → length zs ≡ length (take k (l .work))
           → cleared ≡ over (replicate k 0) (zs ++ drop k (l .work))
           → Promise l p (outcome (Done (record { queries = q; «open» = r .«open»; kept = kept′ })) (after .answers) (after .names) cleared)
+      unfolding fault faults
       replay-is zs q eq lz ew =
           let f = faultless c z in
           replayed l p _ f (done-is l p f d zs q (r .«open») eq (c .open-last f) (lz ∙ ap (λ (n : ℕ). length (take n (l .work))) e)

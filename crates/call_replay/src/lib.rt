@@ -1,4 +1,5 @@
 // The public call `replay`: the checks, then the recursion over the windows of the whole list.
+mod checks;
 mod list;
 
 use theory_timeline::ReplayReply;
@@ -29,11 +30,11 @@ pub fn replay(
     ensures { λ r. ⌜ KeepsDemand3 (lent n m t (now (a .entry)) (now (b .entry)) (now (start .entry)) (now (x .entry)) (now (y .entry))
         (now (answers .entry)) (now (names .entry)) (now (work .entry))) p (outcome r (now (answers .exit)) (now (names .exit)) (now (work .exit))) ⌝ }
 {
-    let f = replay_checks::check(n, m, t, p, a, b, start, x, y, answers, names, work);
+    let f = checks::check(n, m, t, p, a, b, start, x, y, answers, names, work);
     if f.code > 0 {
         return ReplayReply::Refused(f.code, f.place);
     }
-    let need = replay_checks::required(t, n, m);
+    let need = checks::required(t, n, m);
     let kept = list::replay_list(n, p, a, b, start, x, y, answers, names, &mut work[..need]);
     let queries = replay_events::count_queries(n, x, t);
     core_words::clear(work, need);

@@ -172,12 +172,13 @@ promise : (l : Lent) (p : ℕ) (r : JunctionOutcome) → r ≡ replayJunctions l
 promise l p r e = (e, λ k q a b. junction-demand l k p q a b r (replayJunctions k q) e refl)
 
 pub refused-is : (l : Lent) (p : ℕ) {r : Checked} → JunctionChecked l p r → 0 < r .code → Promise l p (junctionOutcome (Refused (r .code) (r .place)) (l .answers) (l .work))
-unfolding replayJunctions junctionRefused
+unfolding replayJunctions junctionRefused junctionFault
 refused-is l p {r} c h = promise l p _ (ap (λ (f : Refusal). junctionRefused l f) (c .refusal)
     ∙ sym (ap (λ (b : Bool). elim b as (λ x. JunctionOutcome) [ true ↦ junctionDone l | false ↦ junctionRefused l (junctionFault l p) ])
     (ne-eqb (junctionFault l p .0) 0 (λ z. omega (arith, ap (λ (f : Refusal). f .0) (c .refusal))))))
 
 faultless : {l : Lent} {p : ℕ} {r : Checked} → JunctionChecked l p r → r .code ≡ 0 → JunctionFaultless l p
+unfolding junctionFault
 faultless c z = sym (ap (λ (f : Refusal). f .0) (c .refusal)) ∙ z
 
 -- ---- where the check finds nothing
@@ -195,6 +196,7 @@ module _ {l : Lent} {p : ℕ} {r : Checked} (c : JunctionChecked l p r) (z : r .
     module _ {after : List ℕ} (d : RepliedOf l after) where
       pub replay-is : {cleared : List ℕ} (zs : List ℕ) (q : ℕ) → q ≡ queriesBy (l .n) (l .x) (l .t) → length zs ≡ length (take k (l .work))
           → cleared ≡ over (replicate k 0) (zs ++ drop k (l .work)) → Promise l p (junctionOutcome (Done (record { queries = q; «open» = r .«open» })) after cleared)
+      unfolding junctionFault
       replay-is zs q eq lz ew =
           let f = faultless c z in
           promise l p _ (done-is l p f d zs q (r .«open») eq (c .open-last f) (lz ∙ ap (λ (n : ℕ). length (take n (l .work))) e)

@@ -1,2 +1,1 @@
-pub mod JunctionCheckLaws
 pub mod JunctionCallLaws

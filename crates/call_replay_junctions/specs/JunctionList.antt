@@ -5,17 +5,17 @@ use mathlib.Core.List.{List}
 use mathlib.Core.Path.{_≡_}
 use lib.ListN.{length}
 use lib.Seq.{sets}
+use Rattle.replay_checks.specs.Check.{CheckedTables}
 use Rattle.replay_checks.specs.declared.Checked.{Checked}
 use Rattle.replay_events.specs.Writing.{CanWriteEvents, listOf}
 use Rattle.theory_graph.specs.Lists.{table}
 use Rattle.theory_timeline.specs.DemandThree.{Allowed}
-use Rattle.theory_timeline.specs.Replay.{Lent, given, openAtEnd}
-use Rattle.theory_junction_timeline.specs.JunctionReplay.{JunctionFaultless, junctionByte, junctionFault}
+use Rattle.theory_timeline.specs.Replay.{Lent}
+use Rattle.theory_junction_timeline.specs.JunctionReplay.{junctionByte, junctionLengths}
 
--- the first fault; where there is none, how many segments are open at the end
-pub record JunctionChecked (l : Lent) (p : ℕ) (r : Checked) : Type 0 where
-  pub refusal : (r .code, r .place) ≡ junctionFault l p
-  pub open-last : JunctionFaultless l p → r .«open» ≡ openAtEnd (given l)
+-- the first fault, by the length of the sibling's work table too; where there is none, how many segments are open at the end
+abbrev pub JunctionChecked : Lent → ℕ → Checked → Type 0
+JunctionChecked l p r = CheckedTables (junctionLengths l) l p r
 
 -- a list without a fault, tables of just its sizes, and room
 pub record JunctionListReady (n p : ℕ) (a b start x y answers work : List ℕ) : Type 0 where

@@ -1,4 +1,4 @@
-// The checks of the sibling: those of the replay, with the sibling's own work table and without a name table.
+// The checks of the sibling: the sizes, then all else, with the length of its own work table; it has no name table.
 ghost use mathlib.Core.Path.{_≡_};
 ghost use Prim.Native.Nat.{_≤_};
 ghost use Rattle.theory_junction_timeline.specs.JunctionCall.{junctionLent};
@@ -13,8 +13,7 @@ pub(crate) fn required(t: usize, n: usize, m: usize) -> usize
     1024 * t + 32 * n + 8 * m + 2048
 }
 
-// The first fault of all. Where the work table is as long as the sibling's must be, it is as long as the replay's; and X stands for the name table that is not
-// there: its length is asked for again.
+// The first fault of all.
 pub(crate) fn check(
     n: usize,
     m: usize,
@@ -39,12 +38,7 @@ pub(crate) fn check(
             open: 0,
         };
     }
-    if work.len() < required(t, n, m) {
-        return replay_checks::Checked {
-            code: 2,
-            place: 0,
-            open: 0,
-        };
-    }
-    replay_checks::check(n, m, t, p, a, b, start, x, y, answers, x, work)
+    // Two by two: the length of each table, and the least that it must have.
+    let own = [work.len(), required(t, n, m)];
+    replay_checks::check(n, m, t, p, a, b, start, x, y, answers, &own)
 }

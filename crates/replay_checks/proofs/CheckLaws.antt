@@ -3,7 +3,7 @@
 -- Assumes nothing.
 use Prim.Native.Nat.{_+_, _<_, _≤_, ℕ}
 use mathlib.Core.Bool.{Bool, _&&_, _||_, cond, false, not, true}
-use mathlib.Core.List.{List, [], _++_, _∷_}
+use mathlib.Core.List.{List, [], _++_, _∷_, append-assoc}
 use mathlib.Core.Logic.{_⊎_, inl, inr}
 use mathlib.Core.Path.{_∙_, _≡_, ap, ap₂, refl, subst, sym}
 use lib.Dec.{eqb, ltb}
@@ -18,16 +18,16 @@ use Rattle.call_kinds.specs.declared.Kind.{Kind}
 use Rattle.call_kinds.specs.declared.Kind.the-variants.{Closes, None, Opens, Query}
 use Rattle.call_open_set.proofs.OpenSetLaws.{stored-length}
 use Rattle.call_open_set.specs.OpenSet.{bits, isOpen}
-use Rattle.call_sizes.proofs.RefusalLaws.{Numbered, fault-left, fault-right, fault-silent, long-numbered, numbered-append, seek-at, seek-end, short-numbered, silent-left, silent-right, sizes-numbered}
-use Rattle.call_sizes.specs.Refusal.{Refusal, Row, badEnds, badStart, firstFault, row, seek}
+use Rattle.call_sizes.proofs.RefusalLaws.{Numbered, fault-left, fault-right, fault-silent, long-numbered, numbered-append, seek-at, seek-end, short-numbered, silent-left, silent-right, sizes-numbered, skip-silent}
+use Rattle.call_sizes.specs.Refusal.{Refusal, Row, badEnds, badStart, firstFault, row, seek, shortRows}
 use Rattle.call_sizes.specs.Sizes.{sizeFaults}
 use Rattle.theory_graph.proofs.Booleans.{onBool}
 use Rattle.theory_graph.proofs.TableLaws.{pairs-at}
 use Rattle.theory_graph.specs.Lists.{pairs, sum}
-use Rattle.theory_timeline.proofs.Acceptance.{AcceptedList, accepted-from, accepted-sound, exact-from, fault-fine, pairs-both}
+use Rattle.theory_timeline.proofs.Acceptance.{AcceptedList, accepted-sound, exact-from, fault-fine, faultless-list, pairs-both}
 use Rattle.theory_timeline.proofs.Networks.{after-append}
 use Rattle.theory_timeline.specs.Events.{Event, SegmentSet, after, afterAll, changes, closes, opens}
-use Rattle.theory_timeline.specs.Replay.{Lent, eventFault, fault, faultAt, faultOfKind, faults, given, listFaults, longTables, readLengths, shareFaults, shortTables, tableLengths}
+use Rattle.theory_timeline.specs.Replay.{Lent, eventFault, faultAt, faultOfKind, faultsWith, given, lengthsWith, listFaults, longTables, readLengths, shareFaults}
 use Rattle.theory_timeline.specs.Windows.{atStart, openBefore, size}
 use Rattle.replay_checks.proofs.SetLaws.{StartsBelow, event-stays, event-stored, open-count, start-all, start-below}
 use Rattle.replay_checks.specs.Check.{CanCheckList, CheckedEvents, CheckedList, CheckedTables, EventFits, boundFaults, eventsFault, faultOf, tablesOf}
@@ -48,89 +48,114 @@ unfolding given
 starts-below l p a s h = omega (arith, start-below (l .start) s h, a .exact .start-exact, pairs-both (l .a) (l .b) (a .exact .a-exact) (a .exact .b-exact))
 
 -- ---- 2, 12 and 3
-module _ (l : Lent) (p : ℕ) where
-  bounds-numbered : Numbered (boundFaults l p)
+-- the tables of both replays, those of `rest`, the tables that are only read, the share
+module _ (rest : List (ℕ × ℕ)) (l : Lent) (p : ℕ) where
+  abbrev both : List Row
+  both = shortRows (lengthsWith [] l)
+
+  abbrev behind-short : List Row
+  behind-short = longTables l ++ shareFaults p
+
+  pub bounds-numbered : Numbered (boundFaults rest l p)
   bounds-numbered =
-      numbered-append (shortTables l) (longTables l ++ shareFaults p) (short-numbered (tableLengths l))
+      numbered-append (shortRows (lengthsWith rest l)) behind-short (short-numbered (lengthsWith rest l))
       (numbered-append (longTables l) (shareFaults p) (long-numbered (readLengths l)) (λ h. omega arith, (λ h. omega arith, tt)))
 
-  module _ (f : Refusal) (e : f ≡ firstFault (shortTables l)) where
-    pub short-refused : 0 < f .0 → f ≡ firstFault (boundFaults l p)
-    short-refused h = e ∙ sym (fault-left (shortTables l) (longTables l ++ shareFaults p) (λ z. omega (arith, ap (λ (f : Refusal). f .0) e)))
+  module _ (f : Refusal) (e : f ≡ firstFault both) where
+    pub short-refused : 0 < f .0 → f ≡ firstFault (boundFaults rest l p)
+    short-refused h = e ∙ sym (fault-left both (shortRows rest ++ behind-short) (λ z. omega (arith, ap (λ (f : Refusal). f .0) e)))
 
-    module _ (z : f .0 ≡ 0) (g : Refusal) (k : g ≡ firstFault (longTables l)) where
-      not-short : firstFault (boundFaults l p) ≡ firstFault (longTables l ++ shareFaults p)
-      not-short = fault-right (shortTables l) (longTables l ++ shareFaults p) (short-numbered (tableLengths l)) (sym (ap (λ (f : Refusal). f .0) e) ∙ z)
+    module _ (z : f .0 ≡ 0) (o : Refusal) (d : o ≡ firstFault (shortRows rest)) where
+      not-both : firstFault (boundFaults rest l p) ≡ firstFault (shortRows rest ++ behind-short)
+      not-both = fault-right both (shortRows rest ++ behind-short) (short-numbered (lengthsWith [] l)) (sym (ap (λ (f : Refusal). f .0) e) ∙ z)
 
-      pub long-refused : 0 < g .0 → g ≡ firstFault (boundFaults l p)
-      long-refused h = k ∙ sym (not-short ∙ fault-left (longTables l) (shareFaults p) (λ z. omega (arith, ap (λ (f : Refusal). f .0) k)))
+      pub own-refused : 0 < o .0 → o ≡ firstFault (boundFaults rest l p)
+      own-refused h = d ∙ sym (not-both ∙ fault-left (shortRows rest) behind-short (λ z. omega (arith, ap (λ (f : Refusal). f .0) d)))
 
-      pub share-left : g .0 ≡ 0 → firstFault (shareFaults p) ≡ firstFault (boundFaults l p)
-      share-left y = sym (not-short ∙ fault-right (longTables l) (shareFaults p) (long-numbered (readLengths l)) (sym (ap (λ (f : Refusal). f .0) k) ∙ y))
+      module _ (y : o .0 ≡ 0) (g : Refusal) (k : g ≡ firstFault (longTables l)) where
+        not-short : firstFault (boundFaults rest l p) ≡ firstFault behind-short
+        not-short = not-both ∙ fault-right (shortRows rest) behind-short (short-numbered rest) (sym (ap (λ (f : Refusal). f .0) d) ∙ y)
+
+        pub long-refused : 0 < g .0 → g ≡ firstFault (boundFaults rest l p)
+        long-refused h = k ∙ sym (not-short ∙ fault-left (longTables l) (shareFaults p) (λ z. omega (arith, ap (λ (f : Refusal). f .0) k)))
+
+        pub share-left : g .0 ≡ 0 → firstFault (shareFaults p) ≡ firstFault (boundFaults rest l p)
+        share-left x = sym (not-short ∙ fault-right (longTables l) (shareFaults p) (long-numbered (readLengths l)) (sym (ap (λ (f : Refusal). f .0) k) ∙ x))
 
 -- ---- the sizes, what is behind them, and the list
-module _ (l : Lent) (p : ℕ) where
-  in-order : fault l p ≡ firstFault (sizeFaults (l .n) (l .m) (l .t) 0 ++ (boundFaults l p ++ listFaults l))
-  unfolding fault faults
-  in-order = refl
+module _ (rest : List (ℕ × ℕ)) (l : Lent) (p : ℕ) where
+  abbrev sizes : List Row
+  sizes = sizeFaults (l .n) (l .m) (l .t) 0
 
-  pub size-refused : (f : Refusal) → f ≡ firstFault (sizeFaults (l .n) (l .m) (l .t) 0) → 0 < f .0 → f ≡ fault l p
-  size-refused f e h =
-      e ∙ sym (in-order ∙ fault-left (sizeFaults (l .n) (l .m) (l .t) 0) (boundFaults l p ++ listFaults l) (λ z. omega (arith, ap (λ (f : Refusal). f .0) e)))
+  abbrev whole : Refusal
+  whole = firstFault (faultsWith rest l p)
 
-  module _ (f : Refusal) (e : f ≡ firstFault (sizeFaults (l .n) (l .m) (l .t) 0)) (z : f .0 ≡ 0) where
-    bounds : fault l p ≡ firstFault (boundFaults l p ++ listFaults l)
-    bounds =
-        in-order
-        ∙ fault-right (sizeFaults (l .n) (l .m) (l .t) 0) (boundFaults l p ++ listFaults l) (sizes-numbered (l .n) (l .m) (l .t) 0)
-        (sym (ap (λ (f : Refusal). f .0) e) ∙ z)
+  in-order : whole ≡ firstFault (sizes ++ (boundFaults rest l p ++ listFaults l))
+  in-order = ap (λ (k : List Row). firstFault (sizes ++ k)) (sym (brackets (shortRows (lengthsWith rest l)) (longTables l) (shareFaults p) (listFaults l)))
+    where
+      brackets : (a b c d : List Row) → (a ++ (b ++ c)) ++ d ≡ a ++ (b ++ (c ++ d))
+      brackets a b c d = append-assoc a (b ++ c) d ∙ ap (λ (k : List Row). a ++ k) (append-assoc b c d)
 
-    pub within : (l .n ≤ 4096) × (l .m ≤ 8192) × (l .t ≤ 4096)
-    within =
-        let s = fault-silent (sizeFaults (l .n) (l .m) (l .t) 0) (sizes-numbered (l .n) (l .m) (l .t) 0) (ap (λ (f : Refusal). f .0) (sym e) ∙ z) in
-        (ltb-false 4096 (l .n) (s .0), ltb-false 8192 (l .m) (s .1 .0), ltb-false 4096 (l .t) (s .1 .1 .0))
+  pub size-refused : (f : Refusal) → f ≡ firstFault sizes → 0 < f .0 → f ≡ whole
+  size-refused f e h = e ∙ sym (in-order ∙ fault-left sizes (boundFaults rest l p ++ listFaults l) (λ z. omega (arith, ap (λ (f : Refusal). f .0) e)))
 
-    module _ (h : Refusal) (k : h ≡ firstFault (boundFaults l p)) where
-      pub bounds-refused : 0 < h .0 → h ≡ fault l p
-      bounds-refused u = k ∙ sym (bounds ∙ fault-left (boundFaults l p) (listFaults l) (λ z. omega (arith, ap (λ (f : Refusal). f .0) k)))
+  -- a size is not refused exactly where it is within its limit
+  pub within : (f : Refusal) → f ≡ firstFault sizes → f .0 ≡ 0 → (l .n ≤ 4096) × (l .m ≤ 8192) × (l .t ≤ 4096)
+  within f e z =
+      let s = fault-silent sizes (sizes-numbered (l .n) (l .m) (l .t) 0) (ap (λ (f : Refusal). f .0) (sym e) ∙ z) in
+      (ltb-false 4096 (l .n) (s .0), ltb-false 8192 (l .m) (s .1 .0), ltb-false 4096 (l .t) (s .1 .1 .0))
+
+  module _ (fits : (l .n ≤ 4096) × (l .m ≤ 8192) × (l .t ≤ 4096)) where
+    bounds : whole ≡ firstFault (boundFaults rest l p ++ listFaults l)
+    bounds = in-order ∙ skip-silent sizes (boundFaults rest l p ++ listFaults l)
+        (le-ltb 4096 (l .n) (fits .0), (le-ltb 8192 (l .m) (fits .1), (le-ltb 4096 (l .t) (fits .2), (le-ltb 8192 0 (omega arith), tt))))
+
+    module _ (h : Refusal) (k : h ≡ firstFault (boundFaults rest l p)) where
+      pub bounds-refused : 0 < h .0 → h ≡ whole
+      bounds-refused u = k ∙ sym (bounds ∙ fault-left (boundFaults rest l p) (listFaults l) (λ z. omega (arith, ap (λ (f : Refusal). f .0) k)))
 
       module _ (y : h .0 ≡ 0) where
-        none : firstFault (boundFaults l p) .0 ≡ 0
+        none : firstFault (boundFaults rest l p) .0 ≡ 0
         none = sym (ap (λ (f : Refusal). f .0) k) ∙ y
 
-        list-fault : fault l p ≡ firstFault (listFaults l)
-        list-fault = bounds ∙ fault-right (boundFaults l p) (listFaults l) (bounds-numbered l p) none
+        list-fault : whole ≡ firstFault (listFaults l)
+        list-fault = bounds ∙ fault-right (boundFaults rest l p) (listFaults l) (bounds-numbered rest l p) none
 
         pub can-check : CanCheckList (l .n) (l .m) (l .t) (l .a) (l .b) (l .start) (l .x) (l .y)
         can-check =
-            let (a, b, c) = within in
-            let s = fault-silent (boundFaults l p) (bounds-numbered l p) none in
-            let v = silent-right (shortTables l) (longTables l ++ shareFaults p) s in
+            let s = fault-silent (boundFaults rest l p) (bounds-numbered rest l p) none in
+            let v = silent-right (shortRows (lengthsWith rest l)) (longTables l ++ shareFaults p) s in
             record {
-              n-fits = a;
-              m-fits = b;
-              t-fits = c;
-              exact = exact-from l (silent-left (shortTables l) (longTables l ++ shareFaults p) s) (silent-left (longTables l) (shareFaults p) v);
+              n-fits = fits .0;
+              m-fits = fits .1;
+              t-fits = fits .2;
+              exact = exact-from rest l (silent-left (shortRows (lengthsWith rest l)) (longTables l ++ shareFaults p) s) (silent-left (longTables l) (shareFaults p) v);
             }
 
         -- what the check of the list finds is what the whole input has
-        pub list-checked : {r : Checked} → CheckedList (l .n) (l .m) (l .t) (l .a) (l .b) (l .start) (l .x) (l .y) r → CheckedTables l p r
-        unfolding fault listFaults faults faultAt given
+        pub list-checked : {r : Checked} → CheckedList (l .n) (l .m) (l .t) (l .a) (l .b) (l .start) (l .x) (l .y) r → CheckedTables rest l p r
+        unfolding listFaults faultAt given
         list-checked c = record {
           refusal = c .refusal ∙ sym list-fault;
           open-last = λ q.
               let (held, o, e) = c .last (ap (λ (f : Refusal). f .0) (c .refusal ∙ sym list-fault) ∙ q) in
-              let a = accepted-from l p q .list in
+              let a = faultless-list rest l p q .0 in
               e ∙ open-count (given l) (accepted-sound l p a) (starts-below l p a) held (o ∙ sym (ends-with l));
         }
 
-pub refused-checked : (l : Lent) (p : ℕ) (c i o : ℕ) → (c, i) ≡ fault l p → 0 < c → CheckedTables l p (record { code = c; place = i; «open» = o })
-refused-checked l p c i o e h = record { refusal = e; open-last = λ q. absurd (omega (arith, ap (λ (f : Refusal). f .0) e)) }
+  pub refused-checked : (c i o : ℕ) → (c, i) ≡ whole → 0 < c → CheckedTables rest l p (record { code = c; place = i; «open» = o })
+  refused-checked c i o e h = record { refusal = e; open-last = λ q. absurd (omega (arith, ap (λ (f : Refusal). f .0) e)) }
+
+-- of a call's own tables nothing but their lengths is looked at
+pub own-checked : (rest : List (ℕ × ℕ)) (l : Lent) (p : ℕ) {r : Checked} → CheckedTables rest (tablesOf (l .n) (l .m) (l .t) (l .a) (l .b) (l .start) (l .x) (l .y) (l .answers)) p r
+    → CheckedTables rest l p r
+unfolding listFaults faultAt given
+own-checked rest l p c = record { refusal = c .refusal; open-last = c .open-last }
 
 -- ---- the ends, the starting table and the events
 module _ {n m t : ℕ} {a b start x y : List ℕ} (q : CanCheckList n m t a b start x y) where
   abbrev l : Lent
-  l = tablesOf n m t a b start x y
+  l = tablesOf n m t a b start x y []
 
   list-refused : (c i : ℕ) → (c, i) ≡ firstFault (listFaults l) → 0 < c → CheckedList n m t a b start x y (record { code = c; place = i; «open» = 0 })
   list-refused c i e h = record { refusal = e; last = λ z. absurd (omega arith) }

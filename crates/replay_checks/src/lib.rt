@@ -8,10 +8,9 @@ ghost use lib.Dec.{ltb};
 ghost use lib.ListN.{length};
 ghost use Rattle.theory_graph.specs.Lists.{pairs};
 ghost use Rattle.call_open_set.specs.OpenSet.{isOpen};
-ghost use Rattle.call_sizes.specs.Refusal.{firstFault};
-ghost use Rattle.theory_timeline.specs.Call.{lent};
-ghost use Rattle.theory_timeline.specs.Replay.{eventFault, required};
-ghost use Rattle.replay_checks.specs.Check.{CanCheckList, CheckedEvents, CheckedList, CheckedTables, boundFaults};
+ghost use Rattle.call_sizes.specs.Refusal.{byTwo, firstFault};
+ghost use Rattle.theory_timeline.specs.Replay.{eventFault};
+ghost use Rattle.replay_checks.specs.Check.{CanCheckList, CheckedEvents, CheckedList, CheckedTables, boundFaults, tablesOf};
 
 // Internal: the first fault of a replay's input, its number and its place; where there is none, 0, 0 and how many segments are open at the end.
 pub struct Checked {
@@ -106,15 +105,8 @@ fn check_events(n: usize, m: usize, t: usize, x: &[u16], y: &[u16], first: [u64;
     }
 }
 
-// Internal: the required length of the work table.
-pub fn required(t: usize, n: usize, m: usize) -> usize
-    requires { ⌜ (t ≤ 4096) × (n ≤ 4096) × (m ≤ 8192) ⌝ }
-    ensures { λ r. ⌜ r ≡ required t n m ⌝ }
-{
-    256 * t + 32 * n + 8 * m + 2048
-}
-
 // Refusals 2, 12 and 3, in this order: a table shorter than its least length, one that is only read longer than its size, the share below 4 or above 12.
+// `own` has, two by two, the lengths of the call's other tables and their least lengths.
 fn bounds_fault(
     n: usize,
     m: usize,
@@ -126,12 +118,10 @@ fn bounds_fault(
     x: &[u16],
     y: &[u16],
     answers: &[u8],
-    names: &[u16],
-    work: &[u32],
+    own: &[usize],
 ) -> Fault
-    requires { ⌜ (n ≤ 4096) × (m ≤ 8192) × (t ≤ 4096) ⌝ }
-    ensures { λ r. ⌜ (r .code, r .place) ≡ firstFault (boundFaults (lent n m t (now (a .entry)) (now (b .entry)) (now (start .entry)) (now (x .entry))
-        (now (y .entry)) (now (answers .entry)) (now (names .entry)) (now (work .entry))) p) ⌝ }
+    ensures { λ r. ⌜ (r .code, r .place) ≡ firstFault (boundFaults (byTwo (now (own .entry))) (tablesOf n m t (now (a .entry)) (now (b .entry))
+        (now (start .entry)) (now (x .entry)) (now (y .entry)) (now (answers .entry))) p) ⌝ }
 {
     // Two by two: the first number must not be below the second.
     let least = [
@@ -147,10 +137,6 @@ fn bounds_fault(
         t,
         answers.len(),
         t,
-        names.len(),
-        t,
-        work.len(),
-        required(t, n, m),
     ];
     let most = [
         m,
@@ -168,6 +154,10 @@ fn bounds_fault(
     let short = call_sizes::below_fault(2, &least);
     if short.code > 0 {
         return short;
+    }
+    let rest = call_sizes::below_fault(2, own);
+    if rest.code > 0 {
+        return rest;
     }
     let long = call_sizes::below_fault(12, &most);
     if long.code > 0 {
@@ -217,7 +207,7 @@ fn check_list(
     }
 }
 
-// Internal: the first fault of all.
+// Internal: the first fault of all, where the sizes have none.
 pub fn check(
     n: usize,
     m: usize,
@@ -229,21 +219,13 @@ pub fn check(
     x: &[u16],
     y: &[u16],
     answers: &[u8],
-    names: &[u16],
-    work: &[u32],
+    own: &[usize],
 ) -> Checked
-    ensures { λ r. ⌜ CheckedTables (lent n m t (now (a .entry)) (now (b .entry)) (now (start .entry)) (now (x .entry)) (now (y .entry))
-        (now (answers .entry)) (now (names .entry)) (now (work .entry))) p r ⌝ }
+    requires { ⌜ (n ≤ 4096) × (m ≤ 8192) × (t ≤ 4096) ⌝ }
+    ensures { λ r. ⌜ CheckedTables (byTwo (now (own .entry))) (tablesOf n m t (now (a .entry)) (now (b .entry)) (now (start .entry)) (now (x .entry))
+        (now (y .entry)) (now (answers .entry))) p r ⌝ }
 {
-    let f = call_sizes::size_fault(n, m, t, 0);
-    if f.code > 0 {
-        return Checked {
-            code: f.code,
-            place: f.place,
-            open: 0,
-        };
-    }
-    let s = bounds_fault(n, m, t, p, a, b, start, x, y, answers, names, work);
+    let s = bounds_fault(n, m, t, p, a, b, start, x, y, answers, own);
     if s.code > 0 {
         return Checked {
             code: s.code,

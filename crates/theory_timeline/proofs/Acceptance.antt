@@ -223,8 +223,9 @@ exact-long rest l (la, (lb, (ls, (lx, (ly, _))))) v =
     let (ma, (mb, (ms, (mx, (my, _))))) = below-long 12 (readLengths l) .0 v in
     record { a-exact = omega arith; b-exact = omega arith; start-exact = omega arith; x-exact = omega arith; y-exact = omega arith }
 
-pub exact-from : (l : Lent) → Silent (shortTables l) → Silent (longTables l) → Exact (l .m) (l .t) (l .a) (l .b) (l .start) (l .x) (l .y)
-exact-from l s v = exact-long (ownLengths l) l (below-long 2 (tableLengths l) .0 s) v
+pub exact-from : (rest : List (ℕ × ℕ)) (l : Lent) → Silent (shortRows (lengthsWith rest l)) → Silent (longTables l)
+    → Exact (l .m) (l .t) (l .a) (l .b) (l .start) (l .x) (l .y)
+exact-from rest l s v = exact-long rest l (below-long 2 (lengthsWith rest l) .0 s) v
 
 -- what is known where no row refuses: the tables of `rest` are as long as they must be, and each field of Accepted but those of names and work
 pub faultless-list : (rest : List (ℕ × ℕ)) (l : Lent) (p : ℕ) → firstFault (faultsWith rest l p) .0 ≡ 0 → AcceptedList l p × Long rest

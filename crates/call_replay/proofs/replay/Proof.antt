@@ -10,8 +10,8 @@ use Rattle.call_replay.proofs.replay.Reads as reads
 use Rattle.call_replay.proofs.replay.Lts as lts
 use Rattle.call_replay.proofs.list.replay_list.Reads as replay-list-reads
 use Rattle.core_words.proofs.clear.Reads as clear-reads
-use Rattle.replay_checks.proofs.check.Reads as check-reads
-use Rattle.replay_checks.proofs.required.Reads as required-reads
+use Rattle.call_replay.proofs.checks.check.Reads as check-reads
+use Rattle.call_replay.proofs.checks.required.Reads as required-reads
 use Rattle.replay_events.proofs.count_queries.Reads as count-queries-reads
 
 abbrev calls : lts.Claims

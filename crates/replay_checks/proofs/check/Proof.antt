@@ -1,10 +1,11 @@
--- The sizes, the lengths and the share, the list.
+-- The lengths and the share, then the list.
 use Prim.Native.Nat.{ℕ}
+use mathlib.Core.List.{List}
 use native.Mathlib.Omega.{arith}
-use Rattle.call_sizes.proofs.size_fault.Reads as size-fault-reads
-use Rattle.theory_timeline.specs.Call.{lent}
+use Rattle.call_sizes.specs.Refusal.{byTwo}
 use Rattle.theory_timeline.specs.Replay.{Lent}
-use Rattle.replay_checks.proofs.CheckLaws.{bounds-refused, can-check, list-checked, refused-checked, size-refused, within}
+use Rattle.replay_checks.proofs.CheckLaws.{bounds-refused, can-check, list-checked, refused-checked}
+use Rattle.replay_checks.specs.Check.{tablesOf}
 use borrow.Author.Needs.{needs}
 use Rattle.replay_checks.proofs.bounds_fault.Reads as bounds-fault-reads
 use Rattle.replay_checks.proofs.check.Statement.{statement}
@@ -14,55 +15,41 @@ use Rattle.replay_checks.proofs.check.Lts as lts
 use Rattle.replay_checks.proofs.check_list.Reads as check-list-reads
 
 abbrev calls : lts.Claims
-calls = (
-  size-fault-reads.Asked,
-  size-fault-reads.Learnt,
-  bounds-fault-reads.Asked,
-  bounds-fault-reads.Learnt,
-  check-list-reads.Asked,
-  check-list-reads.Learnt,
-)
+calls = (bounds-fault-reads.Asked, bounds-fault-reads.Learnt, check-list-reads.Asked, check-list-reads.Learnt)
 
-abbrev Sized : Type 0
-Sized = lts.After-size-fault calls reads.Pre reads.Post
+abbrev Bounded : Type 0
+Bounded = lts.After-bounds-fault calls reads.Pre reads.Post
 
--- what is lent, and the share
-abbrev given : Sized → Lent
+abbrev start : Bounded → lts.Start calls reads.Pre reads.Post
+start c = c .before .before .before .before .before .before .before .before
+
+-- what is lent, the lengths of the call's own tables, and the share
+abbrev given : Bounded → Lent
 given c =
-    let a = c .before .before .before .before .before .before .before .before .before .args in
-    lent (a .n) (a .m) (a .t) (a .a .now) (a .b .now) (a .start .now) (a .x .now) (a .y .now) (a .answers .now) (a .names .now) (a .work .now)
+    let a = start c .args in
+    tablesOf (a .n) (a .m) (a .t) (a .a .now) (a .b .now) (a .start .now) (a .x .now) (a .y .now) (a .answers .now)
 
-abbrev share : Sized → ℕ
-share c = c .before .before .before .before .before .before .before .before .before .args .p
+abbrev own : Bounded → List (ℕ × ℕ)
+own c = byTwo (start c .args .own .now)
+
+abbrev share : Bounded → ℕ
+share c = start c .args .p
 
 returns : tie.Need-returns
 returns c =
-    let sized = c .before .before in
-    refused-checked (given sized) (share sized) _ _ _ (size-refused (given sized) (share sized) _ (sized .size-fault .ensures) (omega arith)) (omega arith)
-
-bounds-fault-requires : tie.Need-bounds-fault-requires
-bounds-fault-requires c κs =
-    let sized = c .before .before in
-    within (given sized) (share sized) _ (sized .size-fault .ensures) (omega arith)
-
-returns-2 : tie.Need-returns-2
-returns-2 c =
     let bounded = c .before .before in
-    let sized = bounded .before .before .before in
-    refused-checked (given sized) (share sized) _ _ _
-    (bounds-refused (given sized) (share sized) _ (sized .size-fault .ensures) (omega arith) _ (bounded .bounds-fault .ensures) (omega arith)) (omega arith)
+    refused-checked (own bounded) (given bounded) (share bounded) _ _ _
+    (bounds-refused (own bounded) (given bounded) (share bounded) (start bounded .pre) _ (bounded .bounds-fault .ensures) (omega arith)) (omega arith)
 
 check-list-requires : tie.Need-check-list-requires
 check-list-requires c κs =
     let bounded = c .before .before in
-    let sized = bounded .before .before .before in
-    can-check (given sized) (share sized) _ (sized .size-fault .ensures) (omega arith) _ (bounded .bounds-fault .ensures) (omega arith)
+    can-check (own bounded) (given bounded) (share bounded) (start bounded .pre) _ (bounded .bounds-fault .ensures) (omega arith)
 
-returns-3 : tie.Need-returns-3
-returns-3 c =
+returns-2 : tie.Need-returns-2
+returns-2 c =
     let bounded = c .before .before .before in
-    let sized = bounded .before .before .before in
-    list-checked (given sized) (share sized) _ (sized .size-fault .ensures) (omega arith) _ (bounded .bounds-fault .ensures) (omega arith) (c .check-list .ensures)
+    list-checked (own bounded) (given bounded) (share bounded) (start bounded .pre) _ (bounded .bounds-fault .ensures) (omega arith) (c .check-list .ensures)
 
 pub check-spec : {M : Type 1} → statement M
 check-spec =
@@ -70,7 +57,5 @@ check-spec =
     (tie.spec
     (λ c κs. search needs)
     returns
-    bounds-fault-requires
-    returns-2
     check-list-requires
-    returns-3)
+    returns-2)

@@ -1,10 +1,11 @@
--- The sizes, the work table, and then the replay's own checks.
-use Prim.Native.Nat.{ℕ}
+-- The sizes, then all else with the lengths of the call's own tables.
+use Prim.Native.Nat.{_≤_, ℕ}
 use mathlib.Core.Path.{_≡_}
 use native.Mathlib.Omega.{arith}
-use Rattle.call_replay_junctions.proofs.JunctionCheckLaws.{checked, refused-checked, size-refused, within, work-refused}
 use Rattle.theory_junction_timeline.specs.JunctionCall.{junctionLent}
+use Rattle.theory_junction_timeline.specs.JunctionReplay.{junctionLengths}
 use Rattle.theory_timeline.specs.Replay.{Lent}
+use Rattle.replay_checks.proofs.CheckLaws.{own-checked, refused-checked, size-refused, within}
 use Rattle.call_replay_junctions.proofs.checks.check.Reads as reads
 use Rattle.call_replay_junctions.proofs.checks.check.Lts as lts
 use Rattle.call_replay_junctions.proofs.checks.required.Reads as required-reads
@@ -15,14 +16,7 @@ use Rattle.call_replay_junctions.proofs.checks.check.Statement.{stateme
 use Rattle.call_replay_junctions.proofs.checks.check.Tie as tie
 
 abbrev calls : lts.Claims
-calls = (
-  size-fault-reads.Asked,
-  size-fault-reads.Learnt,
-  required-reads.Asked,
-  required-reads.Learnt,
-  check-reads.Asked,
-  check-reads.Learnt,
-)
+calls = (size-fault-reads.Asked, size-fault-reads.Learnt, required-reads.Asked, required-reads.Learnt, check-reads.Asked, check-reads.Learnt)
 
 abbrev Sized : Type 0
 Sized = lts.After-size-fault calls reads.Pre reads.Post
@@ -36,31 +30,28 @@ given c =
 abbrev share : Sized → ℕ
 share c = c .before .before .before .before .before .before .before .before .args .p
 
+fits : (c : Sized) → c .size-fault .result .code ≡ 0 → (given c .n ≤ 4096) × (given c .m ≤ 8192) × (given c .t ≤ 4096)
+fits c z = within (junctionLengths (given c)) (given c) (share c) _ (c .size-fault .ensures) z
+
 returns : tie.Need-returns
 returns c =
-    let at-size-fault = c .before .before in
-    let sized = at-size-fault in
-    refused-checked (given sized) (share sized) _ _ _ (size-refused (given sized) (share sized) _ (sized .size-fault .ensures) (omega arith)) (omega arith)
+    let sized = c .before .before in
+    refused-checked (junctionLengths (given sized)) (given sized) (share sized) _ _ _
+    (size-refused (junctionLengths (given sized)) (given sized) (share sized) _ (sized .size-fault .ensures) (omega arith)) (omega arith)
 
 required-requires : tie.Need-required-requires
 required-requires c κs =
-    let at-size-fault = c .before .before in
-    let sized = at-size-fault in
-    within (given sized) (share sized) _ (sized .size-fault .ensures) (omega arith)
+    let (n, m, t) = fits (c .before .before) (omega arith) in
+    (t, n, m)
+
+check-requires : tie.Need-check-requires
+check-requires c κs = fits (c .before .before .before .before) (omega arith)
 
 returns-2 : tie.Need-returns-2
 returns-2 c =
-    let at-required = c .before in
-    let at-size-fault = at-required .before .before .before in
-    let sized = at-size-fault in
-    refused-checked (given sized) (share sized) _ _ _ (work-refused (given sized) (share sized) _ (sized .size-fault .ensures) (omega arith) (omega (arith, at-required .required .ensures))) (omega arith)
-
-returns-3 : tie.Need-returns-3
-returns-3 c =
     let at-required = c .before .before in
-    let at-size-fault = at-required .before .before .before in
-    let sized = at-size-fault in
-    checked (given sized) (share sized) _ (sized .size-fault .ensures) (omega arith) (omega (arith, at-required .required .ensures)) (c .check .ensures)
+    let sized = at-required .before .before .before in
+    own-checked (junctionLengths (given sized)) (given sized) (share sized) (rw (← at-required .required .ensures) (c .check .ensures))
 
 pub check-spec : {M : Type 1} → statement M
 check-spec =
@@ -69,6 +60,6 @@ check-spec =
     (λ c κs. search needs)
     returns
     required-requires
-    returns-2
-    (λ c κs. search needs)
-    returns-3)
+    (λ c. search needs)
+    check-requires
+    returns-2)
