@@ -16,5 +16,6 @@ pub mod ReducedGraphs
 pub mod BackwardCounts
 pub mod ForwardEdges
 pub mod Written
+pub mod SpanningForests
 pub mod Cases
 pub mod Example
