@@ -17,5 +17,6 @@ pub mod BackwardCounts
 pub mod ForwardEdges
 pub mod Written
 pub mod SpanningForests
+pub mod Existence
 pub mod Cases
 pub mod Example
