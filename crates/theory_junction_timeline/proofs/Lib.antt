@@ -1,4 +1,5 @@
 pub mod Cases
 pub mod JunctionNetworks
+pub mod JunctionSteps
 pub mod JunctionReaders
 pub mod JunctionDemand

@@ -16,5 +16,7 @@ pub mod ReducedGraphs
 pub mod BackwardCounts
 pub mod ForwardEdges
 pub mod Written
+pub mod SpanningForests
+pub mod Existence
 pub mod Cases
 pub mod Example

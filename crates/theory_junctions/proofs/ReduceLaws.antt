@@ -83,7 +83,7 @@ backwards-mem u (x ∷ xs) m = go (split-mem (backwards xs) (x ∷ []) m) (backw
     go (inr (List·Memᴰ·head e)) ih = List·Memᴰ·head e
     go (inr (List·Memᴰ·tail n)) ih = absurd (elim n [ ])
 
-mem-backwards : (u : ℕ) (xs : List ℕ) → List·Memᴰ u xs → List·Memᴰ u (backwards xs)
+pub mem-backwards : (u : ℕ) (xs : List ℕ) → List·Memᴰ u xs → List·Memᴰ u (backwards xs)
 mem-backwards u (x ∷ xs) (List·Memᴰ·head e) = mem-append (backwards xs) (x ∷ []) (inr (List·Memᴰ·head e))
 mem-backwards u (x ∷ xs) (List·Memᴰ·tail m) = mem-append (backwards xs) (x ∷ []) (inl (mem-backwards u xs m))
 

@@ -34,7 +34,7 @@ or-false : (a b : Bool) → (a || b) ≡ false → (a ≡ false) × (b ≡ false
 or-false true b h = contradict refl h
 or-false false b h = (refl, h)
 
-edge-ends : {p q : ℕ} (E : List Edge) → List·Memᴰ (p, q) E → List·Memᴰ p (endsOf E) × List·Memᴰ q (endsOf E)
+pub edge-ends : {p q : ℕ} (E : List Edge) → List·Memᴰ (p, q) E → List·Memᴰ p (endsOf E) × List·Memᴰ q (endsOf E)
 edge-ends (e ∷ E) (List·Memᴰ·head h) = (List·Memᴰ·head (ap (λ e. e .0) h), List·Memᴰ·tail (List·Memᴰ·head (ap (λ e. e .1) h)))
 edge-ends (e ∷ E) (List·Memᴰ·tail m) = let (a, b) = edge-ends E m in (List·Memᴰ·tail (List·Memᴰ·tail a), List·Memᴰ·tail (List·Memᴰ·tail b))
 
