@@ -21,6 +21,7 @@ use Rattle.theory_timeline.specs.Replay.{Lent, given, openAtEnd, queries}
 use Rattle.theory_timeline.specs.Windows.{Timeline, Window, size, windows}
 use Rattle.theory_junction_timeline.proofs.JunctionNetworks.{made-faithful, made-reduced}
 use Rattle.theory_junction_timeline.proofs.JunctionReaders.{byte-is}
+use Rattle.theory_junction_timeline.proofs.JunctionSteps.{junctions-made}
 use Rattle.theory_junction_timeline.specs.JunctionDemand.{IsJunctionByte, Junction-demand, JunctionDemand}
 use Rattle.theory_junction_timeline.specs.JunctionReplay.{JunctionFaultless, JunctionOutcome, junctionByte, junctionBytes, junctionDone, junctionFault, junctionLengths, junctionRefused}
 use Rattle.theory_junction_timeline.specs.JunctionReplay.{junctionRequired, replayJunctions}
@@ -44,18 +45,18 @@ pub junction-done : (l : Lent) (p : ℕ) → JunctionFaultless l p → replayJun
 unfolding replayJunctions
 junction-done l p h = ap (λ (b : Bool). elim b as (λ x. JunctionOutcome) [ true ↦ junctionDone l | false ↦ junctionRefused l (junctionFault l p) ]) (eq-eqb (junctionFault l p .0) 0 h)
 
-pub done-faultless : (l : Lent) (p : ℕ) → (replayJunctions l p) .code ≡ 0 → JunctionFaultless l p
+pub done-faultless : (l : Lent) (p : ℕ) → (replayJunctions l p) .accepted ≡ true → JunctionFaultless l p
 unfolding replayJunctions junctionRefused
 done-faultless l p = go (eqb (junctionFault l p .0) 0) refl
   where
     go : (b : Bool) → eqb (junctionFault l p .0) 0 ≡ b
-        → (elim b as (λ x. JunctionOutcome) [ true ↦ junctionDone l | false ↦ junctionRefused l (junctionFault l p) ]) .code ≡ 0 → junctionFault l p .0 ≡ 0
+        → (elim b as (λ x. JunctionOutcome) [ true ↦ junctionDone l | false ↦ junctionRefused l (junctionFault l p) ]) .accepted ≡ true → junctionFault l p .0 ≡ 0
     go true e h = eqb-true (junctionFault l p .0) 0 e
-    go false e h = h
+    go false e h = contradict h refl
 
-done-code : (l : Lent) → (junctionDone l) .code ≡ 0
+done-accepted : (l : Lent) → (junctionDone l) .accepted ≡ true
 unfolding junctionDone
-done-code l = refl
+done-accepted l = refl
 
 -- ---- its answer table
 pub junction-bytes-length : (l : Lent) (p : ℕ) → AcceptedList l p → length (junctionBytes (given l)) ≡ l .t
@@ -80,9 +81,9 @@ done-numbers : (l k : Lent) → given l ≡ given k → ((junctionDone l) .queri
 unfolding junctionDone
 done-numbers l k g = (ap queries g, ap openAtEnd g)
 
-share-accepted : (l : Lent) (p q : ℕ) → Allowed p → Allowed q → (replayJunctions l p) .code ≡ 0 → (replayJunctions l q) .code ≡ 0
+share-accepted : (l : Lent) (p q : ℕ) → Allowed p → Allowed q → (replayJunctions l p) .accepted ≡ true → (replayJunctions l q) .accepted ≡ true
 share-accepted l p q a b h =
-    ap (λ (r : JunctionOutcome). r .code) (junction-done l q (ap (λ (v : Refusal). v .0) (sym (junction-share l p q a b)) ∙ done-faultless l p h)) ∙ done-code l
+    ap (λ (r : JunctionOutcome). r .accepted) (junction-done l q (ap (λ (v : Refusal). v .0) (sym (junction-share l p q a b)) ∙ done-faultless l p h)) ∙ done-accepted l
 
 both : (l k : Lent) (p q : ℕ) → Allowed p → Allowed q → JunctionDemand l k p q (replayJunctions l p) (replayJunctions k q)
 both l k p q a b = record {
@@ -90,6 +91,9 @@ both l k p q a b = record {
       let f = done-faultless l p h in
       subst (IsJunctionByte (given l) i)
       (sym (ap (λ (r : JunctionOutcome). getD (r .answers) i 0) (junction-done l p f) ∙ byte-at l p (junction-accepted l p f .list) i u)) (byte-is (given l) i);
+  made = λ h w m.
+      let t = events-length l p (junction-accepted l p (done-faultless l p h) .list) in
+      junctions-made (given l) p a w (subst (λ (t : ℕ). List·Memᴰ w (windows p t)) (sym t) m);
   faithful = λ h w m n H σ d. made-faithful (made-reduced d);
   alike = λ h j s.
       let f = done-faultless l p h in
@@ -104,8 +108,8 @@ both l k p q a b = record {
         ap (λ (r : JunctionOutcome). r .queries) (junction-done l p f) ∙ x ∙ ap (λ (r : JunctionOutcome). r .queries) (sym (junction-done k q e)),
         ap (λ (r : JunctionOutcome). r .opened) (junction-done l p f) ∙ y ∙ ap (λ (r : JunctionOutcome). r .opened) (sym (junction-done k q e)),
       );
-  tables = λ e. subst (λ (k : Lent). ((replayJunctions l p) .code ≡ 0 ↔ (replayJunctions k q) .code ≡ 0)
-      × ((replayJunctions l p) .code ≡ 0 → ((replayJunctions l p) .answers ≡ (replayJunctions k q) .answers) × ((replayJunctions l p) .work ≡ (replayJunctions k q) .work))) e (
+  tables = λ e. subst (λ (k : Lent). ((replayJunctions l p) .accepted ≡ true ↔ (replayJunctions k q) .accepted ≡ true)
+      × ((replayJunctions l p) .accepted ≡ true → ((replayJunctions l p) .answers ≡ (replayJunctions k q) .answers) × ((replayJunctions l p) .work ≡ (replayJunctions k q) .work))) e (
         (share-accepted l p q a b, share-accepted l q p b a),
         λ h.
             let r : replayJunctions l p ≡ replayJunctions l q =

@@ -1,7 +1,9 @@
--- What the sibling keeps, as demand 3 says it of the replay: "All shares lead to the same replies, and each equals the definition over roads".
--- One statement about two outcomes, with the replies in the words of document 02, straight from the open segments; and, beyond the letter, that each graph made on
--- the way down the windows replies as the window's own network does, whatever is added between its active junctions.
--- It cites, of theory_timeline: Lent, given, Alike, Allowed, Among, openBefore, edgesOf, network, active; of theory_graph: joined; of theory_junctions: reply.
+-- The sibling's demand, as demand 3 is the replay's: "All shares lead to the same replies, and each equals the definition over roads".
+-- One statement about two outcomes: the replies in the words of document 02, straight from the open segments; that for each window a reduced graph is made, out
+-- of the one above it; and that whichever is made replies as the window's own network does, whatever edges are added between its active junctions, and is small.
+-- Its proof is proofs/JunctionDemand.
+-- It cites, of theory_timeline: Lent, given, Alike, Allowed, Among, openBefore, edgesOf, network, active, windows; of theory_graph: joined, image, different; of
+-- theory_junctions: reply, mostJunctions and mostEdges, the bounds 3k - 3 and 4k - 6; and JunctionReplay, JunctionSteps.
 -- Assumes nothing: these are definitions.
 use Prim.Native.Nat.{_<_, _≤_, ℕ}
 use mathlib.Core.Bool.{false, true}
@@ -18,7 +20,7 @@ use Rattle.theory_timeline.specs.Events.{SegmentSet}
 use Rattle.theory_timeline.specs.Replay.{Lent, given}
 use Rattle.theory_timeline.specs.Windows.{Timeline, Window, active, asksAt, edgesOf, event, network, openBefore, windows}
 use Rattle.theory_junction_timeline.specs.JunctionReplay.{JunctionOutcome, replayJunctions, sparing}
-use Rattle.theory_junction_timeline.specs.JunctionSteps.{JunctionsMade}
+use Rattle.theory_junction_timeline.specs.JunctionSteps.{HasMade, JunctionsMade}
 use Rattle.theory_junctions.specs.ReducedGraph.{mostEdges, mostJunctions}
 
 -- ---- the byte of event i, in the words of document 02
@@ -50,17 +52,20 @@ pub record JunctionsFaithful (g : Timeline) (w : Window) (n : ℕ) (H : List Edg
   pub nodes : n ≤ mostJunctions (different (active g w))
   pub edges : length H ≤ mostEdges (different (active g w))
 
--- ---- the statement: r is the outcome of lending l with the share p, s that of lending k with the share q; code 0 is acceptance
+-- ---- the statement: r is the outcome of lending l with the share p, s that of lending k with the share q
 pub record JunctionDemand (l k : Lent) (p q : ℕ) (r s : JunctionOutcome) : Type 0 where
   -- each byte is the one of the documents
-  pub bytes : r .code ≡ 0 → (i : ℕ) → i < l .t → IsJunctionByte (given l) i (getD (r .answers) i 0)
-  -- each window's graph replies as its network
-  pub faithful : r .code ≡ 0 → (w : Window) → List·Memᴰ w (windows p (l .t)) → (n : ℕ) (H : List Edge) (σ : ℕ → ℕ) → JunctionsMade (given l) w n H σ
+  pub bytes : r .accepted ≡ true → (i : ℕ) → i < l .t → IsJunctionByte (given l) i (getD (r .answers) i 0)
+  -- for each window a reduced graph is made, out of the one above it and not out of the network,
+  pub made : r .accepted ≡ true → (w : Window) → List·Memᴰ w (windows p (l .t)) → HasMade (given l) w
+  -- and whichever is made replies as the window's network does, and is small
+  pub faithful : r .accepted ≡ true → (w : Window) → List·Memᴰ w (windows p (l .t)) → (n : ℕ) (H : List Edge) (σ : ℕ → ℕ) → JunctionsMade (given l) w n H σ
       → JunctionsFaithful (given l) w n H σ
   -- lent alike but for the tables that are written: the same replies and numbers
-  pub alike : r .code ≡ 0 → s .code ≡ 0 → Alike l k → (take (l .t) (r .answers) ≡ take (l .t) (s .answers)) × (r .queries ≡ s .queries) × (r .opened ≡ s .opened)
+  pub alike : r .accepted ≡ true → s .accepted ≡ true → Alike l k
+      → (take (l .t) (r .answers) ≡ take (l .t) (s .answers)) × (r .queries ≡ s .queries) × (r .opened ≡ s .opened)
   -- lent the same: accepted alike, and then every table alike
-  pub tables : l ≡ k → (r .code ≡ 0 ↔ s .code ≡ 0) × (r .code ≡ 0 → (r .answers ≡ s .answers) × (r .work ≡ s .work))
+  pub tables : l ≡ k → (r .accepted ≡ true ↔ s .accepted ≡ true) × (r .accepted ≡ true → (r .answers ≡ s .answers) × (r .work ≡ s .work))
 
 abbrev pub Junction-demand : Type 0
 Junction-demand = (l k : Lent) (p q : ℕ) → Allowed p → Allowed q → (r s : JunctionOutcome) → r ≡ replayJunctions l p → s ≡ replayJunctions k q → JunctionDemand l k p q r s
