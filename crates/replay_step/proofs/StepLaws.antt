@@ -31,8 +31,8 @@ use Rattle.theory_timeline.specs.Windows.{Timeline, active, changesAt, event, n
 use Rattle.replay_step.proofs.EdgeLaws.{area-runs, area-table, areaEntry}
 use Rattle.replay_step.proofs.LoadLaws.{edges-are, places-are, window-length, words-are}
 use Rattle.replay_step.proofs.WordLaws.{low-map, take-less}
-use Rattle.replay_step.specs.Area.{Area, EventsIn, SmallArea, StepReady, Stepped, areaEdges, span}
-use Rattle.replay_step.specs.Load.{AreaMade, IsPart, LoadReady, PartLoaded}
+use Rattle.replay_step.specs.Area.{Area, EventsIn, IsPart, SmallArea, StepReady, StepReadyOf, Stepped, areaEdges, span}
+use Rattle.replay_step.specs.Load.{AreaMade, LoadReady, PartLoaded}
 use Rattle.replay_step.specs.declared.Graph.{Graph}
 use Rattle.replay_step.specs.declared.Part.{Part}
 use Rattle.replay_step.specs.declared.Window.{Window}
@@ -74,14 +74,14 @@ module _ {w : Window} {p : Part} {v : List ℕ} (st : StepReady w (p .at) (p .ev
       let u = take (17 * n) v in
       let lu : length u ≡ 17 * n = length-take-le (17 * n) v (omega (arith, st .room)) in
       let m : List·Memᴰ (areaEntry n u j) (areaEdges n (w .edges) u) =
-      subst (λ (G : Named). List·Memᴰ (areaEntry n u j) G) (sym (area-table n (w .edges) u (omega arith) (a .few))) (table-in (areaEntry n u) 0 (w .edges) j (omega arith) (omega arith)) in
-      let (b, c) = endsIn-of (λ v. ltb v (w .nodes)) (plain (areaEdges n (w .edges) u)) (a .carries .inside) (plain-in m) in
+      subst (λ (G : Named). List·Memᴰ (areaEntry n u j) G) (sym (area-table n (w .edges) u (omega arith) (a .graph .few))) (table-in (areaEntry n u) 0 (w .edges) j (omega arith) (omega arith)) in
+      let (b, c) = endsIn-of (λ v. ltb v (w .nodes)) (plain (areaEdges n (w .edges) u)) (a .graph .carries .inside) (plain-in m) in
       let at : (i : ℕ) → i < 17 * n → getD u i 0 ≡ getD v i 0 = λ i h. getD-take (17 * n) v i 0 h in
       let x : 9 * n + j ≡ 5 * n + 4 * n + j = omega arith in
       let y : 13 * n + j ≡ 5 * n + 2 * (4 * n) + j = omega arith in (
-        subst (λ (k : ℕ). k < w .nodes) (at (5 * n + j) (omega (arith, a .few))) (ltb-true _ (w .nodes) b),
-        subst (λ (k : ℕ). k < w .nodes) (at (9 * n + j) (omega (arith, a .few)) ∙ ap (λ (k : ℕ). getD v k 0) x) (ltb-true _ (w .nodes) c),
-        omega (arith, at (13 * n + j) (omega (arith, a .few)) ∙ ap (λ (k : ℕ). getD v k 0) y, a .names (areaEntry n u j) m),
+        subst (λ (k : ℕ). k < w .nodes) (at (5 * n + j) (omega (arith, a .graph .few))) (ltb-true _ (w .nodes) b),
+        subst (λ (k : ℕ). k < w .nodes) (at (9 * n + j) (omega (arith, a .graph .few)) ∙ ap (λ (k : ℕ). getD v k 0) x) (ltb-true _ (w .nodes) c),
+        omega (arith, at (13 * n + j) (omega (arith, a .graph .few)) ∙ ap (λ (k : ℕ). getD v k 0) y, a .graph .names (areaEntry n u j) m),
       )
 
   pub load-ready : LoadReady w (4 * w .events) p v
@@ -92,21 +92,22 @@ module _ {w : Window} {p : Part} {v : List ℕ} (st : StepReady w (p .at) (p .ev
         ends = st .ends;
         much = st .much;
         many = st .many;
-        few = a .few;
-        light = omega (arith, a .few, st .much);
+        few = a .graph .few;
+        light = omega (arith, a .graph .few, st .much);
         places = ip .places;
-        words = ip .words;
+        words = ip .words-at;
         front = omega (arith, ip .area);
         behind = omega (arith, ip .area, ip .scratch);
         room = omega (arith, st .room, ip .scratch);
-        nodes = places-low (st .g) (st .sound) w (st .inside) (a .σ) (17 * n) v (omega arith) (a .events) (λ b m. a .carries .place b m .0);
+        nodes = places-low (st .g) (st .sound) w (st .inside) (a .σ) (17 * n) v (omega arith) (a .events) (λ b m. a .graph .carries .place b m .0);
         keys = keys-low (st .g) (st .sound) w (st .inside) (a .σ) (17 * n) v (omega arith) (a .events);
         edges = edges-low;
       }
 
 -- ---- the step
 -- the part of c events from a events into the window on
-pub part-ready : {w : Window} {lo c : ℕ} {v : List ℕ} → StepReady w lo c v → (a : ℕ) → a ≤ lo - w .at → StepReady w (w .at + a) c v
+pub part-ready : {A : Timeline → Window → List ℕ → Type 0} {words : ℕ → ℕ} {need : ℕ} {w : Window} {lo c : ℕ} {v : List ℕ} → StepReadyOf A words need w lo c v
+    → (a : ℕ) → a ≤ lo - w .at → StepReadyOf A words need w (w .at + a) c v
 part-ready st a l = record {
   g = st .g;
   sound = st .sound;
@@ -129,8 +130,10 @@ pub small-area : (g : Timeline) → Sound g → (r : Window) {z : List ℕ} {ρ 
     → IsNamedSmallGraph (network g (span r)) (active g (span r)) (r .nodes) (areaEdges (r .events) (r .edges) z) ρ σ → EventsIn g (span r) σ z → SmallArea g r z
 small-area g sound r {σ = σ} s e = record {
   σ = σ;
-  graph = named-renumbered (network g (span r)) (active g (span r)) _ _ _ _ (named-is g (sound-good g sound) (span r)) _ _ _ _ s;
-  bound = small-bound _ _ _ _ _ _ (definition-small _ _ _ _ _ _ (s .small));
+  graph = record {
+    renumbered = named-renumbered (network g (span r)) (active g (span r)) _ _ _ _ (named-is g (sound-good g sound) (span r)) _ _ _ _ s;
+    bound = small-bound _ _ _ _ _ _ (definition-small _ _ _ _ _ _ (s .small));
+  };
   events = e;
 }
 
@@ -157,7 +160,7 @@ module _ {w : Window} {p : Part} {v : List ℕ} (st : StepReady w (p .at) (p .ev
     loaded-is : SameEntries (edgesIn (l .nodes) (l .edges) (drop (p .scratch) z)) (areaEdges (w .events) (w .edges) u ++ imageNamed (a .σ) (added g (span w) (p .at, c)))
     loaded-is =
         subst (λ (G : Named). SameEntries (edgesIn (l .nodes) (l .edges) (drop (p .scratch) z)) (G ++ imageNamed (a .σ) (added g (span w) (p .at, c))))
-        (area-runs (w .events) (w .edges) v high (a .few))
+        (area-runs (w .events) (w .edges) v high (a .graph .few))
         (edges-are (load-ready st ip) pl lz (17 * w .events) low high g sound inside (a .σ) (a .events))
 
     part-made : SmallArea g (windowOf p r) (take (17 * c) (drop (17 * w .events) y))
@@ -166,7 +169,7 @@ module _ {w : Window} {p : Part} {v : List ℕ} (st : StepReady w (p .at) (p .ev
         let g1 : IsNamedSmallGraph (edgesIn (l .nodes) (l .edges) (drop (p .scratch) z)) (map (a .σ) (active g (p .at, c))) (r .nodes)
         (areaEdges c (r .edges) (take (17 * c) (drop (p .area) y))) (am .ρ) (am .σ) =
         rw T at (am .small) in
-        let g2 = part-small g (span w) (p .at, c) part (w .nodes) (areaEdges (w .events) (w .edges) u) (a .ρ) (a .σ) (a .carries) (r .nodes) _ (am .ρ) (am .σ)
+        let g2 = part-small g (span w) (p .at, c) part (w .nodes) (areaEdges (w .events) (w .edges) u) (a .graph .ρ) (a .σ) (a .graph .carries) (r .nodes) _ (am .ρ) (am .σ)
         (named-small-equal loaded-is g1) in
         subst (λ (k : ℕ). SmallArea g (windowOf p r) (take (17 * c) (drop k y))) (ip .area)
         (small-area g sound (windowOf p r) g2 (record {

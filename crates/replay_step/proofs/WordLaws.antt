@@ -15,11 +15,16 @@ use Rattle.theory_graph.specs.Lists.{over, range, table}
 use Rattle.core_words.specs.Fields.{MAPPED, node}
 
 -- the table of a window is that of its parts
-pub sets-two : (f : ℕ → ℕ) (l : List ℕ) (i n c : ℕ) → c ≤ n → sets l i (table f i n) ≡ sets (sets l i (table f i c)) (i + c) (table f (i + c) (n - c))
+sets-two : (f : ℕ → ℕ) (l : List ℕ) (i n c : ℕ) → c ≤ n → sets l i (table f i n) ≡ sets (sets l i (table f i c)) (i + c) (table f (i + c) (n - c))
 sets-two f l i n c h =
     let e : n ≡ c + (n - c) = omega arith in
     ap (λ k. sets l i (table f i k)) e ∙ ap (sets l i) (table-append f i c (n - c)) ∙ sets-append (table f i c) l i (table f (i + c) (n - c))
     ∙ ap (λ k. sets (sets l i (table f i c)) (i + k) (table f (i + c) (n - c))) (table-length f i c)
+
+-- so where the first c of n entries are written, and then the others
+pub sets-parts : (f : ℕ → ℕ) (i n c : ℕ) → c ≤ n → (before : List ℕ) {mid after : List ℕ} → mid ≡ sets before i (table f i c) → after ≡ sets mid (i + c) (table f (i + c) (n - c))
+    → after ≡ sets before i (table f i n)
+sets-parts f i n c h before a b = b ∙ ap (λ m. sets m (i + c) (table f (i + c) (n - c))) a ∙ sym (sets-two f before i n c h)
 
 pub fill-more : (f : ℕ → ℕ) (l : List ℕ) (q i x : ℕ) → x ≡ f i → set (sets l q (table f 0 i)) (q + i) x ≡ sets l q (table f 0 (i + 1))
 fill-more f l q i x e =

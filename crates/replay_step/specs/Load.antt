@@ -15,14 +15,17 @@ use Rattle.theory_graph.specs.Lists.{table}
 use Rattle.theory_names.specs.Names.{Entry}
 use Rattle.theory_names.specs.NamedSmallGraph.{IsNamedSmallGraph}
 use Rattle.theory_timeline.specs.Tags.{adds, keyOf, pickEvents}
-use Rattle.replay_step.specs.Area.{areaEdges, span}
+use Rattle.replay_step.specs.Area.{areaEdges, areaWords, span}
 use Rattle.replay_step.specs.declared.Graph.{Graph}
 use Rattle.replay_step.specs.declared.Part.{Part}
 use Rattle.replay_step.specs.declared.Window.{Window}
 
--- the words of the graph that is loaded begin right behind an area of 17 words an event
+-- the words of the graph that is loaded begin right behind the part's area
+abbrev pub BehindOf : (ℕ → ℕ) → Part → Type 0
+BehindOf words p = p .scratch ≡ p .area + words (p .events)
+
 abbrev pub Behind : Part → Type 0
-Behind p = p .scratch ≡ p .area + 17 * p .events
+Behind = BehindOf areaWords
 
 -- ---- active nodes
 -- the nodes at the `count` words from `from` on, before s, are nodes of a graph that has n and whose words stand from s on
@@ -123,13 +126,6 @@ pub record AreaMade (p : Part) (l : Graph) (w z : List ℕ) (r : Counts) : Type 
   pub words : take (3 * p .events) (drop (2 * p .events) (take (17 * p .events) (drop (p .area) z))) ≡ take (3 * p .events) (drop (p .words) w)
 
 -- ---- what is loaded
--- where a step takes the part's places and words from, and where it puts the part's area and what is loaded
-pub record IsPart (w : Window) (p : Part) : Type 0 where
-  pub places : p .places ≡ 2 * (p .at - w .at)
-  pub words : p .words ≡ 2 * w .events + 3 * (p .at - w .at)
-  pub area : p .area ≡ 17 * w .events
-  pub scratch : p .scratch ≡ 17 * w .events + 17 * p .events
-
 -- the places, the words and the graph of a window stand in the words, with room for `most` edges; of what they say no more is asked than this
 pub record LoadReady (w : Window) (most : ℕ) (p : Part) (v : List ℕ) : Type 0 where
   pub starts : w .at ≤ p .at

@@ -1,5 +1,5 @@
--- The recursion over windows: what a window's area says of its counts, how a step and the two parts join to a window, and a window of one event.
--- In order: the counts of an area; the windows of a share; what a step and a part need; a window of two parts; a window of one event.
+-- The replay's recursion over windows: what a window's area says of its counts, how a step and the two parts join to a window, and a window of one event.
+-- In order: the counts of an area; the windows of a share; what a step needs; a window of two parts; a window of one event. What both replays need is in PartLaws.
 -- Assumes nothing.
 use Prim.Native.Nat.{_*_, _+_, _-_, _<_, _≤_, suc, zero, ℕ}
 use mathlib.Core.Bool.{Bool, cond, false, true}
@@ -7,11 +7,9 @@ use mathlib.Core.List.{List, List·Memᴰ, [], _++_, _∷_, map}
 use mathlib.Core.Path.{_∙_, _≡_, ap, ap₂, refl, subst, sym}
 use lib.Dec.{eqb, ltb}
 use lib.ListN.{drop, getD, length, length-drop, length-map, length-take, set, take}
-use lib.Seq.{getD-take, sets, take-take}
-use native.Mathlib.Nat.{mul-le-mul-left}
+use lib.Seq.{getD-take, sets}
 use native.Mathlib.Omega.{arith}
 use borrow.Author.Tests.{eqb-false, eqb-true, ltb-false, ltb-true}
-use borrow.Rule.Slice.PartMut.{putMid, take-put}
 use Rattle.theory_graph.proofs.Booleans.{onBool}
 use Rattle.theory_graph.proofs.EdgeCount.{firsts-most, small-edges, small-edges-most}
 use Rattle.theory_graph.proofs.Lists.{table-in, table-length}
@@ -37,12 +35,13 @@ use Rattle.theory_timeline.specs.Windows.{Timeline, Window, active, asksAt, dur
 use Rattle.replay_step.proofs.EdgeLaws.{area-table, areaEntry}
 use Rattle.replay_step.proofs.LeafLaws.{leaf-asks, leaf-changes}
 use Rattle.replay_step.proofs.LoadLaws.{active-length}
-use Rattle.replay_step.proofs.WordLaws.{sets-two}
-use Rattle.replay_step.specs.Area.{Area, SmallArea, StepReady, Stepped, areaEdges, span}
+use Rattle.replay_step.proofs.WordLaws.{sets-parts}
+use Rattle.replay_step.specs.Area.{Area, SmallArea, StepReady, Stepped, areaEdges, areaWords, span}
 use Rattle.replay_step.specs.declared.Window as W
 use Rattle.replay_leaf.proofs.LeafLaws.{byte-3, byte-read}
 use Rattle.replay_leaf.specs.Leaf.{byteBy, nameBy}
-use Rattle.replay_windows.specs.Descent.{OneDone, WindowDone, WindowReady, Written, written}
+use Rattle.replay_windows.proofs.PartLaws.{Descends, Shares, first-ready, part-area, parts, second-ready, shares}
+use Rattle.replay_windows.specs.Descent.{OneDone, WindowDone, WindowReady, WindowReadyOf, Written, windowWords, written}
 
 -- ---- the counts of an area
 most-less : (k n : ℕ) → k ≤ 2 * n → 0 < n → mostNodes k + 2 ≤ 4 * n
@@ -56,17 +55,17 @@ module _ {g : Timeline} {w : W.Window} {v : List ℕ} (a : SmallArea g w v) (som
   nodes-less : w .nodes + 2 ≤ 4 * w .events
   nodes-less =
       let f = firsts-most eqb (active g (span w)) in
-      omega (arith, a .bound, most-less (different (active g (span w))) (w .events) (omega (arith, active-short g (w .at) (w .events))) some)
+      omega (arith, a .graph .bound, most-less (different (active g (span w))) (w .events) (omega (arith, active-short g (w .at) (w .events))) some)
 
   pub area-nodes : w .nodes ≤ 4 * w .events
   area-nodes = omega (arith, nodes-less)
 
   pub area-small : w .nodes ≡ (small g (span w)) .nodes
-  area-small = sym (a .graph .graph .nodes)
+  area-small = sym (a .graph .renumbered .graph .nodes)
 
   module _ (sound : Sound g) (l : 17 * w .events ≤ length v) where
     graph : (ρ : ℕ → ℕ) × IsNamedSmallGraph (network g (span w)) (active g (span w)) (w .nodes) (areaEdges (w .events) (w .edges) v) ρ (a .σ)
-    graph = (_, named-renumbered-small (named-is g (sound-good g sound) (span w)) (a .graph))
+    graph = (_, named-renumbered-small (named-is g (sound-good g sound) (span w)) (a .graph .renumbered))
 
     edges-less : length (areaEdges (w .events) (w .edges) v) < 4 * w .events
     edges-less =
@@ -96,27 +95,12 @@ module _ {g : Timeline} {w : W.Window} {v : List ℕ} (a : SmallArea g w v) (som
 
     pub area-of : Area g w v
     area-of = record {
-      ρ = graph .0;
       σ = a .σ;
-      carries = named-small-carries _ _ _ _ _ _ (graph .1);
+      graph = record { ρ = graph .0; carries = named-small-carries _ _ _ _ _ _ (graph .1); few = area-edges; names = area-names };
       events = a .events;
-      few = area-edges;
-      names = area-names;
     }
 
 -- ---- the windows of a share
-pub record Shares (n c : ℕ) : Type 0 where
-  pub some : 1 ≤ c
-  pub less : c < n
-  pub first : 11 * c ≤ 10 * n
-  pub second : 11 * (n - c) ≤ 10 * n
-
-pub shares : (p n : ℕ) → 2 ≤ n → Allowed p → Shares n (firstPart p n)
-shares p n h a =
-    let l : n * 4 ≤ n * p = mul-le-mul-left n (a .0) in
-    let u : n * p ≤ n * 12 = mul-le-mul-left n (a .1) in
-    record { some = omega arith; less = omega arith; first = omega arith; second = omega arith }
-
 module _ (p : ℕ) (a : Allowed p) where
   windows-same : (k l at n : ℕ) → n ≤ k → n ≤ l → 0 < n → windowsFrom p k at n ≡ windowsFrom p l at n
   windows-same zero l at n x y z = absurd (omega arith)
@@ -152,110 +136,80 @@ module _ (p : ℕ) (a : Allowed p) where
   pub sum-one : (f : Window → ℕ) (at : ℕ) → sum (map f (windowsFrom p 1 at 1)) ≡ f (at, 1)
   sum-one f at = let l : 1 < 2 = omega arith in ap (λ l. sum (map f l)) (small-one p a 0 at 1 l) ∙ omega arith
 
--- ---- what a step needs, and what it leaves
--- the part that is lent: all from k on
-pub lent-take : (k j : ℕ) (z : List ℕ) → k + j ≤ length z → take j (take (length z - k) (drop k z)) ≡ take j (drop k z)
-lent-take k j z l = take-take j (length z - k) (drop k z) (omega arith)
-
+-- ---- what a step needs
 module _ {w : W.Window} {p : ℕ} {answers names v : List ℕ} (r : WindowReady w p answers names v) where
   abbrev n : ℕ
   n = w .events
 
-  long : 17 * n ≤ length (take (17 * n) v)
-  long = rw length-take (omega (arith, r .room))
+  abbrev q : WindowReadyOf SmallArea areaWords windowWords w p v
+  q = r .ready
 
-  own : (g : Timeline) → Sound g → SmallArea g w (take (17 * n) v) → Area g w (take (17 * n) v)
-  own g sound a = area-of a (r .some) sound long
+  long : 17 * n ≤ length (take (17 * n) v)
+  long = rw length-take (omega (arith, q .enough))
+
+  pub descends : Descends Area SmallArea areaWords windowWords w v
+  descends = record { own = λ g sound a. area-of a (q .some) sound long; fits = λ c n h. omega arith }
 
   pub step-ready : (lo c : ℕ) (z : List ℕ) → w .at ≤ lo → lo + c ≤ w .at + n → 0 < c → length z ≡ length v → take (17 * n) z ≡ take (17 * n) v → StepReady w lo c z
   step-ready lo c z a b s e f =
-      let o = own (r .g) (r .sound) (r .area) in
+      let o = descends .own (q .g) (q .sound) (q .area) in
       record {
-        g = r .g;
-        sound = r .sound;
-        inside = r .inside;
+        g = q .g;
+        sound = q .sound;
+        inside = q .inside;
         area = rw f o;
         starts = a;
         ends = b;
         some = s;
-        room = omega (arith, r .room, area-nodes (r .area) (r .some), o .few);
-        many = omega (arith, r .much, area-nodes (r .area) (r .some));
-        much = r .much;
+        room = omega (arith, q .enough, area-nodes (q .area) (q .some), o .graph .few);
+        many = omega (arith, q .much, area-nodes (q .area) (q .some));
+        much = q .much;
       }
 
-  -- what a step leaves for the part, in the words that are lent on
-  module _ {lo c : ℕ} {y z : List ℕ} {k : W.Window} (t : Stepped w lo c y z k) (f : take (17 * n) y ≡ take (17 * n) v) (e : length z ≡ length v)
-      (b : lo + c ≤ w .at + n) (lo-ok : w .at ≤ lo) where
-    part-area : (g : Timeline) → Sound g → w .at + n ≤ size g → SmallArea g w (take (17 * n) v) → SmallArea g k (take (17 * k .events) (take (length z - 17 * n) (drop (17 * n) z)))
-    part-area g sound i a =
-        let x : 17 * n + 17 * k .events ≤ length z = omega (arith, r .room, t .events) in
-        let h : take (17 * c) (drop (17 * n) z) ≡ take (17 * k .events) (take (length z - 17 * n) (drop (17 * n) z)) =
-        ap (λ (m : ℕ). take (17 * m) (drop (17 * n) z)) (sym (t .events)) ∙ sym (lent-take (17 * n) (17 * k .events) z x) in
-        subst (λ (v : List ℕ). SmallArea g k v) h (t .made g sound i (rw f (own g sound a)))
-
-    pub part-ready : (answers′ names′ : List ℕ) → length answers′ ≡ length answers → length names′ ≡ length names → 0 < c → 11 * c ≤ 10 * n
-        → WindowReady k p answers′ names′ (take (length z - 17 * n) (drop (17 * n) z))
-    part-ready answers′ names′ l l′ s h = record {
-      g = r .g;
-      sound = r .sound;
-      inside = omega (arith, r .inside, t .at, t .events);
-      area = part-area (r .g) (r .sound) (r .inside) (r .area);
-      some = omega (arith, t .events);
-      much = omega (arith, r .much, t .at, t .events);
-      share = r .share;
-      long = omega (arith, r .long, t .at, t .events);
-      names-long = omega (arith, r .names-long, t .at, t .events);
-      room = rw (length-take, length-drop) (omega (arith, r .room, t .events));
-    }
-
   -- ---- a window of two parts
-  module _ (two : 2 ≤ n) {c : ℕ} (q : c ≡ firstPart p n) {w₁ : List ℕ} {a : W.Window} (s : Stepped w (w .at) c v w₁ a) (l₁ : length w₁ ≡ length v) where
-    pub first-ready : (a .events < n) × WindowReady a p answers names (take (length w₁ - 17 * n) (drop (17 * n) w₁))
-    first-ready =
-        let sh = shares p n two (r .share) in
-        let cn : (c < n) × (0 < c) × (11 * c ≤ 10 * n) = rw q (omega arith, omega arith, sh .first) in
-        (omega (arith, s .events), part-ready s refl l₁ (omega arith) (omega arith) answers names refl refl (cn .1) (cn .2))
+  module _ (two : 2 ≤ n) {c : ℕ} (e : c ≡ firstPart p n) {w₁ : List ℕ} {a : W.Window} (s : Stepped w (w .at) c v w₁ a) (l₁ : length w₁ ≡ length v) where
+    half : Shares n c
+    half = parts q descends two e
 
-    -- the words after the first part: the window's area is as it was
-    pub area-kept : (zs : List ℕ) → take (17 * n) (putMid (17 * n) (length w₁ - 17 * n) w₁ zs) ≡ take (17 * n) v
-    area-kept zs = take-put (17 * n) (length w₁ - 17 * n) w₁ zs (omega (arith, r .room)) ∙ s .front
+    pub first-window : (a .events < n) × WindowReady a p answers names (take (length w₁ - 17 * n) (drop (17 * n) w₁))
+    first-window =
+        let (l, y) = first-ready q descends two e s l₁ in
+        (l, record { ready = y; long = omega (arith, r .long, s .at, s .events, half .less); names-long = omega (arith, r .names-long, s .at, s .events, half .less) })
 
     module _ {w₂ w₃ : List ℕ} {d : W.Window} (f : take (17 * n) w₂ ≡ take (17 * n) v) (t : Stepped w (w .at + c) (n - c) w₂ w₃ d) (l₃ : length w₃ ≡ length v) where
-      pub second-ready : (mid mid′ : List ℕ) → length mid ≡ length answers → length mid′ ≡ length names → (d .events < n) × WindowReady d p mid mid′ (take (length w₃ - 17 * n) (drop (17 * n) w₃))
-      second-ready mid mid′ l l′ =
-          let sh = shares p n two (r .share) in
-          let cn : (c < n) × (0 < c) × (11 * (n - c) ≤ 10 * n) = rw q (omega arith, omega arith, sh .second) in
-          (omega (arith, t .events), part-ready t f l₃ (omega arith) (omega arith) mid mid′ l l′ (omega arith) (cn .2))
+      pub second-window : (mid mid′ : List ℕ) → length mid ≡ length answers → length mid′ ≡ length names → (d .events < n) × WindowReady d p mid mid′ (take (length w₃ - 17 * n) (drop (17 * n) w₃))
+      second-window mid mid′ k k′ =
+          let (l, y) = second-ready q descends two e s l₁ f t l₃ in
+          (l, record { ready = y; long = omega (arith, r .long, t .at, t .events, half .less); names-long = omega (arith, r .names-long, t .at, t .events, half .less) })
 
-      pub done-two : {mid after : Written} {b e : ℕ} → WindowDone a p (take (17 * a .events) (take (length w₁ - 17 * n) (drop (17 * n) w₁))) (written answers names) mid b
-          → WindowDone d p (take (17 * d .events) (take (length w₃ - 17 * n) (drop (17 * n) w₃))) mid after e
-          → WindowDone w p (take (17 * n) v) (written answers names) after (w .nodes + b + e)
-      done-two {mid} {after} {b} {e} i j =
-          let sh = shares p n two (r .share) in
-          let cn : c ≤ n = rw q (omega arith) in
+      pub done-two : {mid after : Written} {b k : ℕ} → WindowDone a p (take (17 * a .events) (take (length w₁ - 17 * n) (drop (17 * n) w₁))) (written answers names) mid b
+          → WindowDone d p (take (17 * d .events) (take (length w₃ - 17 * n) (drop (17 * n) w₃))) mid after k
+          → WindowDone w p (take (17 * n) v) (written answers names) after (w .nodes + b + k)
+      done-two {mid} {after} {b} {k} i j =
+          let cn : c ≤ n = omega (arith, half .less) in
           record {
-            few = omega (arith, area-nodes (r .area) (r .some), i .few, j .few, s .events, t .events);
+            few = omega (arith, area-nodes (q .area) (q .some), i .few, j .few, s .events, t .events);
             replied = λ g o h z.
-                let u = rw (s .at, s .events) at (i .replied g o (omega (arith, s .at, s .events)) (part-area s refl l₁ (omega arith) (omega arith) g o h z)) in
-                let x = rw (t .at, t .events) at (j .replied g o (omega (arith, t .at, t .events)) (part-area t f l₃ (omega arith) (omega arith) g o h z)) in
+                let u = rw (s .at, s .events) at (i .replied g o (omega (arith, s .at, s .events)) (part-area q descends s refl l₁ (half .first) g o h z)) in
+                let x = rw (t .at, t .events) at (j .replied g o (omega (arith, t .at, t .events)) (part-area q descends t f l₃ (half .second) g o h z)) in
                 record {
-                  answers = x .answers ∙ ap (λ m. sets m (w .at + c) (table (byte g) (w .at + c) (n - c))) (u .answers) ∙ sym (sets-two (byte g) answers (w .at) n c cn);
-                  names = x .names ∙ ap (λ m. sets m (w .at + c) (table (nameAt g) (w .at + c) (n - c))) (u .names) ∙ sym (sets-two (nameAt g) names (w .at) n c cn);
-                  kept = ap₂ (λ (a b : ℕ). a + b) (ap₂ (λ (a b : ℕ). a + b) (area-small z (r .some)) (u .kept)) (x .kept)
-                      ∙ sym (sum-two p (r .share) (λ w. (small g w) .nodes) (w .at) n c two q);
+                  answers = sets-parts (byte g) (w .at) n c cn answers (u .answers) (x .answers);
+                  names = sets-parts (nameAt g) (w .at) n c cn names (u .names) (x .names);
+                  kept = ap₂ (λ (a b : ℕ). a + b) (ap₂ (λ (a b : ℕ). a + b) (area-small z (q .some)) (u .kept)) (x .kept)
+                      ∙ sym (sum-two p (q .share) (λ w. (small g w) .nodes) (w .at) n c two e);
                 };
           }
 
   -- ---- a window of one event
   pub done-one : n ≡ 1 → (after : Written) → OneDone w (take 17 v) (written answers names) after → WindowDone w p (take (17 * n) v) (written answers names) after (w .nodes)
   done-one e after o = record {
-    few = omega (arith, area-nodes (r .area) (r .some));
+    few = omega (arith, area-nodes (q .area) (q .some));
     replied = λ g s i a.
         let z : 17 * n ≡ 17 = omega arith in
         record {
           answers = o .answers g s (omega arith) (rw z at a) ∙ rw e refl;
           names = o .names g s (omega arith) (rw z at a) ∙ rw e refl;
-          kept = area-small a (r .some) ∙ rw e (sym (sum-one p (r .share) (λ w. (small g w) .nodes) (w .at)));
+          kept = area-small a (q .some) ∙ rw e (sym (sum-one p (q .share) (λ w. (small g w) .nodes) (w .at)));
         };
   }
 
@@ -357,14 +311,14 @@ module _ {w : W.Window} (v : List ℕ) (one : w .events ≡ 1) (l : 17 ≤ lengt
       subst (λ (G : Named). List·Memᴰ (areaEntry (w .events) (take 17 v) 0) G) (sym (area-is a some sound enough))
       (table-in (areaEntry (w .events) (take 17 v)) 0 (w .edges) 0 (omega arith) (omega arith)) in
       let z : 13 * w .events + 0 ≡ 13 = omega arith in
-      omega (arith, area-of a some sound enough .names (areaEntry (w .events) (take 17 v) 0) m, ap (λ (j : ℕ). getD (take 17 v) j 0) z ∙ getD-take 17 v 13 0 (omega arith))
+      omega (arith, area-of a some sound enough .graph .names (areaEntry (w .events) (take 17 v) 0) m, ap (λ (j : ℕ). getD (take 17 v) j 0) z ∙ getD-take 17 v 13 0 (omega arith))
 
 module _ {w : W.Window} {p : ℕ} {answers names v : List ℕ} (r : WindowReady w p answers names v) (one : w .events ≡ 1) where
   long-enough : 17 ≤ length v
-  long-enough = omega (arith, r .room)
+  long-enough = omega (arith, r .ready .enough)
 
   pub name-need : byteBy (getD v 2 0) (w .nodes) (w .edges) ≡ 1 → getD v 13 0 < 65536
-  name-need = let z : 17 * w .events ≡ 17 = omega arith in name-fits v one long-enough (r .g) (r .sound) (omega (arith, r .inside)) (rw z at (r .area))
+  name-need = let z : 17 * w .events ≡ 17 = omega arith in name-fits v one long-enough (r .ready .g) (r .ready .sound) (omega (arith, r .ready .inside)) (rw z at (r .ready .area))
 
   pub one-done : {after : Written} (b n : ℕ) → b ≡ byteBy (getD v 2 0) (w .nodes) (w .edges) → n ≡ nameBy b (getD v 13 0)
       → after .answers ≡ set answers (w .at) b → after .names ≡ set names (w .at) n → OneDone w (take 17 v) (written answers names) after

@@ -10,21 +10,28 @@ use Rattle.theory_timeline.specs.DemandThree.{Allowed}
 use Rattle.theory_timeline.specs.Replay.{byte, nameAt}
 use Rattle.theory_timeline.specs.Steps.{Sound}
 use Rattle.theory_timeline.specs.Windows.{Timeline, size, small, windowsFrom}
-use Rattle.replay_step.specs.Area.{SmallArea}
+use Rattle.replay_step.specs.Area.{SmallArea, areaWords}
 use Rattle.replay_step.specs.declared.Window.{Window}
 
--- ---- a window whose area is at the front of the words
-pub record WindowReady (w : Window) (p : ℕ) (answers names work : List ℕ) : Type 0 where
+-- ---- a window of either replay whose area is at the front of the words. An area A of n events has `words n` words, and its window and all below it `room n`
+pub record WindowReadyOf (A : Timeline → Window → List ℕ → Type 0) (words room : ℕ → ℕ) (w : Window) (p : ℕ) (work : List ℕ) : Type 0 where
   pub g : Timeline
   pub sound : Sound g
   pub inside : w .at + w .events ≤ size g
-  pub area : SmallArea g w (take (17 * w .events) work)
+  pub area : A g w (take (words (w .events)) work)
   pub some : 0 < w .events
   pub much : w .at + w .events ≤ 4096
   pub share : Allowed p
+  pub enough : room (w .events) ≤ length work
+
+-- ---- the replay's
+abbrev pub windowWords : ℕ → ℕ
+windowWords n = 187 * n
+
+pub record WindowReady (w : Window) (p : ℕ) (answers names work : List ℕ) : Type 0 where
+  pub ready : WindowReadyOf SmallArea areaWords windowWords w p work
   pub long : w .at + w .events ≤ length answers
   pub names-long : w .at + w .events ≤ length names
-  pub room : 187 * w .events ≤ length work
 
 -- the two tables that the windows write, as they are before or afterwards
 pub record Written : Type 0 where

@@ -9,7 +9,7 @@ use Rattle.replay_step.proofs.step.Tie as tie
 load-part-requires : tie.Need-load-part-requires
 load-part-requires c κs =
     let start = c .before .before .before .before .before .before .before .before in
-    load-ready (part-ready (start .pre) _ (omega arith)) (record { places = omega arith; words = omega arith; area = refl; scratch = refl })
+    load-ready (part-ready (start .pre) _ (omega arith)) (record { places = omega arith; words-at = omega arith; area = refl; scratch = refl })
 
 make-area-requires : tie.Need-make-area-requires
 make-area-requires c κs = (c .before .before .before .load-part .ensures .ready, refl)
@@ -19,7 +19,7 @@ returns c =
     let at-make-area = c .before .before in
     let at-load-part = at-make-area .before .before .before .before in
     let start = at-load-part .before .before .before .before .before .before .before .before .before in
-    stepped (part-ready (start .pre) _ (omega arith)) (record { places = omega arith; words = omega arith; area = refl; scratch = refl })
+    stepped (part-ready (start .pre) _ (omega arith)) (record { places = omega arith; words-at = omega arith; area = refl; scratch = refl })
     (at-load-part .load-part .ensures) (omega arith) (at-make-area .make-area .ensures) _ (omega (arith, start .pre .starts))
 
 pub step-spec : {M : Type 1} → statement M

@@ -9,7 +9,7 @@ use Rattle.replay_windows.proofs.one.Tie as tie
 read-name : tie.Need-shared-slice-read-name-of
 read-name c =
     let start = c .before .before .before .before .before .before in
-    omega (arith, start .pre .0 .room, start .pre .1)
+    omega (arith, start .pre .0 .ready .enough, start .pre .1)
 
 name-of-requires : tie.Need-name-of-requires
 name-of-requires c κs =
