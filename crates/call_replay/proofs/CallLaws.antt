@@ -18,7 +18,7 @@ use Rattle.replay_start.specs.Whole.{ListIn, WholeMade, WholeReady}
 use Rattle.replay_step.proofs.WordLaws.{over-prefix, sets-over, table-range}
 use Rattle.replay_step.specs.Area.{SmallArea}
 use Rattle.replay_step.specs.declared.Window.{Window}
-use Rattle.replay_windows.proofs.DescentLaws.{lent-take}
+use Rattle.replay_windows.proofs.PartLaws.{lent-take}
 use Rattle.replay_windows.specs.Descent.{Replied, WindowDone, WindowReady, Written, written}
 use Rattle.theory_graph.proofs.TableLaws.{pairs-at}
 use Rattle.theory_graph.specs.Lists.{over, range, sum, table}
@@ -79,16 +79,18 @@ module _ {n p : ℕ} {a b start x y answers names work : List ℕ} (q : ListRead
 
       pub window-need : WindowReady r p answers names (take (length z - area) (drop area z))
       window-need = record {
-        g = g;
-        sound = q .events .sound;
-        inside = omega (arith, m .at, m .events, size-is (q .events));
-        area = small-in;
-        some = omega (arith, m .events);
-        much = omega (arith, m .at, m .events, q .events .much);
-        share = q .share;
+        ready = record {
+          g = g;
+          sound = q .events .sound;
+          inside = omega (arith, m .at, m .events, size-is (q .events));
+          area = small-in;
+          some = omega (arith, m .events);
+          much = omega (arith, m .at, m .events, q .events .much);
+          share = q .share;
+          enough = rw (length-take, length-drop) (omega (arith, q .room, m .events));
+        };
         long = omega (arith, m .at, m .events, q .long);
         names-long = omega (arith, m .at, m .events, q .names-long);
-        room = rw (length-take, length-drop) (omega (arith, q .room, m .events));
       }
 
       pub list-replied : {after : Written} {kept : ℕ} → WindowDone r p (take (17 * r .events) (take (length z - area) (drop area z))) (written answers names) after kept

@@ -17,7 +17,7 @@ use Rattle.replay_events.specs.Writing.{EventsWritten, listOf}
 use Rattle.replay_start.specs.Whole.{ListIn}
 use Rattle.replay_step.proofs.WordLaws.{over-prefix, sets-over, table-range}
 use Rattle.replay_step.specs.declared.Window.{Window}
-use Rattle.replay_windows.proofs.DescentLaws.{lent-take}
+use Rattle.replay_windows.proofs.PartLaws.{lent-take}
 use Rattle.theory_graph.proofs.TableLaws.{pairs-at}
 use Rattle.theory_graph.specs.Lists.{over, range, table}
 use Rattle.theory_timeline.proofs.Acceptance.{AcceptedList, accepted-sound, events-length}
@@ -84,15 +84,17 @@ module _ {n p : ℕ} {a b start x y answers work : List ℕ} (q : JunctionListRe
 
       pub window-need : JunctionWindowReady r p answers (take (length z - area) (drop area z))
       window-need = record {
-        g = g;
-        sound = q .events .sound;
-        inside = omega (arith, m .at, m .events, size-is (q .events));
-        area = area-in;
-        some = omega (arith, m .events);
-        much = omega (arith, m .at, m .events, q .events .much);
-        share = q .share;
+        ready = record {
+          g = g;
+          sound = q .events .sound;
+          inside = omega (arith, m .at, m .events, size-is (q .events));
+          area = area-in;
+          some = omega (arith, m .events);
+          much = omega (arith, m .at, m .events, q .events .much);
+          share = q .share;
+          enough = rw (length-take, length-drop) (omega (arith, q .room, m .events));
+        };
         long = omega (arith, m .at, m .events, q .long);
-        room = rw (length-take, length-drop) (omega (arith, q .room, m .events));
       }
 
       pub list-replied : {after : List ℕ} → JunctionWindowDone r (take (29 * r .events) (take (length z - area) (drop area z))) answers after

@@ -59,12 +59,14 @@ module _ {n t : ℕ} {a b : List ℕ} {counts area : ℕ} {v : List ℕ} (q : Ju
           let T = whole-places (q .ready) wl lz e in
           let s : IsReducedGraph (plain (edgesIn (l .nodes) (l .edges) (drop (area + 29 * t) z))) (active g (0, t)) (r .nodes)
           (areaGraph t (r .edges) (take (29 * t) (drop area y))) (am .σ) =
-          rw T at (am .graph) in
+          rw T at (am .graph .reduced) in
           record {
             σ = am .σ;
-            graph = subst (λ (G : Named). IsReducedGraph (plain G) (active g (0, t)) (r .nodes) (areaGraph t (r .edges) (take (29 * t) (drop area y))) (am .σ)) (whole-network (q .ready) wl lz e) s;
-            events = record { places = am .places ∙ ap (map (am .σ)) T; words = am .words ∙ whole-words (q .ready) wl lz e };
-            few = am .few;
-            sixteen = am .sixteen;
+            graph = record {
+              reduced = subst (λ (G : Named). IsReducedGraph (plain G) (active g (0, t)) (r .nodes) (areaGraph t (r .edges) (take (29 * t) (drop area y))) (am .σ)) (whole-network (q .ready) wl lz e) s;
+              few = am .graph .few;
+              sixteen = am .graph .sixteen;
+            };
+            events = record { places = am .places ∙ ap (map (am .σ)) T; words = am .events ∙ whole-words (q .ready) wl lz e };
           };
     }

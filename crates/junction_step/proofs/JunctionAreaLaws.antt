@@ -322,9 +322,7 @@ module _ {p : Part} {l : Graph} {w : List ℕ} (q : JunctionMakeReady p l w) whe
       area-made = record {
         front = front-6 runs ∙ take-less A s w w₁ (omega (arith, q .behind)) front-1;
         σ = K .number;
-        graph = graph-z;
+        graph = record { reduced = graph-z; few = few-out; sixteen = sixteen-z };
         places = places ∙ map-equal (node MAPPED zs) (K .number) T numbers;
-        words = words;
-        few = few-out;
-        sixteen = sixteen-z;
+        events = words;
       }

@@ -30,15 +30,14 @@ use Rattle.theory_timeline.specs.Windows.{Timeline, active, network, size}
 use Rattle.theory_junction_timeline.proofs.JunctionNetworks.{distinct-pairwise, part-reduced, reduced-equal}
 use Rattle.theory_junctions.specs.ReducedGraph.{IsReducedGraph}
 use Rattle.replay_step.proofs.LoadLaws.{edges-are, places-are, window-length, words-are}
-use Rattle.replay_step.proofs.StepLaws.{keys-low, places-low, windowOf}
-use Rattle.replay_step.proofs.WordLaws.{take-less}
+use Rattle.replay_step.proofs.StepLaws.{keys-low, places-low, stepped-of, windowOf}
 use Rattle.replay_step.specs.Area.{span}
 use Rattle.replay_step.specs.Load.{LoadReady, PartLoaded, edgeAt}
 use Rattle.replay_step.specs.declared.Graph.{Graph}
 use Rattle.replay_step.specs.declared.Part.{Part}
 use Rattle.replay_step.specs.declared.Window.{Window}
 use Rattle.junction_step.proofs.JunctionAreaLaws.{most-four, most-three}
-use Rattle.junction_step.specs.JunctionArea.{JunctionArea, JunctionAreaMade, JunctionMakeReady, JunctionStepReady, JunctionStepped, areaGraph}
+use Rattle.junction_step.specs.JunctionArea.{IsJunctionPart, JunctionArea, JunctionAreaMade, JunctionMakeReady, JunctionStepReady, JunctionStepped, areaGraph}
 
 -- ---- how many junctions are active
 -- no more than there are junctions
@@ -67,37 +66,17 @@ module _ {g : Timeline} (sound : Sound g) {w : Window} (inside : w .at + w .even
   )
 
   pub area-nodes : (w .nodes ≤ 6 * w .events) × (w .nodes ≤ 12288)
-  area-nodes = (omega (arith, a .graph .nodes, most-three (different (active g (span w))), active-few .0), omega (arith, a .graph .nodes, most-three (different (active g (span w))), active-few .1))
+  area-nodes = (omega (arith, a .graph .reduced .nodes, most-three (different (active g (span w))), active-few .0), omega (arith, a .graph .reduced .nodes, most-three (different (active g (span w))), active-few .1))
 
   edges-length : length (areaGraph (w .events) (w .edges) (take (29 * w .events) v)) ≡ w .edges
   edges-length =
-      ap length (graph-table (w .events) (w .edges) v long (a .few) ∙ table-map (λ (e : Entry). e .0) (edgeAt (5 * w .events) (8 * w .events) v) 0 (w .edges))
+      ap length (graph-table (w .events) (w .edges) v long (a .graph .few) ∙ table-map (λ (e : Entry). e .0) (edgeAt (5 * w .events) (8 * w .events) v) 0 (w .edges))
       ∙ table-length (λ j. edgeAt (5 * w .events) (8 * w .events) v j .0) 0 (w .edges)
 
   pub area-edges : w .edges ≤ 16384
-  area-edges = omega (arith, a .graph .edges, edges-length, most-four (different (active g (span w))), active-few .1)
+  area-edges = omega (arith, a .graph .reduced .edges, edges-length, most-four (different (active g (span w))), active-few .1)
 
--- ---- where a step takes the part's places and words from, and where it puts the part's area and what is loaded
-pub record IsJunctionPart (w : Window) (p : Part) : Type 0 where
-  pub places : p .places ≡ 2 * (p .at - w .at)
-  pub words : p .words ≡ 2 * w .events + 3 * (p .at - w .at)
-  pub area : p .area ≡ 29 * w .events
-  pub scratch : p .scratch ≡ 29 * w .events + 29 * p .events
-
--- the part of c events from a events into the window on
-pub part-ready : {w : Window} {lo c : ℕ} {v : List ℕ} → JunctionStepReady w lo c v → (a : ℕ) → a ≤ lo - w .at → JunctionStepReady w (w .at + a) c v
-part-ready st a l = record {
-  g = st .g;
-  sound = st .sound;
-  inside = st .inside;
-  area = st .area;
-  starts = omega arith;
-  ends = omega (arith, st .starts, st .ends);
-  some = st .some;
-  room = st .room;
-  much = st .much;
-}
-
+-- ---- what is loaded asks for
 module _ {w : Window} {p : Part} {v : List ℕ} (st : JunctionStepReady w (p .at) (p .events) v) (ip : IsJunctionPart w p) where
   abbrev n : ℕ
   n = w .events
@@ -110,13 +89,13 @@ module _ {w : Window} {p : Part} {v : List ℕ} (st : JunctionStepReady w (p .at
       let a = st .area in
       let f = edgeAt (5 * n) (8 * n) v in
       let m : List·Memᴰ (f j .0) (areaGraph n (w .edges) (take (29 * n) v)) =
-      subst (λ (G : List Edge). List·Memᴰ (f j .0) G) (sym (graph-table n (w .edges) v high (a .few) ∙ table-map (λ (e : Entry). e .0) f 0 (w .edges)))
+      subst (λ (G : List Edge). List·Memᴰ (f j .0) G) (sym (graph-table n (w .edges) v high (a .graph .few) ∙ table-map (λ (e : Entry). e .0) f 0 (w .edges)))
       (table-in (λ j. f j .0) 0 (w .edges) j (omega arith) (omega arith)) in
-      let (b, c) = endsIn-of (λ v. ltb v (w .nodes)) (areaGraph n (w .edges) (take (29 * n) v)) (a .graph .inside) m in
+      let (b, c) = endsIn-of (λ v. ltb v (w .nodes)) (areaGraph n (w .edges) (take (29 * n) v)) (a .graph .reduced .inside) m in
       let y : 21 * n + j ≡ 5 * n + 2 * (8 * n) + j = omega arith in (
         ltb-true _ (w .nodes) b,
         ltb-true _ (w .nodes) c,
-        omega (arith, ap (λ (k : ℕ). getD v k 0) (sym y) ∙ sym (getD-take (29 * n) v (21 * n + j) 0 (omega (arith, a .few))), a .sixteen j l),
+        omega (arith, ap (λ (k : ℕ). getD v k 0) (sym y) ∙ sym (getD-take (29 * n) v (21 * n + j) 0 (omega (arith, a .graph .few))), a .graph .sixteen j l),
       )
 
   pub load-ready : LoadReady w (8 * w .events) p v
@@ -126,15 +105,15 @@ module _ {w : Window} {p : Part} {v : List ℕ} (st : JunctionStepReady w (p .at
         starts = st .starts;
         ends = st .ends;
         much = st .much;
-        many = omega (arith, area-nodes (st .sound) (st .inside) v high a .1);
-        few = a .few;
+        many = st .many;
+        few = a .graph .few;
         light = omega (arith, area-edges (st .sound) (st .inside) v high a, st .much);
         places = ip .places;
-        words = ip .words;
+        words = ip .words-at;
         front = omega (arith, ip .area);
         behind = omega (arith, ip .area, ip .scratch);
         room = omega (arith, st .room, ip .scratch);
-        nodes = places-low (st .g) (st .sound) w (st .inside) (a .σ) (29 * n) v (omega arith) (a .events) (λ b m. a .graph .place b m);
+        nodes = places-low (st .g) (st .sound) w (st .inside) (a .σ) (29 * n) v (omega arith) (a .events) (λ b m. a .graph .reduced .place b m);
         keys = keys-low (st .g) (st .sound) w (st .inside) (a .σ) (29 * n) v (omega arith) (a .events);
         edges = edges-low;
       }
@@ -167,29 +146,26 @@ module _ {w : Window} {p : Part} {v : List ℕ} (st : JunctionStepReady w (p .at
         loaded-cuts U =
             same-cuts (edges-are load-ready pl lz (29 * n) low high g sound inside (a .σ) (a .events)) U
             ∙ ap (cut U) (plain-added (a .σ) (table (edgeAt (5 * n) (8 * n) v) 0 (w .edges)) (added g (span w) (p .at, c)))
-            ∙ ap (λ (G : List Edge). cut U (G ++ image (a .σ) (plain (added g (span w) (p .at, c))))) (sym (graph-table n (w .edges) v high (a .few)))
+            ∙ ap (λ (G : List Edge). cut U (G ++ image (a .σ) (plain (added g (span w) (p .at, c))))) (sym (graph-table n (w .edges) v high (a .graph .few)))
 
         part-made : JunctionArea g (windowOf p r) (take (29 * c) (drop (29 * n) y))
         part-made =
             let T = places-are load-ready pl lz (29 * n) low high g sound inside (a .σ) (a .events) in
             let g1 : IsReducedGraph (plain (edgesIn (l .nodes) (l .edges) (drop (p .scratch) z))) (map (a .σ) (active g (p .at, c))) (r .nodes)
             (areaGraph c (r .edges) (take (29 * c) (drop (p .area) y))) (am .σ) =
-            rw T at (am .graph) in
+            rw T at (am .graph .reduced) in
             subst (λ (k : ℕ). JunctionArea g (windowOf p r) (take (29 * c) (drop k y))) (ip .area) (record {
               σ = λ b. am .σ (a .σ b);
-              graph = part-reduced g (span w) (p .at, c) part H (a .σ) (a .graph .same) (r .nodes) _ (am .σ) (reduced-equal loaded-cuts g1);
+              graph = record {
+                reduced = part-reduced g (span w) (p .at, c) part H (a .σ) (a .graph .reduced .same) (r .nodes) _ (am .σ) (reduced-equal loaded-cuts g1);
+                few = am .graph .few;
+                sixteen = am .graph .sixteen;
+              };
               events = record {
                 places = am .places ∙ ap (map (am .σ)) T ∙ map-twice (am .σ) (a .σ) (active g (p .at, c));
-                words = am .words ∙ words-are load-ready pl lz (29 * n) low high g sound inside (a .σ) (a .events);
+                words = am .events ∙ words-are load-ready pl lz (29 * n) low high g sound inside (a .σ) (a .events);
               };
-              few = am .few;
-              sixteen = am .sixteen;
             })
 
       pub stepped : (lo : ℕ) → p .at ≡ lo → JunctionStepped w lo c v y (record { at = lo; events = c; nodes = r .nodes; edges = r .edges })
-      stepped lo e = subst (λ (k : ℕ). JunctionStepped w k c v y (record { at = k; events = c; nodes = r .nodes; edges = r .edges })) e (record {
-        at = refl;
-        events = refl;
-        front = ap (λ (k : ℕ). take k y) (sym (ip .area)) ∙ am .front ∙ take-less (p .area) (p .scratch) v z (omega (arith, ip .area, ip .scratch)) (pl .front) ∙ ap (λ (k : ℕ). take k v) (ip .area);
-        made = part-made;
-      })
+      stepped = stepped-of JunctionArea JunctionArea ip (pl .front) am r part-made

@@ -1,5 +1,5 @@
 -- The sibling's recursion over windows: a window of one event, what a step and a part need, and how the two parts join to a window.
--- In order: edges one after another; the byte case by case; a window of one event; a step and a part; a window of two parts.
+-- In order: edges one after another; the byte case by case; a window of one event; a step; a window of two parts. What both replays need is in replay_windows, PartLaws.
 -- Assumes nothing.
 use Prim.Native.Nat.{_*_, _+_, _-_, _<_, _≤_, suc, zero, ℕ}
 use mathlib.Core.Bool.{Bool, _&&_, _||_, cond, false, not, true}
@@ -10,7 +10,6 @@ use lib.ListN.{drop, getD, length, length-drop, length-take, set, take}
 use lib.Seq.{getD-drop, getD-take, sets}
 use native.Mathlib.Omega.{arith}
 use borrow.Author.Tests.{eq-eqb, eqb-false, eqb-true, ltb-true, ne-eqb}
-use borrow.Rule.Slice.PartMut.{putMid, take-put}
 use Rattle.theory_graph.proofs.Booleans.{onBool}
 use Rattle.theory_graph.proofs.Lists.{table-in}
 use Rattle.theory_graph.proofs.TableLaws.{table-equal, table-map, table-more}
@@ -26,13 +25,14 @@ use Rattle.theory_junction_timeline.proofs.JunctionNetworks.{change-byte, leaf-
 use Rattle.theory_junction_timeline.specs.JunctionReplay.{junctionByte}
 use Rattle.theory_junctions.specs.ReducedGraph.{IsReducedGraph}
 use Rattle.replay_step.proofs.LeafLaws.{leaf-asks, leaf-changes, leaf-nodes}
-use Rattle.replay_step.proofs.WordLaws.{sets-two}
+use Rattle.replay_step.proofs.WordLaws.{sets-parts}
 use Rattle.replay_step.specs.Load.{edgeAt}
 use Rattle.replay_step.specs.declared.Window.{Window}
-use Rattle.replay_windows.proofs.DescentLaws.{lent-take, shares}
+use Rattle.replay_windows.proofs.PartLaws.{Descends, Shares, first-ready, part-area, parts, second-ready}
+use Rattle.replay_windows.specs.Descent.{WindowReadyOf}
 use Rattle.junction_step.proofs.JunctionStepLaws.{area-nodes, graph-table}
-use Rattle.junction_step.specs.JunctionArea.{JunctionArea, JunctionStepReady, JunctionStepped, areaGraph}
-use Rattle.junction_windows.specs.JunctionDescent.{JunctionOneDone, JunctionWindowDone, JunctionWindowReady, byteAt, hits, leafGraph}
+use Rattle.junction_step.specs.JunctionArea.{JunctionArea, JunctionStepReady, JunctionStepped, areaGraph, junctionWords}
+use Rattle.junction_windows.specs.JunctionDescent.{JunctionOneDone, JunctionWindowDone, JunctionWindowReady, byteAt, hits, junctionWindowWords, leafGraph}
 
 -- ---- one edge
 module _ (a b x y : ℕ) where
@@ -122,7 +122,7 @@ module _ {w : Window} (v : List ℕ) (one : w .events ≡ 1) (l : 29 ≤ length 
   graph-is =
       let z : 29 * w .events ≡ 29 = omega arith in
       ap (λ (k : ℕ). areaGraph (w .events) (w .edges) (take k v)) (sym z)
-      ∙ graph-table (w .events) (w .edges) v (omega arith) (a .few)
+      ∙ graph-table (w .events) (w .edges) v (omega arith) (a .graph .few)
       ∙ table-map (λ (e : Entry). e .0) (edgeAt (5 * w .events) (8 * w .events) v) 0 (w .edges)
       ∙ table-equal _ _ 0 (w .edges) (λ j b c.
       let x : 5 * w .events + j ≡ 5 + j = omega arith in
@@ -136,7 +136,7 @@ module _ {w : Window} (v : List ℕ) (one : w .events ≡ 1) (l : 29 ≤ length 
       let (e, f) = leaf-nodes w one 29 v (omega arith) g sound i (a .σ) (a .events) in
       let G : IsReducedGraph (plain (network g (w .at, 1))) (active g (w .at, 1)) (w .nodes) (leafGraph (w .edges) v) (a .σ) =
       subst (λ (n : ℕ). IsReducedGraph (plain (network g (w .at, n))) (active g (w .at, n)) (w .nodes) (leafGraph (w .edges) v) (a .σ)) one
-      (subst (λ (H : List Edge). IsReducedGraph (plain (network g (w .at, w .events))) (active g (w .at, w .events)) (w .nodes) H (a .σ)) graph-is (a .graph)) in
+      (subst (λ (H : List Edge). IsReducedGraph (plain (network g (w .at, w .events))) (active g (w .at, w .events)) (w .nodes) H (a .σ)) graph-is (a .graph .reduced)) in
       byte-asked (w .edges) v z
       ∙ ap₂ (readReply (leafGraph (w .edges) v)) (e ∙ ap (λ (d : Edge). a .σ (d .0)) (query-ends q)) (f ∙ ap (λ (d : Edge). a .σ (d .1)) (query-ends q))
       ∙ sym (leaf-byte g (w .at) i q (w .nodes) (leafGraph (w .edges) v) (a .σ) G))
@@ -146,77 +146,55 @@ module _ {w : Window} {p : ℕ} {answers v : List ℕ} (r : JunctionWindowReady 
   abbrev n : ℕ
   n = w .events
 
+  abbrev q : WindowReadyOf JunctionArea junctionWords junctionWindowWords w p v
+  q = r .ready
+
   pub byte-need : n ≡ 1 → (w .edges ≤ 8) × (29 ≤ length v)
-  byte-need one = (omega (arith, r .area .few), omega (arith, r .room))
+  byte-need one = (omega (arith, q .area .graph .few), omega (arith, q .enough))
 
   pub one-done : n ≡ 1 → {after : List ℕ} (b : ℕ) → b ≡ byteAt (w .edges) v → after ≡ set answers (w .at) b → JunctionOneDone w (take 29 v) answers after
-  one-done one b e x g s i a = x ∙ ap (set answers (w .at)) (e ∙ byte-is v one (omega (arith, r .room)) g s i a)
+  one-done one b e x g s i a = x ∙ ap (set answers (w .at)) (e ∙ byte-is v one (omega (arith, q .enough)) g s i a)
 
   pub done-one : n ≡ 1 → (after : List ℕ) → JunctionOneDone w (take 29 v) answers after → JunctionWindowDone w (take (29 * n) v) answers after
   done-one e after o g s i a = let z : 29 * n ≡ 29 = omega arith in o g s (omega arith) (rw z at a) ∙ rw e refl
 
-  -- ---- a step and a part
+  -- ---- a step
+  pub descends : Descends JunctionArea JunctionArea junctionWords junctionWindowWords w v
+  descends = record { own = λ g sound a. a; fits = λ c n h. omega arith }
+
   pub step-ready : (lo c : ℕ) (z : List ℕ) → w .at ≤ lo → lo + c ≤ w .at + n → 0 < c → length z ≡ length v → take (29 * n) z ≡ take (29 * n) v → JunctionStepReady w lo c z
-  step-ready lo c z a b s e f = record {
-    g = r .g;
-    sound = r .sound;
-    inside = r .inside;
-    area = rw f (r .area);
-    starts = a;
-    ends = b;
-    some = s;
-    room = omega (arith, r .room, area-nodes (r .sound) (r .inside) v (omega (arith, r .room)) (r .area) .0, r .area .few);
-    much = r .much;
-  }
-
-  -- what a step leaves for the part, in the words that are lent on
-  module _ {lo c : ℕ} {y z : List ℕ} {k : Window} (t : JunctionStepped w lo c y z k) (f : take (29 * n) y ≡ take (29 * n) v) (e : length z ≡ length v)
-      (b : lo + c ≤ w .at + n) (lo-ok : w .at ≤ lo) where
-    part-area : (g : Timeline) → Sound g → w .at + n ≤ size g → JunctionArea g w (take (29 * n) v) → JunctionArea g k (take (29 * k .events) (take (length z - 29 * n) (drop (29 * n) z)))
-    part-area g sound i a =
-        let x : 29 * n + 29 * k .events ≤ length z = omega (arith, r .room, t .events) in
-        let h : take (29 * c) (drop (29 * n) z) ≡ take (29 * k .events) (take (length z - 29 * n) (drop (29 * n) z)) =
-        ap (λ (m : ℕ). take (29 * m) (drop (29 * n) z)) (sym (t .events)) ∙ sym (lent-take (29 * n) (29 * k .events) z x) in
-        subst (λ (v : List ℕ). JunctionArea g k v) h (t .made g sound i (rw f a))
-
-    pub part-ready : (answers′ : List ℕ) → length answers′ ≡ length answers → 0 < c → 11 * c ≤ 10 * n → JunctionWindowReady k p answers′ (take (length z - 29 * n) (drop (29 * n) z))
-    part-ready answers′ l s h = record {
-      g = r .g;
-      sound = r .sound;
-      inside = omega (arith, r .inside, t .at, t .events);
-      area = part-area (r .g) (r .sound) (r .inside) (r .area);
-      some = omega (arith, t .events);
-      much = omega (arith, r .much, t .at, t .events);
-      share = r .share;
-      long = omega (arith, r .long, t .at, t .events);
-      room = rw (length-take, length-drop) (omega (arith, r .room, t .events));
-    }
+  step-ready lo c z a b s e f =
+      let k = area-nodes (q .sound) (q .inside) v (omega (arith, q .enough)) (q .area) in
+      record {
+        g = q .g;
+        sound = q .sound;
+        inside = q .inside;
+        area = rw f (q .area);
+        starts = a;
+        ends = b;
+        some = s;
+        room = omega (arith, q .enough, k .0, q .area .graph .few);
+        many = omega (arith, k .1);
+        much = q .much;
+      }
 
   -- ---- a window of two parts
-  module _ (two : 2 ≤ n) {c : ℕ} (q : c ≡ firstPart p n) {w₁ : List ℕ} {a : Window} (s : JunctionStepped w (w .at) c v w₁ a) (l₁ : length w₁ ≡ length v) where
-    pub first-ready : (a .events < n) × JunctionWindowReady a p answers (take (length w₁ - 29 * n) (drop (29 * n) w₁))
-    first-ready =
-        let sh = shares p n two (r .share) in
-        let cn : (c < n) × (0 < c) × (11 * c ≤ 10 * n) = rw q (omega arith, omega arith, sh .first) in
-        (omega (arith, s .events), part-ready s refl l₁ (omega arith) (omega arith) answers refl (cn .1) (cn .2))
+  module _ (two : 2 ≤ n) {c : ℕ} (e : c ≡ firstPart p n) {w₁ : List ℕ} {a : Window} (s : JunctionStepped w (w .at) c v w₁ a) (l₁ : length w₁ ≡ length v) where
+    half : Shares n c
+    half = parts q descends two e
 
-    -- the words after the first part: the window's area is as it was
-    pub area-kept : (zs : List ℕ) → take (29 * n) (putMid (29 * n) (length w₁ - 29 * n) w₁ zs) ≡ take (29 * n) v
-    area-kept zs = take-put (29 * n) (length w₁ - 29 * n) w₁ zs (omega (arith, r .room)) ∙ s .front
+    pub first-window : (a .events < n) × JunctionWindowReady a p answers (take (length w₁ - 29 * n) (drop (29 * n) w₁))
+    first-window = let (l, y) = first-ready q descends two e s l₁ in (l, record { ready = y; long = omega (arith, r .long, s .at, s .events, half .less) })
 
     module _ {w₂ w₃ : List ℕ} {d : Window} (f : take (29 * n) w₂ ≡ take (29 * n) v) (t : JunctionStepped w (w .at + c) (n - c) w₂ w₃ d) (l₃ : length w₃ ≡ length v) where
-      pub second-ready : (mid : List ℕ) → length mid ≡ length answers → (d .events < n) × JunctionWindowReady d p mid (take (length w₃ - 29 * n) (drop (29 * n) w₃))
-      second-ready mid l =
-          let sh = shares p n two (r .share) in
-          let cn : (c < n) × (0 < c) × (11 * (n - c) ≤ 10 * n) = rw q (omega arith, omega arith, sh .second) in
-          (omega (arith, t .events), part-ready t f l₃ (omega arith) (omega arith) mid l (omega arith) (cn .2))
+      pub second-window : (mid : List ℕ) → length mid ≡ length answers → (d .events < n) × JunctionWindowReady d p mid (take (length w₃ - 29 * n) (drop (29 * n) w₃))
+      second-window mid k = let (l, y) = second-ready q descends two e s l₁ f t l₃ in (l, record { ready = y; long = omega (arith, r .long, t .at, t .events, half .less) })
 
       pub done-two : {mid after : List ℕ} → JunctionWindowDone a (take (29 * a .events) (take (length w₁ - 29 * n) (drop (29 * n) w₁))) answers mid
           → JunctionWindowDone d (take (29 * d .events) (take (length w₃ - 29 * n) (drop (29 * n) w₃))) mid after
           → JunctionWindowDone w (take (29 * n) v) answers after
       done-two {mid} {after} i j g o h z =
-          let sh = shares p n two (r .share) in
-          let cn : c ≤ n = rw q (omega arith) in
-          let u = rw (s .at, s .events) at (i g o (omega (arith, s .at, s .events)) (part-area s refl l₁ (omega arith) (omega arith) g o h z)) in
-          let x = rw (t .at, t .events) at (j g o (omega (arith, t .at, t .events)) (part-area t f l₃ (omega arith) (omega arith) g o h z)) in
-          x ∙ ap (λ m. sets m (w .at + c) (table (junctionByte g) (w .at + c) (n - c))) u ∙ sym (sets-two (junctionByte g) answers (w .at) n c cn)
+          let cn : c ≤ n = omega (arith, half .less) in
+          let u = rw (s .at, s .events) at (i g o (omega (arith, s .at, s .events)) (part-area q descends s refl l₁ (half .first) g o h z)) in
+          let x = rw (t .at, t .events) at (j g o (omega (arith, t .at, t .events)) (part-area q descends t f l₃ (half .second) g o h z)) in
+          sets-parts (junctionByte g) (w .at) n c cn answers u x

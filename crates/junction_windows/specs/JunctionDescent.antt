@@ -10,24 +10,20 @@ use lib.Seq.{sets}
 use Rattle.theory_graph.specs.Graph.{Edge}
 use Rattle.theory_graph.specs.Lists.{table}
 use Rattle.theory_junctions.specs.Reply.{readReply}
-use Rattle.theory_timeline.specs.DemandThree.{Allowed}
 use Rattle.theory_timeline.specs.Steps.{Sound}
 use Rattle.theory_timeline.specs.Windows.{Timeline, size}
 use Rattle.theory_junction_timeline.specs.JunctionReplay.{junctionByte}
-use Rattle.junction_step.specs.JunctionArea.{JunctionArea}
+use Rattle.junction_step.specs.JunctionArea.{JunctionArea, junctionWords}
 use Rattle.replay_step.specs.declared.Window.{Window}
+use Rattle.replay_windows.specs.Descent.{WindowReadyOf}
 
 -- ---- a window whose area is at the front of the words
+abbrev pub junctionWindowWords : ℕ → ℕ
+junctionWindowWords n = 340 * n
+
 pub record JunctionWindowReady (w : Window) (p : ℕ) (answers work : List ℕ) : Type 0 where
-  pub g : Timeline
-  pub sound : Sound g
-  pub inside : w .at + w .events ≤ size g
-  pub area : JunctionArea g w (take (29 * w .events) work)
-  pub some : 0 < w .events
-  pub much : w .at + w .events ≤ 4096
-  pub share : Allowed p
+  pub ready : WindowReadyOf JunctionArea junctionWords junctionWindowWords w p work
   pub long : w .at + w .events ≤ length answers
-  pub room : 340 * w .events ≤ length work
 
 -- its bytes are written
 abbrev pub JunctionWindowDone : Window → List ℕ → List ℕ → List ℕ → Type 0

@@ -232,9 +232,9 @@ whole-made {t = t} {area = area} q {z} {l} wl lz {y} {r} am = record {
   made = λ g e.
       let T = whole-places q wl lz e in
       let s : IsNamedSmallGraph (edgesIn (l .nodes) (l .edges) (drop (area + 17 * t) z)) (active g (0, t)) (r .nodes)
-      (areaEdges t (r .edges) (take (17 * t) (drop area y))) (am .ρ) (am .σ) =
-      rw T at (am .small) in
+      (areaEdges t (r .edges) (take (17 * t) (drop area y))) (am .graph .ρ) (am .σ) =
+      rw T at (am .graph .small) in
       small-area g (e .sound) (windowOf (above t area (area + 17 * t)) r)
-      (subst (λ (G : Named). IsNamedSmallGraph G (active g (0, t)) (r .nodes) (areaEdges t (r .edges) (take (17 * t) (drop area y))) (am .ρ) (am .σ)) (whole-network q wl lz e) s)
-      (record { places = am .places ∙ ap (map (am .σ)) T; words = am .words ∙ whole-words q wl lz e });
+      (subst (λ (G : Named). IsNamedSmallGraph G (active g (0, t)) (r .nodes) (areaEdges t (r .edges) (take (17 * t) (drop area y))) (am .graph .ρ) (am .σ)) (whole-network q wl lz e) s)
+      (record { places = am .places ∙ ap (map (am .σ)) T; words = am .events ∙ whole-words q wl lz e });
 }

@@ -9,7 +9,7 @@ use lib.ListN.{drop, getD, length, take}
 use Rattle.core_reduce.specs.Core.{edgesIn}
 use Rattle.replay_roads.specs.Runs.{run}
 use Rattle.replay_start.specs.Start.{ClearReady, namedBy}
-use Rattle.replay_step.specs.Area.{EventsIn, SmallArea}
+use Rattle.replay_step.specs.Area.{EventsIn, SmallArea, areaWords}
 use Rattle.replay_step.specs.Load.{ActiveReady, MakeReady}
 use Rattle.replay_step.specs.declared.Graph.{Graph}
 use Rattle.replay_step.specs.declared.Part.{Part}
@@ -62,8 +62,12 @@ pub record WholeReady (n t : ℕ) (a b : List ℕ) (counts area scratch : ℕ) (
   pub room : scratch + 16 * n + 6 * length a ≤ length v
   pub much : t ≤ 4096
 
--- its small graph stands in its area, for every such list
-pub record WholeMade (n t : ℕ) (a b : List ℕ) (counts area : ℕ) (v z : List ℕ) (r : Window) : Type 0 where
+-- in either replay: an area A of `words t` words stands from `area` on, for every such list
+pub record WholeMadeOf (A : Timeline → Window → List ℕ → Type 0) (words : ℕ → ℕ) (n t : ℕ) (a b : List ℕ) (counts area : ℕ) (v z : List ℕ) (r : Window) : Type 0 where
   pub at : r .at ≡ 0
   pub events : r .events ≡ t
-  pub made : (g : Timeline) → ListIn n t a b counts v g → SmallArea g r (take (17 * t) (drop area z))
+  pub made : (g : Timeline) → ListIn n t a b counts v g → A g r (take (words t) (drop area z))
+
+-- the replay's: its small graph
+abbrev pub WholeMade : ℕ → ℕ → List ℕ → List ℕ → ℕ → ℕ → List ℕ → List ℕ → Window → Type 0
+WholeMade = WholeMadeOf SmallArea areaWords

@@ -247,9 +247,8 @@ module _ {p : Part} {l : Graph} {w : List ℕ} (q : MakeReady p l w) (far : p .s
       pub area-made : AreaMade p l w w₆ r
       area-made = record {
         front = front-6 runs ∙ take-less A s w w₁ (omega arith) front-1;
-        ρ = K .ρ;
         σ = K .σ;
-        small = graph-z;
+        graph = record { ρ = K .ρ; small = graph-z };
         places = places ∙ map-equal (node MAPPED zs) (K .σ) T numbers;
-        words = words;
+        events = words;
       }

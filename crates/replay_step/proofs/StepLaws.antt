@@ -31,8 +31,8 @@ use Rattle.theory_timeline.specs.Windows.{Timeline, active, changesAt, event, n
 use Rattle.replay_step.proofs.EdgeLaws.{area-runs, area-table, areaEntry}
 use Rattle.replay_step.proofs.LoadLaws.{edges-are, places-are, window-length, words-are}
 use Rattle.replay_step.proofs.WordLaws.{low-map, take-less}
-use Rattle.replay_step.specs.Area.{Area, EventsIn, IsPart, SmallArea, StepReady, StepReadyOf, Stepped, areaEdges, span}
-use Rattle.replay_step.specs.Load.{AreaMade, LoadReady, PartLoaded}
+use Rattle.replay_step.specs.Area.{Area, EventsIn, IsPart, IsPartOf, SmallArea, StepReady, StepReadyOf, Stepped, SteppedOf, areaEdges, span}
+use Rattle.replay_step.specs.Load.{AreaMade, AreaMadeOf, LoadReady, PartLoaded}
 use Rattle.replay_step.specs.declared.Graph.{Graph}
 use Rattle.replay_step.specs.declared.Part.{Part}
 use Rattle.replay_step.specs.declared.Window.{Window}
@@ -125,6 +125,19 @@ part-ready st a l = record {
 abbrev pub windowOf : Part → Counts → Window
 windowOf p r = record { at = p .at; events = p .events; nodes = r .nodes; edges = r .edges }
 
+-- what a step promises, by what it makes of the window's area
+pub stepped-of : (A B : Timeline → Window → List ℕ → Type 0) {words : ℕ → ℕ} {w : Window} {p : Part} → IsPartOf words w p → {v z : List ℕ} → take (p .scratch) z ≡ take (p .scratch) v
+    → {Made : (ℕ → ℕ) → List ℕ → Type 0} {y : List ℕ} → AreaMadeOf Made words p z y → (r : Counts)
+    → ((g : Timeline) → Sound g → w .at + w .events ≤ size g → A g w (take (words (w .events)) v) → B g (windowOf p r) (take (words (p .events)) (drop (words (w .events)) y)))
+    → (lo : ℕ) → p .at ≡ lo → SteppedOf A B words w lo (p .events) v y (record { at = lo; events = p .events; nodes = r .nodes; edges = r .edges })
+stepped-of A B {words} {w} {p} ip {v} {z} front {y = y} am r made lo e =
+    subst (λ (k : ℕ). SteppedOf A B words w k (p .events) v y (record { at = k; events = p .events; nodes = r .nodes; edges = r .edges })) e (record {
+      at = refl;
+      events = refl;
+      front = ap (λ (k : ℕ). take k y) (sym (ip .area)) ∙ am .front ∙ take-less (p .area) (p .scratch) v z (omega (arith, ip .area, ip .scratch)) front ∙ ap (λ (k : ℕ). take k v) (ip .area);
+      made = made;
+    })
+
 -- a small graph of a window's network, in the words that the reader knows
 pub small-area : (g : Timeline) → Sound g → (r : Window) {z : List ℕ} {ρ σ : ℕ → ℕ}
     → IsNamedSmallGraph (network g (span r)) (active g (span r)) (r .nodes) (areaEdges (r .events) (r .edges) z) ρ σ → EventsIn g (span r) σ z → SmallArea g r z
@@ -167,20 +180,15 @@ module _ {w : Window} {p : Part} {v : List ℕ} (st : StepReady w (p .at) (p .ev
     part-made =
         let T = places-are (load-ready st ip) pl lz (17 * w .events) low high g sound inside (a .σ) (a .events) in
         let g1 : IsNamedSmallGraph (edgesIn (l .nodes) (l .edges) (drop (p .scratch) z)) (map (a .σ) (active g (p .at, c))) (r .nodes)
-        (areaEdges c (r .edges) (take (17 * c) (drop (p .area) y))) (am .ρ) (am .σ) =
-        rw T at (am .small) in
-        let g2 = part-small g (span w) (p .at, c) part (w .nodes) (areaEdges (w .events) (w .edges) u) (a .graph .ρ) (a .σ) (a .graph .carries) (r .nodes) _ (am .ρ) (am .σ)
+        (areaEdges c (r .edges) (take (17 * c) (drop (p .area) y))) (am .graph .ρ) (am .σ) =
+        rw T at (am .graph .small) in
+        let g2 = part-small g (span w) (p .at, c) part (w .nodes) (areaEdges (w .events) (w .edges) u) (a .graph .ρ) (a .σ) (a .graph .carries) (r .nodes) _ (am .graph .ρ) (am .σ)
         (named-small-equal loaded-is g1) in
         subst (λ (k : ℕ). SmallArea g (windowOf p r) (take (17 * c) (drop k y))) (ip .area)
         (small-area g sound (windowOf p r) g2 (record {
           places = am .places ∙ ap (map (am .σ)) T ∙ map-twice (am .σ) (a .σ) (active g (p .at, c));
-          words = am .words ∙ words-are (load-ready st ip) pl lz (17 * w .events) low high g sound inside (a .σ) (a .events);
+          words = am .events ∙ words-are (load-ready st ip) pl lz (17 * w .events) low high g sound inside (a .σ) (a .events);
         }))
 
   pub stepped : (lo : ℕ) → p .at ≡ lo → Stepped w lo c v y (record { at = lo; events = c; nodes = r .nodes; edges = r .edges })
-  stepped lo e = subst (λ (k : ℕ). Stepped w k c v y (record { at = k; events = c; nodes = r .nodes; edges = r .edges })) e (record {
-    at = refl;
-    events = refl;
-    front = ap (λ (k : ℕ). take k y) (sym (ip .area)) ∙ am .front ∙ take-less (p .area) (p .scratch) v z (omega (arith, ip .area, ip .scratch)) (pl .front) ∙ ap (λ (k : ℕ). take k v) (ip .area);
-    made = part-made;
-  })
+  stepped = stepped-of Area SmallArea ip (pl .front) am r part-made

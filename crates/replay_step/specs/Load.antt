@@ -115,15 +115,23 @@ pub record MakeReady (p : Part) (l : Graph) (w : List ℕ) : Type 0 where
   pub ends : (h : ℕ) → h < 2 * l .edges → half (l .nodes) TO (drop (p .scratch) w) h < l .nodes
   pub names : (j : ℕ) → j < l .edges → half (l .nodes) NAME (drop (p .scratch) w) (2 * j) < 65536
 
--- It is contracted, and stands in the part's area with the part's events; before the area nothing changes.
-pub record AreaMade (p : Part) (l : Graph) (w z : List ℕ) (r : Counts) : Type 0 where
+-- In either replay: a graph made of it stands in the part's area of `words` words, with the part's events; before the area nothing changes. `Made` says of σ, by
+-- which active nodes are renumbered, and of the area's words what graph it is.
+pub record AreaMadeOf (Made : (ℕ → ℕ) → List ℕ → Type 0) (words : ℕ → ℕ) (p : Part) (w z : List ℕ) : Type 0 where
   pub front : take (p .area) z ≡ take (p .area) w
-  pub ρ : ℕ → ℕ
   pub σ : ℕ → ℕ
+  pub graph : Made σ (take (words (p .events)) (drop (p .area) z))
+  pub places : take (2 * p .events) (take (words (p .events)) (drop (p .area) z)) ≡ map σ (take (2 * p .events) (drop (p .places) w))
+  pub events : take (3 * p .events) (drop (2 * p .events) (take (words (p .events)) (drop (p .area) z))) ≡ take (3 * p .events) (drop (p .words) w)
+
+-- the replay's: its small graph, by the contraction
+pub record SmallMade (p : Part) (l : Graph) (w : List ℕ) (r : Counts) (σ : ℕ → ℕ) (u : List ℕ) : Type 0 where
+  pub ρ : ℕ → ℕ
   pub small : IsNamedSmallGraph (edgesIn (l .nodes) (l .edges) (drop (p .scratch) w)) (take (2 * p .events) (drop (p .places) w)) (r .nodes)
-      (areaEdges (p .events) (r .edges) (take (17 * p .events) (drop (p .area) z))) ρ σ
-  pub places : take (2 * p .events) (take (17 * p .events) (drop (p .area) z)) ≡ map σ (take (2 * p .events) (drop (p .places) w))
-  pub words : take (3 * p .events) (drop (2 * p .events) (take (17 * p .events) (drop (p .area) z))) ≡ take (3 * p .events) (drop (p .words) w)
+      (areaEdges (p .events) (r .edges) u) ρ σ
+
+abbrev pub AreaMade : Part → Graph → List ℕ → List ℕ → Counts → Type 0
+AreaMade p l w z r = AreaMadeOf (SmallMade p l w r) areaWords p w z
 
 -- ---- what is loaded
 -- the places, the words and the graph of a window stand in the words, with room for `most` edges; of what they say no more is asked than this

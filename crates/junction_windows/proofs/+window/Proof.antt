@@ -7,8 +7,8 @@ use borrow.Author.Needs.{needs}
 use borrow.Fn.Kinds.{In}
 use borrow.Fn.PlainCycle.{Measures, and, falls, is}
 use borrow.Rule.Slice.PartMut.{putMid}
-use Rattle.junction_windows.proofs.JunctionDescentLaws.{area-kept, done-one, done-two, first-ready, second-ready, step-ready}
-use Rattle.replay_windows.proofs.DescentLaws.{Shares, shares}
+use Rattle.junction_windows.proofs.JunctionDescentLaws.{descends, done-one, done-two, first-window, second-window, step-ready}
+use Rattle.replay_windows.proofs.PartLaws.{Shares, area-kept, shares}
 use Rattle.junction_windows.specs.JunctionDescent.{JunctionWindowDone, JunctionWindowReady}
 use Rattle.junction_windows.proofs.+window.{statement}
 use Rattle.junction_windows.proofs.+window.Tie.{close}
@@ -85,13 +85,13 @@ module _ {t : ℕ} where
 
   -- a window that is cut has two events
   two : (c : At-split t) → 2 ≤ start-of c .args .w .events
-  two c = omega (arith, ready c .some)
+  two c = omega (arith, ready c .ready .some)
 
   -- each part has an event, and at most ten elevenths of the window's
   parts : (c : At-split t) → Shares (start-of c .args .w .events) (c .first-part .result)
   parts c =
       let a = start-of c .args in
-      omega (arith, c .first-part .ensures, shares (a .p) (a .w .events) (two c) (ready c .share))
+      omega (arith, c .first-part .ensures, shares (a .p) (a .w .events) (two c) (ready c .ready .share))
 
   -- the words are as many after the first step as at the start
   length-step : (c : At-step t) → length (c .step .last .1 .1 .1 .0) ≡ length (start-of (split-of c) .args .work .now)
@@ -106,7 +106,7 @@ module _ {t : ℕ} where
   area-window c =
       let at-step = step-of c in
       let at-split = split-of at-step in
-      area-kept (ready at-split) (two at-split) (at-split .first-part .ensures) (at-step .step .ensures) (length-step at-step) (c .window .last .1 .1 .1 .0)
+      area-kept (ready at-split .ready) (descends (ready at-split)) (two at-split) (at-split .first-part .ensures) (at-step .step .ensures) (length-step at-step) (c .window .last .1 .1 .1 .0)
 
   -- the words are as many after the second step as at the start
   length-step2 : (c : At-step2 t) → length (c .step2 .last .1 .1 .1 .0) ≡ length (start-of (split2-of c) .args .work .now)
@@ -133,10 +133,10 @@ window-returns : (t : ℕ) → window-lts.Need-returns (calls t) (window-at t) w
 window-returns t c = done-one (c .before .before .before .before .before .before .before .before .pre .1) (omega arith) _ (c .before .before .one .ensures)
 
 window-first-part-requires : (t : ℕ) → window-lts.Need-first-part-requires (calls t) (window-at t) window.Post
-window-first-part-requires t c κs = let r = c .before .before .before .pre .1 in (omega (arith, r .much), r .share .1)
+window-first-part-requires t c κs = let r = c .before .before .before .pre .1 in (omega (arith, r .ready .much), r .ready .share .1)
 
 window-mul-q : (t : ℕ) → window-lts.Need-mul-q (calls t) (window-at t) window.Post
-window-mul-q t c = omega (arith, ready c .much)
+window-mul-q t c = omega (arith, ready c .ready .much)
 
 window-step-requires : (t : ℕ) → window-lts.Need-step-requires (calls t) (window-at t) window.Post
 window-step-requires t c κs =
@@ -145,23 +145,23 @@ window-step-requires t c κs =
     step-ready (ready at-split) _ _ _ (omega arith) (omega arith) (omega arith) refl refl
 
 window-sub-window : (t : ℕ) → window-lts.Need-sub-window (calls t) (window-at t) window.Post
-window-sub-window t c = let at-step = c .before .before .before in omega (arith, ready (split-of at-step) .room)
+window-sub-window t c = let at-step = c .before .before .before in omega (arith, ready (split-of at-step) .ready .enough)
 
 window-part-window-start : (t : ℕ) → window-lts.Need-part-window-start (calls t) (window-at t) window.Post
-window-part-window-start t c = let at-step = c .before .before .before in omega (arith, ready (split-of at-step) .room)
+window-part-window-start t c = let at-step = c .before .before .before in omega (arith, ready (split-of at-step) .ready .enough)
 
 window-window-requires : (t : ℕ) → window-lts.Need-window-requires (calls t) (window-at t) window.Post
 window-window-requires t c κs =
     let at-step = c .before .before .before .before in
     let at-split = split-of at-step in
-    let (a, b) = first-ready (ready at-split) (two at-split) (at-split .first-part .ensures) (at-step .step .ensures) (length-step at-step) in
+    let (a, b) = first-window (ready at-split) (two at-split) (at-split .first-part .ensures) (at-step .step .ensures) (length-step at-step) in
     (omega (arith, a, start-of at-split .pre .0), b)
 
 window-add-step : (t : ℕ) → window-lts.Need-add-step (calls t) (window-at t) window.Post
 window-add-step t c =
     let at-window = c .before .before .before .before .before in
     let at-split = split-of (step-of at-window) in
-    omega (arith, parts at-split, ready at-split .much)
+    omega (arith, parts at-split, ready at-split .ready .much)
 
 window-sub-step : (t : ℕ) → window-lts.Need-sub-step (calls t) (window-at t) window.Post
 window-sub-step t c =
@@ -177,13 +177,13 @@ window-step-requires-2 t c κs =
     step-ready (ready at-split) _ _ _ (omega arith) (omega arith) (omega arith) (omega arith) (area-window at-window)
 
 window-mul-window-2 : (t : ℕ) → window-lts.Need-mul-window-2 (calls t) (window-at t) window.Post
-window-mul-window-2 t c = let at-step2 = c .before .before .before in omega (arith, ready (split2-of at-step2) .much)
+window-mul-window-2 t c = let at-step2 = c .before .before .before in omega (arith, ready (split2-of at-step2) .ready .much)
 
 window-sub-window-2 : (t : ℕ) → window-lts.Need-sub-window-2 (calls t) (window-at t) window.Post
-window-sub-window-2 t c = let at-step2 = c .before .before .before in omega (arith, length-step2 at-step2, ready (split2-of at-step2) .room)
+window-sub-window-2 t c = let at-step2 = c .before .before .before in omega (arith, length-step2 at-step2, ready (split2-of at-step2) .ready .enough)
 
 window-part-window-start-2 : (t : ℕ) → window-lts.Need-part-window-start-2 (calls t) (window-at t) window.Post
-window-part-window-start-2 t c = let at-step2 = c .before .before .before in omega (arith, length-step2 at-step2, ready (split2-of at-step2) .room)
+window-part-window-start-2 t c = let at-step2 = c .before .before .before in omega (arith, length-step2 at-step2, ready (split2-of at-step2) .ready .enough)
 
 window-window-requires-2 : (t : ℕ) → window-lts.Need-window-requires-2 (calls t) (window-at t) window.Post
 window-window-requires-2 t c κs =
@@ -191,7 +191,7 @@ window-window-requires-2 t c κs =
     let at-window = window-of at-step2 in
     let at-step = step-of at-window in
     let at-split = split-of at-step in
-    let (a, b) = second-ready (ready at-split) (two at-split) (at-split .first-part .ensures) (at-step .step .ensures) (length-step at-step)
+    let (a, b) = second-window (ready at-split) (two at-split) (at-split .first-part .ensures) (at-step .step .ensures) (length-step at-step)
     (area-window at-window) (at-step2 .step2 .ensures) (length-step2 at-step2) (at-window .window .last .1 .1 .0) (omega arith) in
     (omega (arith, a, start-of at-split .pre .0), b)
 

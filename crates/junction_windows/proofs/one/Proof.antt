@@ -9,7 +9,7 @@ byte-of-requires : tie.Need-byte-of-requires
 byte-of-requires c κs = byte-need (c .before .before .pre .0) (c .before .before .pre .1)
 
 put-byte-requires : tie.Need-put-byte-requires
-put-byte-requires c κs = let r = c .before .before .before .before .pre .0 in omega (arith, r .long, r .some)
+put-byte-requires c κs = let r = c .before .before .before .before .pre .0 in omega (arith, r .long, r .ready .some)
 
 returns : tie.Need-returns
 returns c =
