@@ -10,24 +10,18 @@ use native.Mathlib.Omega.{arith}
 use borrow.Author.Tests.{ne-eqb}
 use Rattle.call_sizes.specs.Refusal.{Refusal}
 use Rattle.replay_checks.specs.declared.Checked.{Checked}
-use Rattle.replay_events.proofs.QueryLaws.{queries-same}
-use Rattle.replay_events.proofs.WritingLaws.{size-is}
 use Rattle.replay_events.specs.Kinds.{queriesBy}
 use Rattle.replay_events.specs.Writing.{EventsWritten, listOf}
-use Rattle.replay_start.specs.Whole.{ListIn, WholeMade, WholeReady}
-use Rattle.replay_step.proofs.WordLaws.{over-prefix, sets-over, table-range}
-use Rattle.replay_step.specs.Area.{SmallArea}
+use Rattle.replay_start.proofs.ListLaws.{area-in, inside, list-ready-of, queries-are, table-is, whole-ready, window-ready}
+use Rattle.replay_start.specs.Whole.{WholeMade, WholeReady}
+use Rattle.replay_step.proofs.WordLaws.{cleared}
 use Rattle.replay_step.specs.declared.Window.{Window}
-use Rattle.replay_windows.proofs.PartLaws.{lent-take}
-use Rattle.replay_windows.specs.Descent.{Replied, WindowDone, WindowReady, Written, written}
-use Rattle.theory_graph.proofs.TableLaws.{pairs-at}
+use Rattle.replay_windows.specs.Descent.{Replied, WindowDone, WindowReady, Written, windowWords, written}
 use Rattle.theory_graph.specs.Lists.{over, range, sum, table}
-use Rattle.theory_timeline.proofs.Acceptance.{Accepted, AcceptedList, accepted-from, accepted-sound, events-length}
-use Rattle.theory_timeline.proofs.Counting.{count}
+use Rattle.theory_timeline.proofs.Acceptance.{Accepted, AcceptedList, accepted-from, events-length}
 use Rattle.theory_timeline.proofs.DemandThree.{accepted-done, bytes-length, demand-3, names-length}
 use Rattle.theory_timeline.specs.Call.{outcome}
 use Rattle.theory_timeline.specs.DemandThree.{KeepsDemand3}
-use Rattle.theory_timeline.specs.Events.{Event}
 use Rattle.theory_timeline.specs.Replay.{Faultless, Lent, Outcome, byte, bytes, done, fault, faults, given, nameAt, namesAt, openAtEnd, queries, refused, replay, required}
 use Rattle.theory_timeline.specs.Windows.{Timeline, asksAt, kept, size, small, windows, windowsFrom}
 use Rattle.theory_timeline.specs.declared.ReplayReply.the-variants.{Done, Refused}
@@ -35,9 +29,6 @@ use Rattle.call_replay.specs.List.{ListReady, ListReplied, ReplayChecked
 
 -- ---- the list
 module _ {n p : ℕ} {a b start x y answers names work : List ℕ} (q : ListReady n p a b start x y answers names work) where
-  abbrev g : Timeline
-  g = listOf n a b start x y
-
   abbrev t : ℕ
   t = length x
 
@@ -51,51 +42,29 @@ module _ {n p : ℕ} {a b start x y answers names work : List ℕ} (q : ListRead
   -- a list without events
   pub empty-replied : t ≡ 0 → ListReplied n p a b start x y (written answers names) (written answers names) 0
   unfolding windowsFrom
-  empty-replied z = subst (λ (k : ℕ). Replied g 0 k p (written answers names) (written answers names) 0) (sym z) (record { answers = refl; names = refl; kept = refl })
+  empty-replied z =
+      subst (λ (k : ℕ). Replied (listOf n a b start x y) 0 k p (written answers names) (written answers names) 0) (sym z) (record { answers = refl; names = refl; kept = refl })
 
   module _ (some : 0 < t) {w : List ℕ} (e : EventsWritten n a b start x y w) (l : length w ≡ length work) where
-    list-in : ListIn n t a b counts w g
-    list-in = record { sound = q .events .sound; junctions = refl; segments = refl; all = size-is (q .events); events = e .events; counted = e .counts }
-
     pub whole-need : WholeReady n t a b counts area (area + 17 * t) w
-    whole-need = record {
-      g = g;
-      list = list-in;
-      b-long = q .events .segments;
-      some = some;
-      front = omega arith;
-      apart = omega arith;
-      behind = omega arith;
-      room = omega (arith, q .room);
-      much = q .events .much;
-    }
+    whole-need = whole-ready (q .ready) some e l (area + 17 * t) (omega arith) (omega (arith, q .ready .room))
 
     module _ {z : List ℕ} {r : Window} (m : WholeMade n t a b counts area w z r) (k : length z ≡ length work) where
-      small-in : SmallArea g r (take (17 * r .events) (take (length z - area) (drop area z)))
-      small-in =
-          let h : take (17 * t) (drop area z) ≡ take (17 * r .events) (take (length z - area) (drop area z)) =
-          ap (λ (n : ℕ). take (17 * n) (drop area z)) (sym (m .events)) ∙ sym (lent-take area (17 * r .events) z (omega (arith, q .room, m .events))) in
-          subst (λ (v : List ℕ). SmallArea g r v) h (m .made g list-in)
+      fits : area + 17 * t ≤ length work
+      fits = omega (arith, q .ready .room)
 
       pub window-need : WindowReady r p answers names (take (length z - area) (drop area z))
       window-need = record {
-        ready = record {
-          g = g;
-          sound = q .events .sound;
-          inside = omega (arith, m .at, m .events, size-is (q .events));
-          area = small-in;
-          some = omega (arith, m .events);
-          much = omega (arith, m .at, m .events, q .events .much);
-          share = q .share;
-          enough = rw (length-take, length-drop) (omega (arith, q .room, m .events));
-        };
-        long = omega (arith, m .at, m .events, q .long);
+        ready = window-ready (q .ready) some e l m k fits windowWords (omega (arith, q .ready .room));
+        long = omega (arith, m .at, m .events, q .ready .long);
         names-long = omega (arith, m .at, m .events, q .names-long);
       }
 
       pub list-replied : {after : Written} {kept : ℕ} → WindowDone r p (take (17 * r .events) (take (length z - area) (drop area z))) (written answers names) after kept
           → ListReplied n p a b start x y (written answers names) after kept
-      list-replied d = let u = d .replied g (q .events .sound) (omega (arith, m .at, m .events, size-is (q .events))) small-in in rw (m .at, m .events) at u
+      list-replied d =
+          let u = d .replied (listOf n a b start x y) (q .ready .events .sound) (omega (arith, m .at, m .events, inside (q .ready))) (area-in (q .ready) some e l m k fits) in
+          rw (m .at, m .events) at u
 
 -- ---- an accepted replay
 -- a list with k words of work; and what its windows leave
@@ -115,60 +84,31 @@ module _ (l : Lent) (p : ℕ) (f : Faultless l p) where
   need = required (l .t) (l .n) (l .m)
 
   pub list-need : ReadyOf l p need
-  unfolding given
-  list-need =
-      let w = length-take-le need (l .work) (granted .work-long) in
-      let la = granted .list .exact .a-exact in
-      let lx = granted .list .exact .x-exact in
-      record {
-        events = record {
-          sound = accepted-sound l p (granted .list);
-          segments = granted .list .exact .b-exact ∙ sym la;
-          start-long = granted .list .exact .start-exact ∙ sym la;
-          events = granted .list .exact .y-exact ∙ sym lx;
-          much = omega (arith, granted .list .t-fits);
-          room = omega arith;
-        };
-        share = granted .list .share;
-        long = omega (arith, granted .list .answers-long);
-        names-long = omega (arith, granted .names-long);
-        room = omega arith;
-      }
-
-  queries-are : queriesBy (l .n) (l .x) (l .t) ≡ count (asksAt (given l)) 0 (l .t)
-  unfolding given
-  queries-are = queries-same (given l) (l .x) (l .t) (omega (arith, events-length l p (granted .list))) λ i u.
-      sym (ap (λ (e : Event). e .0) (pairs-at (l .x) (l .y) i (omega (arith, granted .list .exact .x-exact)) (omega (arith, granted .list .exact .y-exact))))
+  list-need = record {
+    ready = list-ready-of l p (granted .list) _ need (granted .work-long) (omega (arith, granted .list .exact .a-exact, granted .list .exact .x-exact)) (omega arith);
+    names-long = omega (arith, granted .names-long, granted .list .exact .x-exact);
+  }
 
   module _ {after : Written} {kept′ : ℕ} (d : RepliedOf l p after kept′) where
     replied : Replied (given l) 0 (l .t) p (written (l .answers) (l .names)) after kept′
     unfolding given
     replied = rw (granted .list .exact .x-exact) at d
 
-    -- a table with an entry for each event written over its first entries
-    table-is : (f : ℕ → ℕ) (before : List ℕ) → length (map f (range 0 (size (given l)))) ≤ length before
-        → sets before 0 (table f 0 (l .t)) ≡ over (map f (range 0 (size (given l)))) before
-    table-is f before h =
-        ap (λ (k : ℕ). sets before 0 (table f 0 k)) (sym (events-length l p (granted .list))) ∙ ap (sets before 0) (table-range f 0 (size (given l)))
-        ∙ sets-over (map f (range 0 (size (given l)))) before h
-
     answers-is : after .answers ≡ over (bytes (given l)) (l .answers)
     unfolding bytes
-    answers-is = replied .answers ∙ table-is (byte (given l)) (l .answers) (omega (arith, bytes-length l p (granted .list), granted .list .answers-long))
+    answers-is = replied .answers ∙ table-is l p (granted .list) (byte (given l)) (l .answers) (omega (arith, bytes-length l p (granted .list), granted .list .answers-long))
 
     names-is : after .names ≡ over (namesAt (given l)) (l .names)
     unfolding namesAt
-    names-is = replied .names ∙ table-is (nameAt (given l)) (l .names) (omega (arith, names-length l p (granted .list), granted .names-long))
+    names-is = replied .names ∙ table-is l p (granted .list) (nameAt (given l)) (l .names) (omega (arith, names-length l p (granted .list), granted .names-long))
 
-    pub done-is : {cleared : List ℕ} (zs : List ℕ) (q o : ℕ) → q ≡ queriesBy (l .n) (l .x) (l .t) → o ≡ openAtEnd (given l) → length zs ≡ length (take need (l .work))
-        → cleared ≡ over (replicate need 0) (zs ++ drop need (l .work)) → outcome (Done (record { queries = q; «open» = o; kept = kept′ })) (after .answers) (after .names) cleared ≡ done l p
+    pub done-is : {cleared′ : List ℕ} (zs : List ℕ) (q o : ℕ) → q ≡ queriesBy (l .n) (l .x) (l .t) → o ≡ openAtEnd (given l) → length zs ≡ length (take need (l .work))
+        → cleared′ ≡ over (replicate need 0) (zs ++ drop need (l .work)) → outcome (Done (record { queries = q; «open» = o; kept = kept′ })) (after .answers) (after .names) cleared′ ≡ done l p
     unfolding done kept windows queries
-    done-is {cleared} zs q o eq eo lz ew =
-        let lr : length (replicate {A = ℕ} need 0) ≡ need = length-replicate need 0 in
-        let lw : length (take need (l .work)) ≡ need = length-take-le need (l .work) (granted .work-long) in
-        let e1 = eq ∙ queries-are ∙ ap (count (asksAt (given l)) 0) (sym (events-length l p (granted .list))) in
+    done-is {cleared′} zs q o eq eo lz ew =
+        let e1 = eq ∙ queries-are l p (granted .list) in
         let e3 = replied .kept ∙ ap (λ (k : ℕ). sum (map (λ w. (small (given l) w) .nodes) (windowsFrom p k 0 k))) (sym (events-length l p (granted .list))) in
-        let e5 = ew ∙ ap (λ (k : ℕ). over (replicate need 0) (zs ++ drop k (l .work))) (sym lr) ∙ over-prefix (replicate need 0) zs (l .work) (lz ∙ lw ∙ sym lr) in
+        let e5 = cleared need (l .work) zs cleared′ (granted .work-long) lz ew in
         λ i. record { accepted = true; code = 0; place = 0; queries = e1 i; opened = eo i; kept = e3 i; answers = answers-is i; names = names-is i; work = e5 i }
 
 -- ---- the outcome

@@ -10,19 +10,13 @@ use native.Mathlib.Omega.{arith}
 use borrow.Author.Tests.{ne-eqb}
 use Rattle.call_sizes.specs.Refusal.{Refusal}
 use Rattle.replay_checks.specs.declared.Checked.{Checked}
-use Rattle.replay_events.proofs.QueryLaws.{queries-same}
-use Rattle.replay_events.proofs.WritingLaws.{size-is}
 use Rattle.replay_events.specs.Kinds.{queriesBy}
 use Rattle.replay_events.specs.Writing.{EventsWritten, listOf}
-use Rattle.replay_start.specs.Whole.{ListIn}
-use Rattle.replay_step.proofs.WordLaws.{over-prefix, sets-over, table-range}
+use Rattle.replay_start.proofs.ListLaws.{area-in, inside, list-ready-of, queries-are, table-is, whole-ready, window-ready}
+use Rattle.replay_step.proofs.WordLaws.{cleared}
 use Rattle.replay_step.specs.declared.Window.{Window}
-use Rattle.replay_windows.proofs.PartLaws.{lent-take}
-use Rattle.theory_graph.proofs.TableLaws.{pairs-at}
 use Rattle.theory_graph.specs.Lists.{over, range, table}
-use Rattle.theory_timeline.proofs.Acceptance.{AcceptedList, accepted-sound, events-length}
-use Rattle.theory_timeline.proofs.Counting.{count}
-use Rattle.theory_timeline.specs.Events.{Event}
+use Rattle.theory_timeline.proofs.Acceptance.{AcceptedList}
 use Rattle.theory_timeline.specs.Replay.{Lent, given, openAtEnd, queries}
 use Rattle.theory_timeline.specs.Windows.{Timeline, asksAt, event, size}
 use Rattle.theory_junction_timeline.proofs.JunctionDemand.{JunctionAccepted, junction-accepted, junction-bytes-length, junction-demand, junction-done}
@@ -32,15 +26,11 @@ use Rattle.theory_junction_timeline.specs.JunctionReplay.{JunctionFaultless, Ju
 use Rattle.theory_junction_timeline.specs.JunctionReplay.{replayJunctions}
 use Rattle.theory_junction_timeline.specs.declared.JunctionReply.the-variants.{Done, Refused}
 use Rattle.junction_start.specs.JunctionWhole.{JunctionWholeMade, JunctionWholeReady}
-use Rattle.junction_step.specs.JunctionArea.{JunctionArea}
-use Rattle.junction_windows.specs.JunctionDescent.{JunctionWindowDone, JunctionWindowReady}
+use Rattle.junction_windows.specs.JunctionDescent.{JunctionWindowDone, JunctionWindowReady, junctionWindowWords}
 use Rattle.call_replay_junctions.specs.JunctionList.{JunctionChecked, JunctionListReady, JunctionListReplied}
 
 -- ---- the list
 module _ {n p : ℕ} {a b start x y answers work : List ℕ} (q : JunctionListReady n p a b start x y answers work) where
-  abbrev g : Timeline
-  g = listOf n a b start x y
-
   abbrev t : ℕ
   t = length x
 
@@ -53,53 +43,27 @@ module _ {n p : ℕ} {a b start x y answers work : List ℕ} (q : JunctionListRe
 
   -- a list without events
   pub empty-replied : t ≡ 0 → JunctionListReplied n a b start x y answers answers
-  empty-replied z = subst (λ (k : ℕ). answers ≡ sets answers 0 (table (junctionByte g) 0 k)) (sym z) refl
+  empty-replied z = subst (λ (k : ℕ). answers ≡ sets answers 0 (table (junctionByte (listOf n a b start x y)) 0 k)) (sym z) refl
 
   module _ (some : 0 < t) {w : List ℕ} (e : EventsWritten n a b start x y w) (l : length w ≡ length work) where
-    list-in : ListIn n t a b counts w g
-    list-in = record { sound = q .events .sound; junctions = refl; segments = refl; all = size-is (q .events); events = e .events; counted = e .counts }
-
     pub whole-need : JunctionWholeReady n t a b counts area w
-    whole-need = record {
-      ready = record {
-        g = g;
-        list = list-in;
-        b-long = q .events .segments;
-        some = some;
-        front = omega arith;
-        apart = omega arith;
-        behind = omega arith;
-        room = omega (arith, q .room);
-        much = q .events .much;
-      };
-      room = omega (arith, q .room);
-    }
+    whole-need = record { ready = whole-ready q some e l (area + 29 * t) (omega arith) (omega (arith, q .room)); room = omega (arith, q .room) }
 
     module _ {z : List ℕ} {r : Window} (m : JunctionWholeMade n t a b counts area w z r) (k : length z ≡ length work) where
-      area-in : JunctionArea g r (take (29 * r .events) (take (length z - area) (drop area z)))
-      area-in =
-          let h : take (29 * t) (drop area z) ≡ take (29 * r .events) (take (length z - area) (drop area z)) =
-          ap (λ (n : ℕ). take (29 * n) (drop area z)) (sym (m .events)) ∙ sym (lent-take area (29 * r .events) z (omega (arith, q .room, m .events))) in
-          subst (λ (v : List ℕ). JunctionArea g r v) h (m .made g list-in)
+      fits : area + 29 * t ≤ length work
+      fits = omega (arith, q .room)
 
       pub window-need : JunctionWindowReady r p answers (take (length z - area) (drop area z))
       window-need = record {
-        ready = record {
-          g = g;
-          sound = q .events .sound;
-          inside = omega (arith, m .at, m .events, size-is (q .events));
-          area = area-in;
-          some = omega (arith, m .events);
-          much = omega (arith, m .at, m .events, q .events .much);
-          share = q .share;
-          enough = rw (length-take, length-drop) (omega (arith, q .room, m .events));
-        };
+        ready = window-ready q some e l m k fits junctionWindowWords (omega (arith, q .room));
         long = omega (arith, m .at, m .events, q .long);
       }
 
       pub list-replied : {after : List ℕ} → JunctionWindowDone r (take (29 * r .events) (take (length z - area) (drop area z))) answers after
           → JunctionListReplied n a b start x y answers after
-      list-replied d = let u = d g (q .events .sound) (omega (arith, m .at, m .events, size-is (q .events))) area-in in rw (m .at, m .events) at u
+      list-replied d =
+          let u = d (listOf n a b start x y) (q .events .sound) (omega (arith, m .at, m .events, inside q)) (area-in q some e l m k fits) in
+          rw (m .at, m .events) at u
 
 -- ---- an accepted call
 -- a list with k words of work; and what its windows leave
@@ -117,30 +81,7 @@ module _ (l : Lent) (p : ℕ) (f : JunctionFaultless l p) where
   need = junctionRequired (l .t) (l .n) (l .m)
 
   list-need : ReadyOf l p need
-  unfolding given
-  list-need =
-      let w = length-take-le need (l .work) (granted .work-long) in
-      let c = granted .list in
-      let la = c .exact .a-exact in
-      let lx = c .exact .x-exact in
-      record {
-        events = record {
-          sound = accepted-sound l p c;
-          segments = c .exact .b-exact ∙ sym la;
-          start-long = c .exact .start-exact ∙ sym la;
-          events = c .exact .y-exact ∙ sym lx;
-          much = omega (arith, c .t-fits);
-          room = omega arith;
-        };
-        share = c .share;
-        long = omega (arith, c .answers-long);
-        room = omega arith;
-      }
-
-  queries-are : queriesBy (l .n) (l .x) (l .t) ≡ count (asksAt (given l)) 0 (l .t)
-  unfolding given
-  queries-are = queries-same (given l) (l .x) (l .t) (omega (arith, events-length l p (granted .list))) λ i u.
-      sym (ap (λ (e : Event). e .0) (pairs-at (l .x) (l .y) i (omega (arith, granted .list .exact .x-exact)) (omega (arith, granted .list .exact .y-exact))))
+  list-need = list-ready-of l p (granted .list) _ need (granted .work-long) (omega (arith, granted .list .exact .a-exact, granted .list .exact .x-exact)) (omega arith)
 
   module _ {after : List ℕ} (d : RepliedOf l after) where
     replied : after ≡ sets (l .answers) 0 (table (junctionByte (given l)) 0 (l .t))
@@ -150,19 +91,14 @@ module _ (l : Lent) (p : ℕ) (f : JunctionFaultless l p) where
     answers-is : after ≡ over (junctionBytes (given l)) (l .answers)
     unfolding junctionBytes
     answers-is =
-        replied
-        ∙ ap (λ (k : ℕ). sets (l .answers) 0 (table (junctionByte (given l)) 0 k)) (sym (events-length l p (granted .list)))
-        ∙ ap (sets (l .answers) 0) (table-range (junctionByte (given l)) 0 (size (given l)))
-        ∙ sets-over (map (junctionByte (given l)) (range 0 (size (given l)))) (l .answers) (omega (arith, junction-bytes-length l p (granted .list), granted .list .answers-long))
+        replied ∙ table-is l p (granted .list) (junctionByte (given l)) (l .answers) (omega (arith, junction-bytes-length l p (granted .list), granted .list .answers-long))
 
-    done-is : {cleared : List ℕ} (zs : List ℕ) (q o : ℕ) → q ≡ queriesBy (l .n) (l .x) (l .t) → o ≡ openAtEnd (given l) → length zs ≡ length (take need (l .work))
-        → cleared ≡ over (replicate need 0) (zs ++ drop need (l .work)) → junctionOutcome (Done (record { queries = q; «open» = o })) after cleared ≡ junctionDone l
+    done-is : {cleared′ : List ℕ} (zs : List ℕ) (q o : ℕ) → q ≡ queriesBy (l .n) (l .x) (l .t) → o ≡ openAtEnd (given l) → length zs ≡ length (take need (l .work))
+        → cleared′ ≡ over (replicate need 0) (zs ++ drop need (l .work)) → junctionOutcome (Done (record { queries = q; «open» = o })) after cleared′ ≡ junctionDone l
     unfolding junctionDone queries
-    done-is {cleared} zs q o eq eo lz ew =
-        let lr : length (replicate {A = ℕ} need 0) ≡ need = length-replicate need 0 in
-        let lw : length (take need (l .work)) ≡ need = length-take-le need (l .work) (granted .work-long) in
-        let e1 = eq ∙ queries-are ∙ ap (count (asksAt (given l)) 0) (sym (events-length l p (granted .list))) in
-        let e5 = ew ∙ ap (λ (k : ℕ). over (replicate need 0) (zs ++ drop k (l .work))) (sym lr) ∙ over-prefix (replicate need 0) zs (l .work) (lz ∙ lw ∙ sym lr) in
+    done-is {cleared′} zs q o eq eo lz ew =
+        let e1 = eq ∙ queries-are l p (granted .list) in
+        let e5 = cleared need (l .work) zs cleared′ (granted .work-long) lz ew in
         λ i. record { accepted = true; code = 0; place = 0; queries = e1 i; opened = eo i; answers = answers-is i; work = e5 i }
 
 -- ---- the outcome

@@ -7,9 +7,9 @@ use lib.ListN.{length}
 use lib.Seq.{sets}
 use Rattle.replay_checks.specs.Check.{CheckedTables}
 use Rattle.replay_checks.specs.declared.Checked.{Checked}
-use Rattle.replay_events.specs.Writing.{CanWriteEvents, listOf}
+use Rattle.replay_events.specs.Writing.{listOf}
+use Rattle.replay_start.specs.Whole.{ListReadyOf}
 use Rattle.theory_graph.specs.Lists.{table}
-use Rattle.theory_timeline.specs.DemandThree.{Allowed}
 use Rattle.theory_timeline.specs.Replay.{Lent}
 use Rattle.theory_junction_timeline.specs.JunctionReplay.{junctionByte, junctionLengths}
 
@@ -18,11 +18,8 @@ abbrev pub JunctionChecked : Lent → ℕ → Checked → Type 0
 JunctionChecked l p r = CheckedTables (junctionLengths l) l p r
 
 -- a list without a fault, tables of just its sizes, and room
-pub record JunctionListReady (n p : ℕ) (a b start x y answers work : List ℕ) : Type 0 where
-  pub events : CanWriteEvents n a b start x y work
-  pub share : Allowed p
-  pub long : length x ≤ length answers
-  pub room : 345 * length x + 28 * n + 8 * length a ≤ length work
+abbrev pub JunctionListReady : ℕ → ℕ → List ℕ → List ℕ → List ℕ → List ℕ → List ℕ → List ℕ → List ℕ → Type 0
+JunctionListReady n p a b start x y answers work = ListReadyOf (345 * length x + 28 * n + 8 * length a) n p a b start x y answers work
 
 abbrev pub JunctionListReplied : ℕ → List ℕ → List ℕ → List ℕ → List ℕ → List ℕ → List ℕ → List ℕ → Type 0
 JunctionListReplied n a b start x y before after = after ≡ sets before 0 (table (junctionByte (listOf n a b start x y)) 0 (length x))

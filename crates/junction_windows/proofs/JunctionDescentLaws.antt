@@ -29,7 +29,7 @@ use Rattle.replay_step.proofs.WordLaws.{sets-parts}
 use Rattle.replay_step.specs.Load.{edgeAt}
 use Rattle.replay_step.specs.declared.Window.{Window}
 use Rattle.replay_windows.proofs.PartLaws.{Descends, Shares, first-ready, part-area, parts, second-ready}
-use Rattle.replay_windows.specs.Descent.{WindowReadyOf}
+use Rattle.replay_step.specs.Area.{WindowReadyOf}
 use Rattle.junction_step.proofs.JunctionStepLaws.{area-nodes, graph-table}
 use Rattle.junction_step.specs.JunctionArea.{JunctionArea, JunctionStepReady, JunctionStepped, areaGraph, junctionWords}
 use Rattle.junction_windows.specs.JunctionDescent.{JunctionOneDone, JunctionWindowDone, JunctionWindowReady, byteAt, hits, junctionWindowWords, leafGraph}

@@ -15,7 +15,7 @@ use Rattle.theory_timeline.specs.Windows.{Timeline, size}
 use Rattle.theory_junction_timeline.specs.JunctionReplay.{junctionByte}
 use Rattle.junction_step.specs.JunctionArea.{JunctionArea, junctionWords}
 use Rattle.replay_step.specs.declared.Window.{Window}
-use Rattle.replay_windows.specs.Descent.{WindowReadyOf}
+use Rattle.replay_step.specs.Area.{WindowReadyOf}
 
 -- ---- a window whose area is at the front of the words
 abbrev pub junctionWindowWords : ℕ → ℕ

@@ -1,2 +1,3 @@
 pub mod StartLaws
 pub mod WholeLaws
+pub mod ListLaws

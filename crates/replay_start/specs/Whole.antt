@@ -7,6 +7,7 @@ use mathlib.Core.Path.{_≡_}
 use lib.Dec.{ltb}
 use lib.ListN.{drop, getD, length, take}
 use Rattle.core_reduce.specs.Core.{edgesIn}
+use Rattle.replay_events.specs.Writing.{CanWriteEvents}
 use Rattle.replay_roads.specs.Runs.{run}
 use Rattle.replay_start.specs.Start.{ClearReady, namedBy}
 use Rattle.replay_step.specs.Area.{EventsIn, SmallArea, areaWords}
@@ -15,6 +16,7 @@ use Rattle.replay_step.specs.declared.Graph.{Graph}
 use Rattle.replay_step.specs.declared.Part.{Part}
 use Rattle.replay_step.specs.declared.Window.{Window}
 use Rattle.theory_graph.specs.Lists.{pairs}
+use Rattle.theory_timeline.specs.DemandThree.{Allowed}
 use Rattle.theory_timeline.specs.Events.{pick}
 use Rattle.theory_timeline.specs.Steps.{Sound}
 use Rattle.theory_timeline.specs.Tags.{openCount}
@@ -71,3 +73,10 @@ pub record WholeMadeOf (A : Timeline → Window → List ℕ → Type 0) (words 
 -- the replay's: its small graph
 abbrev pub WholeMade : ℕ → ℕ → List ℕ → List ℕ → ℕ → ℕ → List ℕ → List ℕ → Window → Type 0
 WholeMade = WholeMadeOf SmallArea areaWords
+
+-- ---- a list without a fault, of either replay: tables of just its sizes, and `need` words
+pub record ListReadyOf (need n p : ℕ) (a b start x y answers work : List ℕ) : Type 0 where
+  pub events : CanWriteEvents n a b start x y work
+  pub share : Allowed p
+  pub long : length x ≤ length answers
+  pub room : need ≤ length work

@@ -5,7 +5,7 @@
 use Prim.Native.Nat.{_*_, _+_, _-_, _<_, _≤_, suc, zero, ℕ}
 use mathlib.Core.List.{List, List·Memᴰ, List·Memᴰ·head, List·Memᴰ·tail, [], _++_, _∷_, append-assoc, map}
 use mathlib.Core.Path.{_∙_, _≡_, ap, ap₂, refl, sym}
-use lib.ListN.{drop, drop-of-length-le, getD, length, length-drop, length-take, set, take}
+use lib.ListN.{drop, drop-of-length-le, getD, length, length-drop, length-replicate, length-take, replicate, set, take}
 use lib.Seq.{drop-at, drop-cons, drop-set-lt, getD-drop, getD-set-other, getD-take, length-sets, length-take-le, sets, sets-eq, take-add, take-all, take-at, take-set-le, take-take}
 use native.Mathlib.Omega.{arith}
 use borrow.Rule.Slice.PartMut.{putMid}
@@ -20,6 +20,10 @@ sets-two f l i n c h =
     let e : n ≡ c + (n - c) = omega arith in
     ap (λ k. sets l i (table f i k)) e ∙ ap (sets l i) (table-append f i c (n - c)) ∙ sets-append (table f i c) l i (table f (i + c) (n - c))
     ∙ ap (λ k. sets (sets l i (table f i c)) (i + k) (table f (i + c) (n - c))) (table-length f i c)
+
+-- words that are lent on, all from k on
+pub lent-take : (k j : ℕ) (z : List ℕ) → k + j ≤ length z → take j (take (length z - k) (drop k z)) ≡ take j (drop k z)
+lent-take k j z l = take-take j (length z - k) (drop k z) (omega arith)
 
 -- so where the first c of n entries are written, and then the others
 pub sets-parts : (f : ℕ → ℕ) (i n c : ℕ) → c ≤ n → (before : List ℕ) {mid after : List ℕ} → mid ≡ sets before i (table f i c) → after ≡ sets mid (i + c) (table f (i + c) (n - c))
@@ -167,12 +171,23 @@ map-self [] = refl
 map-self (a ∷ S) = ap (λ l. a ∷ l) (map-self S)
 
 -- ---- a table written over the front of another
-pub sets-over : (vs l : List ℕ) → length vs ≤ length l → sets l 0 vs ≡ over vs l
+sets-over : (vs l : List ℕ) → length vs ≤ length l → sets l 0 vs ≡ over vs l
 sets-over vs l h = let z : 0 + length vs ≡ length vs = omega arith in sets-eq vs l 0 (omega arith) ∙ ap (λ (k : ℕ). vs ++ drop k l) z
 
-pub table-range : (f : ℕ → ℕ) (i k : ℕ) → table f i k ≡ map f (range i k)
+table-range : (f : ℕ → ℕ) (i k : ℕ) → table f i k ≡ map f (range i k)
 table-range f i zero = refl
 table-range f i (suc k) = ap (λ (l : List ℕ). f i ∷ l) (table-range f (suc i) k)
 
-pub over-prefix : (vs zs w : List ℕ) → length zs ≡ length vs → over vs (zs ++ drop (length vs) w) ≡ over vs w
+over-prefix : (vs zs w : List ℕ) → length zs ≡ length vs → over vs (zs ++ drop (length vs) w) ≡ over vs w
 over-prefix vs zs w e = ap (λ (l : List ℕ). vs ++ l) (drop-at zs (drop (length vs) w) (length vs) e)
+
+-- a table with an entry for each of k events written over its first entries
+pub table-over : (f : ℕ → ℕ) (k : ℕ) (before : List ℕ) → length (map f (range 0 k)) ≤ length before → sets before 0 (table f 0 k) ≡ over (map f (range 0 k)) before
+table-over f k before h = ap (sets before 0) (table-range f 0 k) ∙ sets-over (map f (range 0 k)) before h
+
+-- the first `need` words written and then cleared are cleared
+pub cleared : (need : ℕ) (work zs after : List ℕ) → need ≤ length work → length zs ≡ length (take need work) → after ≡ over (replicate need 0) (zs ++ drop need work)
+    → after ≡ over (replicate need 0) work
+cleared need work zs after h l e =
+    let r : length (replicate {A = ℕ} need 0) ≡ need = length-replicate need 0 in
+    e ∙ ap (λ (k : ℕ). over (replicate need 0) (zs ++ drop k work)) (sym r) ∙ over-prefix (replicate need 0) zs work (l ∙ length-take-le need work h ∙ sym r)

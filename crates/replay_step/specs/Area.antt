@@ -11,6 +11,7 @@ use Rattle.theory_graph.specs.Lists.{pairs}
 use Rattle.theory_graph.specs.SmallGraph.{different, mostNodes}
 use Rattle.theory_names.specs.Names.{Named, Sixteen}
 use Rattle.theory_names.specs.NamedSmallGraph.{NamedCarries, NamedRenumbered}
+use Rattle.theory_timeline.specs.DemandThree.{Allowed}
 use Rattle.theory_timeline.specs.Steps.{Sound}
 use Rattle.theory_timeline.specs.Tags.{eventWords}
 use Rattle.theory_timeline.specs.Windows.{Timeline, active, network, size, small, smallNamed, stands}
@@ -65,6 +66,17 @@ pub record IsPartOf (words : ℕ → ℕ) (w : Window) (p : Part) : Type 0 where
   pub words-at : p .words ≡ 2 * w .events + 3 * (p .at - w .at)
   pub area : p .area ≡ words (w .events)
   pub scratch : p .scratch ≡ words (w .events) + words (p .events)
+
+-- ---- a window of either replay whose area is at the front of the words. An area A of n events has `words n` words, and its window and all below it `room n`
+pub record WindowReadyOf (A : Timeline → Window → List ℕ → Type 0) (words room : ℕ → ℕ) (w : Window) (p : ℕ) (work : List ℕ) : Type 0 where
+  pub g : Timeline
+  pub sound : Sound g
+  pub inside : w .at + w .events ≤ size g
+  pub area : A g w (take (words (w .events)) work)
+  pub some : 0 < w .events
+  pub much : w .at + w .events ≤ 4096
+  pub share : Allowed p
+  pub enough : room (w .events) ≤ length work
 
 -- ---- the replay's area and its step
 -- the words of an area of n events

@@ -36,12 +36,12 @@ use Rattle.replay_step.proofs.EdgeLaws.{area-table, areaEntry}
 use Rattle.replay_step.proofs.LeafLaws.{leaf-asks, leaf-changes}
 use Rattle.replay_step.proofs.LoadLaws.{active-length}
 use Rattle.replay_step.proofs.WordLaws.{sets-parts}
-use Rattle.replay_step.specs.Area.{Area, SmallArea, StepReady, Stepped, areaEdges, areaWords, span}
+use Rattle.replay_step.specs.Area.{Area, SmallArea, StepReady, Stepped, WindowReadyOf, areaEdges, areaWords, span}
 use Rattle.replay_step.specs.declared.Window as W
 use Rattle.replay_leaf.proofs.LeafLaws.{byte-3, byte-read}
 use Rattle.replay_leaf.specs.Leaf.{byteBy, nameBy}
 use Rattle.replay_windows.proofs.PartLaws.{Descends, Shares, first-ready, part-area, parts, second-ready, shares}
-use Rattle.replay_windows.specs.Descent.{OneDone, WindowDone, WindowReady, WindowReadyOf, Written, windowWords, written}
+use Rattle.replay_windows.specs.Descent.{OneDone, WindowDone, WindowReady, Written, windowWords, written}
 
 -- ---- the counts of an area
 most-less : (k n : ℕ) → k ≤ 2 * n → 0 < n → mostNodes k + 2 ≤ 4 * n

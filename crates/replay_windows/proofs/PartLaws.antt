@@ -5,16 +5,15 @@ use Prim.Native.Nat.{_*_, _+_, _-_, _<_, _≤_, ℕ}
 use mathlib.Core.List.{List}
 use mathlib.Core.Path.{_∙_, _≡_, ap, refl, subst, sym}
 use lib.ListN.{drop, length, length-drop, length-take, take}
-use lib.Seq.{take-take}
 use native.Mathlib.Nat.{mul-le-mul-left}
 use native.Mathlib.Omega.{arith}
 use borrow.Rule.Slice.PartMut.{putMid, take-put}
-use Rattle.replay_step.specs.Area.{SteppedOf}
+use Rattle.replay_step.proofs.WordLaws.{lent-take}
+use Rattle.replay_step.specs.Area.{SteppedOf, WindowReadyOf}
 use Rattle.replay_step.specs.declared.Window.{Window}
 use Rattle.theory_timeline.specs.DemandThree.{Allowed}
 use Rattle.theory_timeline.specs.Steps.{Sound}
 use Rattle.theory_timeline.specs.Windows.{Timeline, firstPart, size}
-use Rattle.replay_windows.specs.Descent.{WindowReadyOf}
 
 -- ---- the parts of a share
 pub record Shares (n c : ℕ) : Type 0 where
@@ -30,10 +29,6 @@ shares p n h a =
     record { some = omega arith; less = omega arith; first = omega arith; second = omega arith }
 
 -- ---- a step and a part
--- the part that is lent: all from k on
-pub lent-take : (k j : ℕ) (z : List ℕ) → k + j ≤ length z → take j (take (length z - k) (drop k z)) ≡ take j (drop k z)
-lent-take k j z l = take-take j (length z - k) (drop k z) (omega arith)
-
 -- what a replay gives for its own windows: a window's area B is one of which a step can be made, A; and a part, which has at most ten elevenths of the events,
 -- has room behind the window's area
 pub record Descends (A B : Timeline → Window → List ℕ → Type 0) (words room : ℕ → ℕ) (w : Window) (v : List ℕ) : Type 0 where

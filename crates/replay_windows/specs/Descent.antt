@@ -6,25 +6,13 @@ use mathlib.Core.Path.{_≡_}
 use lib.ListN.{length, set, take}
 use lib.Seq.{sets}
 use Rattle.theory_graph.specs.Lists.{sum, table}
-use Rattle.theory_timeline.specs.DemandThree.{Allowed}
 use Rattle.theory_timeline.specs.Replay.{byte, nameAt}
 use Rattle.theory_timeline.specs.Steps.{Sound}
 use Rattle.theory_timeline.specs.Windows.{Timeline, size, small, windowsFrom}
-use Rattle.replay_step.specs.Area.{SmallArea, areaWords}
+use Rattle.replay_step.specs.Area.{SmallArea, WindowReadyOf, areaWords}
 use Rattle.replay_step.specs.declared.Window.{Window}
 
--- ---- a window of either replay whose area is at the front of the words. An area A of n events has `words n` words, and its window and all below it `room n`
-pub record WindowReadyOf (A : Timeline → Window → List ℕ → Type 0) (words room : ℕ → ℕ) (w : Window) (p : ℕ) (work : List ℕ) : Type 0 where
-  pub g : Timeline
-  pub sound : Sound g
-  pub inside : w .at + w .events ≤ size g
-  pub area : A g w (take (words (w .events)) work)
-  pub some : 0 < w .events
-  pub much : w .at + w .events ≤ 4096
-  pub share : Allowed p
-  pub enough : room (w .events) ≤ length work
-
--- ---- the replay's
+-- ---- a window whose area is at the front of the words
 abbrev pub windowWords : ℕ → ℕ
 windowWords n = 187 * n
 

@@ -47,7 +47,7 @@ length-whole c = omega (arith, length-events (events-of c))
 
 -- the area begins within the words
 area-fits : (c : At-events) → let a = start-of c .args in 4 * (5 * length (a .x .now) + length (a .a .now) + length (a .a .now)) < 18446744073709551616
-area-fits c = omega (arith, start-of c .pre .room)
+area-fits c = omega (arith, start-of c .pre .ready .room)
 
 returns : tie.Need-returns
 returns c =
