@@ -4,8 +4,7 @@ use Prim.Native.Nat.{_*_, _+_, _-_, _<_, _≤_, ℕ}
 use mathlib.Core.Bool.{Bool, false, true}
 use mathlib.Core.List.{List, _++_, map}
 use mathlib.Core.Path.{_∙_, _≡_, ap, refl, subst, sym}
-use lib.ListN.{drop, length, length-drop, length-replicate, length-take, replicate, take}
-use lib.Seq.{length-take-le, sets}
+use lib.ListN.{drop, length, replicate, take}
 use native.Mathlib.Omega.{arith}
 use borrow.Author.Tests.{ne-eqb}
 use Rattle.call_sizes.specs.Refusal.{Refusal}
@@ -17,13 +16,13 @@ use Rattle.replay_start.specs.Whole.{WholeMade, WholeReady}
 use Rattle.replay_step.proofs.WordLaws.{cleared}
 use Rattle.replay_step.specs.declared.Window.{Window}
 use Rattle.replay_windows.specs.Descent.{Replied, WindowDone, WindowReady, Written, windowWords, written}
-use Rattle.theory_graph.specs.Lists.{over, range, sum, table}
+use Rattle.theory_graph.specs.Lists.{over, sum}
 use Rattle.theory_timeline.proofs.Acceptance.{Accepted, AcceptedList, accepted-from, events-length}
 use Rattle.theory_timeline.proofs.DemandThree.{accepted-done, bytes-length, demand-3, names-length}
 use Rattle.theory_timeline.specs.Call.{outcome}
 use Rattle.theory_timeline.specs.DemandThree.{KeepsDemand3}
 use Rattle.theory_timeline.specs.Replay.{Faultless, Lent, Outcome, byte, bytes, done, fault, faults, given, nameAt, namesAt, openAtEnd, queries, refused, replay, required}
-use Rattle.theory_timeline.specs.Windows.{Timeline, asksAt, kept, size, small, windows, windowsFrom}
+use Rattle.theory_timeline.specs.Windows.{kept, small, windows, windowsFrom}
 use Rattle.theory_timeline.specs.declared.ReplayReply.the-variants.{Done, Refused}
 use Rattle.call_replay.specs.List.{ListReady, ListReplied, ReplayChecked}
 

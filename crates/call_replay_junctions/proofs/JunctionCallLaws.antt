@@ -2,10 +2,10 @@
 -- In order of the code. Assumes nothing.
 use Prim.Native.Nat.{_*_, _+_, _-_, _<_, _≤_, ℕ}
 use mathlib.Core.Bool.{Bool, false, true}
-use mathlib.Core.List.{List, [], _++_, map}
+use mathlib.Core.List.{List, _++_}
 use mathlib.Core.Path.{_∙_, _≡_, ap, refl, subst, sym}
-use lib.ListN.{drop, getD, length, length-drop, length-replicate, length-take, replicate, take}
-use lib.Seq.{length-take-le, sets}
+use lib.ListN.{drop, length, replicate, take}
+use lib.Seq.{sets}
 use native.Mathlib.Omega.{arith}
 use borrow.Author.Tests.{ne-eqb}
 use Rattle.call_sizes.specs.Refusal.{Refusal}
@@ -15,10 +15,9 @@ use Rattle.replay_events.specs.Writing.{EventsWritten, listOf}
 use Rattle.replay_start.proofs.ListLaws.{area-in, inside, list-ready-of, queries-are, table-is, whole-ready, window-ready}
 use Rattle.replay_step.proofs.WordLaws.{cleared}
 use Rattle.replay_step.specs.declared.Window.{Window}
-use Rattle.theory_graph.specs.Lists.{over, range, table}
+use Rattle.theory_graph.specs.Lists.{over, table}
 use Rattle.theory_timeline.proofs.Acceptance.{AcceptedList}
 use Rattle.theory_timeline.specs.Replay.{Lent, given, openAtEnd, queries}
-use Rattle.theory_timeline.specs.Windows.{Timeline, asksAt, event, size}
 use Rattle.theory_junction_timeline.proofs.JunctionDemand.{JunctionAccepted, junction-accepted, junction-bytes-length, junction-demand, junction-done}
 use Rattle.theory_junction_timeline.specs.JunctionCall.{junctionOutcome}
 use Rattle.theory_junction_timeline.specs.JunctionDemand.{KeepsJunctionDemand}

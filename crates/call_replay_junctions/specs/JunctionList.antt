@@ -1,6 +1,6 @@
 -- What the checks of the sibling find; what the windows of a whole list are given, and what they leave.
 -- Assumes nothing: these are definitions.
-use Prim.Native.Nat.{_*_, _+_, _≤_, ℕ}
+use Prim.Native.Nat.{_*_, _+_, ℕ}
 use mathlib.Core.List.{List}
 use mathlib.Core.Path.{_≡_}
 use lib.ListN.{length}

@@ -3,7 +3,7 @@
 use Prim.Native.Nat.{_*_, _+_, _≤_, suc, ℕ}
 use mathlib.Core.Bool.{Bool, _&&_, cond, false, not, true}
 use mathlib.Core.List.{List, [], _∷_, map}
-use mathlib.Core.Path.{_∙_, _≡_, ap, refl, subst, sym}
+use mathlib.Core.Path.{_∙_, _≡_, ap, refl, subst}
 use lib.Dec.{ltb}
 use lib.ListN.{drop, length, take}
 use native.Mathlib.Omega.{arith}
@@ -16,7 +16,7 @@ use Rattle.theory_graph.specs.Lists.{pairs}
 use Rattle.theory_names.specs.Names.{Entry, Named, plain}
 use Rattle.theory_timeline.proofs.Acceptance.{pairs-equal}
 use Rattle.theory_timeline.specs.Events.{SegmentSet, pick}
-use Rattle.theory_timeline.specs.Windows.{Timeline, active, network}
+use Rattle.theory_timeline.specs.Windows.{active}
 use Rattle.theory_junctions.specs.ReducedGraph.{IsReducedGraph}
 use Rattle.replay_start.proofs.WholeLaws.{above, whole-network, whole-places, whole-words}
 use Rattle.replay_roads.specs.Runs.{run}

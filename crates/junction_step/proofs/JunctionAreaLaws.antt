@@ -8,17 +8,17 @@ use lib.Dec.{eqb, ltb}
 use lib.ListN.{drop, getD, length, length-drop, length-map, length-take, set, take}
 use lib.Seq.{drop-drop, getD-drop, getD-take, sets, take-take}
 use native.Mathlib.Omega.{arith}
-use borrow.Author.Tests.{lt-ltb, ltb-false, ltb-true}
+use borrow.Author.Tests.{lt-ltb}
 use borrow.Rule.Slice.PartMut.{putMid, same-len-mid, take-put}
 use Rattle.core_block_reduce.specs.Core.{BlocksReduced, CanReduce, edgesBehind}
 use Rattle.core_loading.proofs.LoadingLaws.{entered-most}
-use Rattle.core_reduce.specs.Core.{Loaded, activeIn, edgesIn}
+use Rattle.core_reduce.specs.Core.{activeIn, edgesIn}
 use Rattle.core_reduce.specs.declared.Counts.{Counts}
 use Rattle.core_words.specs.Fields.{ACTIVE, MAPPED, TO, half, node}
 use Rattle.theory_graph.proofs.ActiveLists.{in-firsts}
 use Rattle.theory_graph.proofs.EdgeCount.{firsts-most}
 use Rattle.theory_graph.proofs.Ends.{endsIn-mem}
-use Rattle.theory_graph.proofs.Lists.{firsts-in, map-equal, mem-member, member-mem, table-length, table-mem}
+use Rattle.theory_graph.proofs.Lists.{map-equal, mem-member, member-mem, table-length, table-mem}
 use Rattle.theory_graph.proofs.TableLaws.{pairs-tables, table-equal, table-getD}
 use Rattle.theory_graph.specs.Graph.{Edge}
 use Rattle.theory_graph.specs.Lists.{firsts, member, pairs, table}

@@ -1,13 +1,13 @@
 -- The sibling's step: its window's area is as what is loaded asks for, and what is made out of that is a reduced graph of the part's network.
 -- Assumes nothing.
-use Prim.Native.Nat.{_*_, _+_, _-_, _<_, _≤_, ℕ}
+use Prim.Native.Nat.{_*_, _+_, _<_, _≤_, ℕ}
 use mathlib.Core.List.{List, List·Memᴰ, _++_, map}
-use mathlib.Core.Path.{_∙_, _≡_, ap, ap₂, refl, subst, sym}
+use mathlib.Core.Path.{_∙_, _≡_, ap, ap₂, subst, sym}
 use lib.Dec.{eqb, ltb}
 use lib.ListN.{drop, getD, length, length-drop, take}
 use lib.Seq.{getD-drop, getD-take, length-take-le}
 use native.Mathlib.Omega.{arith}
-use borrow.Author.Tests.{eq-eqb, ltb-true}
+use borrow.Author.Tests.{ltb-true}
 use Rattle.core_reduce.specs.Core.{edgesIn}
 use Rattle.core_reduce.specs.declared.Counts.{Counts}
 use Rattle.theory_graph.proofs.EdgeCount.{firsts-most}
@@ -20,8 +20,7 @@ use Rattle.theory_graph.specs.Lists.{firsts, range, table}
 use Rattle.theory_graph.specs.SmallGraph.{different, image}
 use Rattle.theory_junctions.proofs.DistinctLists.{distinct-fewer}
 use Rattle.theory_names.proofs.NamedCuts.{plain-added, same-cuts}
-use Rattle.theory_names.specs.Names.{Entry, Named, plain}
-use Rattle.theory_names.specs.NamedSmallGraph.{imageNamed}
+use Rattle.theory_names.specs.Names.{Entry, plain}
 use Rattle.theory_timeline.proofs.Acceptance.{sound-good}
 use Rattle.theory_timeline.proofs.DemandThree.{range-length}
 use Rattle.theory_timeline.specs.Steps as Steps

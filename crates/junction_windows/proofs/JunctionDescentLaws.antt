@@ -2,14 +2,13 @@
 -- In order: edges one after another; the byte case by case; a window of one event; a step; a window of two parts. What both replays need is in replay_windows, PartLaws.
 -- Assumes nothing.
 use Prim.Native.Nat.{_*_, _+_, _-_, _<_, _≤_, suc, zero, ℕ}
-use mathlib.Core.Bool.{Bool, _&&_, _||_, cond, false, not, true}
-use mathlib.Core.List.{List, List·Memᴰ, List·Memᴰ·head, List·Memᴰ·tail, [], _++_, _∷_, map}
+use mathlib.Core.Bool.{Bool, _&&_, _||_, cond, false, true}
+use mathlib.Core.List.{List, List·Memᴰ, List·Memᴰ·head, List·Memᴰ·tail, [], _++_, _∷_}
 use mathlib.Core.Path.{_∙_, _≡_, ap, ap₂, refl, subst, sym}
-use lib.Dec.{eqb, ltb}
-use lib.ListN.{drop, getD, length, length-drop, length-take, set, take}
-use lib.Seq.{getD-drop, getD-take, sets}
+use lib.Dec.{eqb}
+use lib.ListN.{drop, getD, length, set, take}
 use native.Mathlib.Omega.{arith}
-use borrow.Author.Tests.{eq-eqb, eqb-false, eqb-true, ltb-true, ne-eqb}
+use borrow.Author.Tests.{eq-eqb, eqb-false, eqb-true, ne-eqb}
 use Rattle.theory_graph.proofs.Booleans.{onBool}
 use Rattle.theory_graph.proofs.Lists.{table-in}
 use Rattle.theory_graph.proofs.TableLaws.{table-equal, table-map, table-more}

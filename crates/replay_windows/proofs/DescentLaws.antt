@@ -7,7 +7,7 @@ use mathlib.Core.List.{List, List·Memᴰ, [], _++_, _∷_, map}
 use mathlib.Core.Path.{_∙_, _≡_, ap, ap₂, refl, subst, sym}
 use lib.Dec.{eqb, ltb}
 use lib.ListN.{drop, getD, length, length-drop, length-map, length-take, set, take}
-use lib.Seq.{getD-take, sets}
+use lib.Seq.{getD-take}
 use native.Mathlib.Omega.{arith}
 use borrow.Author.Tests.{eqb-false, eqb-true, ltb-false, ltb-true}
 use Rattle.theory_graph.proofs.Booleans.{onBool}

@@ -3,7 +3,7 @@
 use Prim.Native.Nat.{_*_, _+_, _<_, _≤_, ℕ}
 use mathlib.Core.List.{List, map}
 use mathlib.Core.Path.{_≡_}
-use lib.ListN.{length, set, take}
+use lib.ListN.{length, set}
 use lib.Seq.{sets}
 use Rattle.theory_graph.specs.Lists.{sum, table}
 use Rattle.theory_timeline.specs.Replay.{byte, nameAt}

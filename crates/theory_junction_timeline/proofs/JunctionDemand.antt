@@ -2,7 +2,7 @@
 -- Assumes nothing.
 use Prim.Native.Nat.{_+_, _<_, _≤_, ℕ}
 use mathlib.Core.Bool.{Bool, false, true}
-use mathlib.Core.List.{List, List·Memᴰ, map}
+use mathlib.Core.List.{List, List·Memᴰ}
 use mathlib.Core.Logic.{_↔_}
 use mathlib.Core.Path.{_∙_, _≡_, ap, refl, subst, sym}
 use lib.Dec.{eqb}
@@ -16,9 +16,9 @@ use Rattle.call_sizes.specs.Refusal.{Refusal}
 use Rattle.theory_timeline.proofs.Acceptance.{AcceptedList, events-length, faultless-list, faults-share}
 use Rattle.theory_timeline.proofs.DemandThree.{alike-given, range-length}
 use Rattle.theory_timeline.proofs.Leaves.{map-from}
-use Rattle.theory_timeline.specs.DemandThree.{Alike, Allowed}
+use Rattle.theory_timeline.specs.DemandThree.{Allowed}
 use Rattle.theory_timeline.specs.Replay.{Lent, given, openAtEnd, queries}
-use Rattle.theory_timeline.specs.Windows.{Timeline, Window, size, windows}
+use Rattle.theory_timeline.specs.Windows.{size, windows}
 use Rattle.theory_junction_timeline.proofs.JunctionNetworks.{made-faithful, made-reduced}
 use Rattle.theory_junction_timeline.proofs.JunctionReaders.{byte-is}
 use Rattle.theory_junction_timeline.proofs.JunctionSteps.{junctions-made}

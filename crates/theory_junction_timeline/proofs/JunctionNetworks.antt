@@ -1,11 +1,11 @@
 -- The graphs that the sibling makes down the windows are reduced graphs of the windows' own networks; and what is read off the one of a query is its byte.
 -- In order: lists with the same entries have the same edges; a step; down the windows; a query's own window.
 -- Assumes nothing.
-use Prim.Native.Nat.{_*_, _+_, _-_, _<_, _≤_, max, suc, zero, ℕ}
+use Prim.Native.Nat.{_*_, _+_, _-_, _<_, _≤_, suc, ℕ}
 use mathlib.Core.Bool.{Bool, _&&_, _||_, cond, false, not, true}
 use mathlib.Core.List.{List, List·Memᴰ, List·Memᴰ·head, List·Memᴰ·tail, [], _++_, _∷_, map}
 use mathlib.Core.Logic.{_⊎_, inl, inr}
-use mathlib.Core.Path.{_∙_, _≡_, ap, ap₂, refl, subst, subst₂, sym}
+use mathlib.Core.Path.{_∙_, _≡_, ap, ap₂, refl, subst, sym}
 use lib.Dec.{eqb, ltb}
 use lib.ListN.{getD, length}
 use native.Mathlib.Omega.{arith}
@@ -17,7 +17,7 @@ use Rattle.theory_graph.specs.Graph.{Edge, NodeSet}
 use Rattle.theory_graph.specs.Lists.{firsts, member}
 use Rattle.theory_graph.specs.SmallGraph.{different, endsIn, image}
 use Rattle.theory_names.proofs.NamedCuts.{plain-append, same-cuts}
-use Rattle.theory_names.specs.Names.{Named, SameEntries, plain}
+use Rattle.theory_names.specs.Names.{Named, plain}
 use Rattle.theory_junctions.proofs.DistinctLists.{distinct-fewer}
 use Rattle.theory_junctions.proofs.SameColourings.{Covers, image-same, reply-added, reply-same, same-edges, same-labels, same-step, same-trans}
 use Rattle.theory_junctions.proofs.Windows.{map-length}

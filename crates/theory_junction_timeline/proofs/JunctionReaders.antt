@@ -4,7 +4,7 @@
 use Prim.Native.Nat.{_+_, _<_, _≤_, suc, zero, ℕ}
 use mathlib.Core.Bool.{Bool, _&&_, cond, false, not, true}
 use mathlib.Core.List.{List, List·Memᴰ, [], _∷_}
-use mathlib.Core.Logic.{_↔_, _⊎_, inl, inr}
+use mathlib.Core.Logic.{inl, inr}
 use mathlib.Core.Path.{_∙_, _≡_, ap, ap₂, refl, subst, sym}
 use lib.Dec.{eqb}
 use lib.ListN.{getD, length}
@@ -19,10 +19,9 @@ use Rattle.theory_junctions.specs.Reply.{losing, reply}
 use Rattle.theory_timeline.proofs.RoadLaws.{cover-roads, roads-cover}
 use Rattle.theory_timeline.proofs.RoadLaws as Roads
 use Rattle.theory_timeline.specs.Events.{SegmentSet, pick}
-use Rattle.theory_timeline.specs.Roads.{sameEnds}
 use Rattle.theory_timeline.specs.Windows.{Timeline, asksAt, edgesOf, event, openBefore, openGraph}
 use Rattle.theory_junction_timeline.proofs.JunctionNetworks.{change-byte}
-use Rattle.theory_junction_timeline.specs.JunctionDemand.{IsJunctionByte, PartedBy, Third}
+use Rattle.theory_junction_timeline.specs.JunctionDemand.{IsJunctionByte}
 use Rattle.theory_junction_timeline.specs.JunctionReplay.{junctionByte, sparing}
 
 -- ---- roads and segments

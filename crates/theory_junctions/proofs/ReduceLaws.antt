@@ -1,6 +1,6 @@
 -- What specs/Reduce computes is a reduced graph. In order: the way up; orders; a set of relevant junctions; the classes; the members that share a number.
 -- Assumes nothing.
-use Prim.Native.Nat.{_+_, _-_, _<_, _≤_, suc, zero, ℕ}
+use Prim.Native.Nat.{_<_, _≤_, suc, zero, ℕ}
 use mathlib.Core.Bool.{Bool, _&&_, _||_, cond, false, not, true}
 use mathlib.Core.List.{List, List·Memᴰ, List·Memᴰ·head, List·Memᴰ·tail, [], _++_, _∷_}
 use mathlib.Core.Logic.{_⊎_, inl, inr}

@@ -3,7 +3,7 @@
 -- and for two active junctions their reply is read off. Last the same for other numbers and another order of edges, as a program writes them.
 -- proofs/PathMergingLaws gives the blocks of every forest.
 -- Assumes nothing.
-use Prim.Native.Nat.{_*_, _+_, _-_, _<_, _≤_, ℕ}
+use Prim.Native.Nat.{_*_, _-_, _<_, _≤_, ℕ}
 use mathlib.Core.Bool.{true}
 use mathlib.Core.List.{List, List·Memᴰ, [], _++_, _∷_}
 use mathlib.Core.Path.{_∙_, _≡_, ap, sym}

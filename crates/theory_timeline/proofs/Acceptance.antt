@@ -29,7 +29,7 @@ use Rattle.call_sizes.specs.Sizes.{sizeFaults}
 use Rattle.theory_timeline.specs.DemandThree.{Allowed}
 use Rattle.theory_timeline.specs.Events.{Event, SegmentSet, activeOf, asks, changes, closes, ends, opens, pick}
 use Rattle.theory_timeline.specs.Replay.{Exact, Faultless, Lent, eventFault, fault, faultAt, faultOfKind, faults, faultsWith, given, lengthsWith, listFaults, longTables, ownLengths}
-use Rattle.theory_timeline.specs.Replay.{readLengths, required, shareFaults, shortTables, tableLengths}
+use Rattle.theory_timeline.specs.Replay.{readLengths, required, shareFaults}
 use Rattle.theory_timeline.specs.Steps.{Sound}
 use Rattle.theory_timeline.specs.Windows.{Timeline, Window, active, asksAt, changesAt, during, event, openBefore, size}
 

@@ -1,7 +1,6 @@
 -- Each way out is one case.
 use native.Mathlib.Omega.{arith}
 use Rattle.junction_windows.proofs.JunctionDescentLaws.{both-no, both-yes}
-use borrow.Author.Needs.{needs}
 use Rattle.junction_windows.proofs.both.Statement.{statement}
 use Rattle.junction_windows.proofs.both.Tie as tie
 

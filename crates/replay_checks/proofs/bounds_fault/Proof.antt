@@ -1,7 +1,7 @@
 -- The lengths and the least lengths, of the tables of both replays and of the call's own; the sizes and the lengths; the share.
 use Prim.Native.Nat.{ℕ}
 use mathlib.Core.List.{List}
-use mathlib.Core.Path.{_∙_, _≡_}
+use mathlib.Core.Path.{_∙_}
 use native.Mathlib.Omega.{arith}
 use borrow.Author.Needs.{needs}
 use Rattle.call_sizes.proofs.below_fault.Reads as below-fault-reads
