@@ -1,15 +1,11 @@
 -- What a window of the sibling promises: the bytes of its events.
 -- Assumes nothing: these are definitions.
 use Prim.Native.Nat.{_*_, _+_, _<_, _≤_, ℕ}
-use mathlib.Core.Bool.{Bool, _&&_, _||_, cond}
 use mathlib.Core.List.{List}
 use mathlib.Core.Path.{_≡_}
-use lib.Dec.{eqb}
-use lib.ListN.{getD, length, set}
+use lib.ListN.{length, set}
 use lib.Seq.{sets}
-use Rattle.theory_graph.specs.Graph.{Edge}
 use Rattle.theory_graph.specs.Lists.{table}
-use Rattle.theory_junctions.specs.Reply.{readReply}
 use Rattle.theory_timeline.specs.Steps.{Sound}
 use Rattle.theory_timeline.specs.Windows.{Timeline, size}
 use Rattle.theory_junction_timeline.specs.JunctionReplay.{junctionByte}
@@ -31,17 +27,5 @@ JunctionWindowDone w v before after = (g : Timeline) → Sound g → w .at + w .
     → after ≡ sets before (w .at) (table (junctionByte g) (w .at) (w .events))
 
 -- ---- a window of one event
--- the edges of its area
-abbrev pub leafGraph : ℕ → List ℕ → List Edge
-leafGraph m v = table (λ j. (getD v (5 + j) 0, getD v (13 + j) 0)) 0 m
-
--- an edge joins x and y
-abbrev pub hits : Edge → ℕ → ℕ → Bool
-hits e x y = eqb (e .0) x && eqb (e .1) y || eqb (e .0) y && eqb (e .1) x
-
--- its byte: by the event's tag, and for a query read off the graph
-abbrev pub byteAt : ℕ → List ℕ → ℕ
-byteAt m v = cond (eqb (getD v 2 0) 0) (readReply (leafGraph m v) (getD v 0 0) (getD v 1 0)) 3
-
 abbrev pub JunctionOneDone : Window → List ℕ → List ℕ → List ℕ → Type 0
 JunctionOneDone w v before after = (g : Timeline) → Sound g → w .at < size g → JunctionArea g w v → after ≡ set before (w .at) (junctionByte g (w .at))

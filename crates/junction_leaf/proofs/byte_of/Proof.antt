@@ -1,10 +1,10 @@
 -- Each way out is one case of the byte.
 use mathlib.Core.Path.{_∙_, sym}
 use native.Mathlib.Omega.{arith}
-use Rattle.junction_windows.proofs.JunctionDescentLaws.{byte-3, byte-equal, byte-near, byte-one, byte-zero}
+use Rattle.junction_leaf.proofs.JunctionLeafLaws.{byte-3, byte-equal, byte-near, byte-one, byte-zero}
 use borrow.Author.Needs.{needs}
-use Rattle.junction_windows.proofs.byte_of.Statement.{statement}
-use Rattle.junction_windows.proofs.byte_of.Tie as tie
+use Rattle.junction_leaf.proofs.byte_of.Statement.{statement}
+use Rattle.junction_leaf.proofs.byte_of.Tie as tie
 
 returns : tie.Need-returns
 returns c = byte-3 (c .before .before .before .args .m) (c .before .before .before .args .work .now) (λ z. omega arith)

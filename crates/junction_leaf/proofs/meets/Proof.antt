@@ -1,8 +1,8 @@
 -- One way round, or the other.
-use Rattle.junction_windows.proofs.JunctionDescentLaws.{meets-back, meets-fore}
+use Rattle.junction_leaf.proofs.JunctionLeafLaws.{meets-back, meets-fore}
 use borrow.Author.Needs.{needs}
-use Rattle.junction_windows.proofs.meets.Statement.{statement}
-use Rattle.junction_windows.proofs.meets.Tie as tie
+use Rattle.junction_leaf.proofs.meets.Statement.{statement}
+use Rattle.junction_leaf.proofs.meets.Tie as tie
 
 returns : tie.Need-returns
 returns c =

@@ -1,8 +1,8 @@
 -- Each way out is one case.
 use native.Mathlib.Omega.{arith}
-use Rattle.junction_windows.proofs.JunctionDescentLaws.{both-no, both-yes}
-use Rattle.junction_windows.proofs.both.Statement.{statement}
-use Rattle.junction_windows.proofs.both.Tie as tie
+use Rattle.junction_leaf.proofs.JunctionLeafLaws.{both-no, both-yes}
+use Rattle.junction_leaf.proofs.both.Statement.{statement}
+use Rattle.junction_leaf.proofs.both.Tie as tie
 
 returns : tie.Need-returns
 returns c = let a = c .before .args in both-no (a .a) (a .b) (a .x) (a .y) (λ z. omega arith)

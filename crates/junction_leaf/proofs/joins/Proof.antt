@@ -4,11 +4,11 @@ use mathlib.Core.Bool.{false}
 use mathlib.Core.Path.{_∙_, _≡_, ap, refl, sym}
 use native.Mathlib.Omega.{arith}
 use Rattle.theory_junctions.specs.Reply.{adjacent}
-use Rattle.junction_windows.proofs.JunctionDescentLaws.{joins-none, joins-some}
-use Rattle.junction_windows.specs.JunctionDescent.{leafGraph}
+use Rattle.junction_leaf.proofs.JunctionLeafLaws.{joins-none, joins-some}
+use Rattle.junction_leaf.specs.JunctionLeaf.{leafGraph}
 use borrow.Author.Needs.{needs}
-use Rattle.junction_windows.proofs.joins.Statement.{statement}
-use Rattle.junction_windows.proofs.joins.Tie as tie
+use Rattle.junction_leaf.proofs.joins.Statement.{statement}
+use Rattle.junction_leaf.proofs.joins.Tie as tie
 
 abbrev Inv-loop : tie.InvT-loop
 Inv-loop work m x y j₀ j = (j ≤ m) × (adjacent (leafGraph j work) x y ≡ false)
