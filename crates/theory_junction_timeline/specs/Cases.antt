@@ -5,8 +5,8 @@ use Prim.Native.Nat.{ℕ}
 use mathlib.Core.List.{List, [], _∷_}
 use mathlib.Core.Path.{_≡_}
 use lib.ListN.{length, replicate}
-use Rattle.theory_timeline.specs.Replay.{Lent}
-use Rattle.theory_junction_timeline.specs.JunctionReplay.{JunctionOutcome, junctionRequired, replayJunctions}
+use Rattle.theory_timeline.specs.Replay.{Lent, byte, given}
+use Rattle.theory_junction_timeline.specs.JunctionReplay.{JunctionOutcome, junctionByte, junctionRequired, replayJunctions}
 
 -- code, place, queries, open, the answer table
 abbrev pub Seen : Type 0
@@ -86,6 +86,22 @@ table =
     ∷ (sibling (1 ∷ []) 2 (0 ∷ []) (1 ∷ []) (65535 ∷ []) (0 ∷ []), (6, 0, 0, 0, 9 ∷ []))
     ∷ (sibling (0 ∷ []) 2 (0 ∷ []) (1 ∷ []) (0 ∷ 65534 ∷ []) (1 ∷ 0 ∷ []), (7, 1, 0, 0, 9 ∷ 9 ∷ []))
     ∷ []
+
+-- ---- beside the replay: its byte of event 0, by the loss of a road, and the sibling's
+abbrev pub bothBytes : Lent → ℕ × ℕ
+bothBytes l = (byte (given l) 0, junctionByte (given l) 0)
+
+abbrev pub beside : List ((ℕ × ℕ) × (ℕ × ℕ))
+beside =
+    -- two cycles share junction 2: between them no road parts, and that junction does
+    (bothBytes (lentWith 0 (replicate 6 1) 5 (0 ∷ 1 ∷ 2 ∷ 2 ∷ 3 ∷ 4 ∷ []) (1 ∷ 2 ∷ 0 ∷ 3 ∷ 4 ∷ 2 ∷ []) (0 ∷ []) (3 ∷ [])), (2, 1))
+    -- neighbours over one road: it parts them, and no third junction does
+    ∷ (bothBytes (lentWith 0 (1 ∷ []) 2 (0 ∷ []) (1 ∷ []) (0 ∷ []) (1 ∷ [])), (1, 2))
+    ∷ []
+
+abbrev pub AllBeside : List ((ℕ × ℕ) × (ℕ × ℕ)) → Type 0
+AllBeside [] = Unit {0}
+AllBeside (r ∷ rs) = (r .0 ≡ r .1) × AllBeside rs
 
 -- every case gives what is wanted
 abbrev pub AllHold : List (Seen × Seen) → Type 0
