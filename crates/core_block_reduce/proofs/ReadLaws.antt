@@ -11,17 +11,16 @@ use native.Mathlib.Omega.{arith}
 use borrow.Author.Tests.{eq-eqb, eqb-true}
 use Rattle.theory_graph.proofs.Booleans.{bool-iff}
 use Rattle.theory_graph.proofs.Lists.{filter-length, table-mem}
-use Rattle.theory_graph.proofs.Published.{joined-refl}
 use Rattle.theory_graph.specs.Graph.{Edge, NodeSet}
 use Rattle.theory_graph.specs.Lists.{firsts, member, table}
 use Rattle.theory_graph.specs.SmallGraph.{different, image, noEdge}
 use Rattle.theory_junctions.proofs.DistinctLists.{distinct-different}
-use Rattle.theory_junctions.proofs.Replies.{reply-two}
+use Rattle.theory_junctions.proofs.ReadOut.{read-equal, reply-equal}
 use Rattle.theory_junctions.proofs.SameColourings.{Covers, reply-sym}
 use Rattle.theory_junctions.proofs.Written.{written-query}
 use Rattle.theory_junctions.specs.Blocks.{Blocks, Distinct}
 use Rattle.theory_junctions.specs.Reduce.{Numbers, Relevance, Search, writtenEdges}
-use Rattle.theory_junctions.specs.Reply.{adjacent, losing, readReply, reply}
+use Rattle.theory_junctions.specs.Reply.{adjacent, readReply, reply}
 
 -- ---- different nodes
 pub table-distinct : (f : ℕ → ℕ) (i r : ℕ) → ((x y : ℕ) → i ≤ x → x < y → y < i + r → ¬ (f x ≡ f y)) → Distinct (table f i r)
@@ -41,13 +40,6 @@ firsts-few (x ∷ xs) = omega (arith, firsts-few xs, filter-length (λ y. not (e
 
 pub distinct-count : (S : List ℕ) → Distinct S → different S ≡ length S
 distinct-count S d = omega (arith, firsts-few S, distinct-different S S d (λ u q. q))
-
--- ---- the reply of a node with itself
-pub reply-self : (E : List Edge) (x : ℕ) → reply E x x ≡ 2
-reply-self E x = reply-two E x x .1 (joined-refl E x, λ c a b. joined-refl (losing c E) x)
-
-pub read-self : (H : List Edge) (x : ℕ) → readReply H x x ≡ 2
-read-self H x = ap (λ t. cond (t || adjacent H x x) 2 (cond (noEdge H) 0 1)) (eq-eqb x x refl)
 
 -- ---- the other way round
 
@@ -86,7 +78,7 @@ module _ (E : List Edge) (B : Blocks E) (rel : NodeSet) (order : List ℕ) (num 
       go i j (omega arith) (omega arith) ei ej
     where
       same : x ≡ y → reply E x y ≡ readReply H (num x) (num y)
-      same e = ap (reply E x) (sym e) ∙ reply-self E x ∙ sym (read-self H (num x)) ∙ ap (λ u. readReply H (num x) (num u)) e
+      same e = ap (reply E x) (sym e) ∙ reply-equal E x ∙ sym (read-equal H (num x)) ∙ ap (λ u. readReply H (num x) (num u)) e
 
       two : k ≡ 2 → table act 0 k ≡ act 0 ∷ act 1 ∷ []
       two e = ap (table act 0) e

@@ -2,23 +2,23 @@
 -- In order: where at most two are active, two different ones are all of them; the reply read off; the sizes; the theorem.
 -- Assumes nothing.
 use Prim.Native.Nat.{_*_, _-_, _≤_, ℕ}
-use mathlib.Core.Bool.{_||_, cond}
+use mathlib.Core.Bool.{cond}
 use mathlib.Core.List.{List, List·Memᴰ, List·Memᴰ·head, List·Memᴰ·tail, [], _∷_}
-use mathlib.Core.Path.{_∙_, _≡_, ap, fun-ext, refl, subst, sym}
+use mathlib.Core.Path.{_∙_, _≡_, ap, fun-ext, subst, sym}
 use lib.Dec.{ltb}
 use lib.ListN.{length}
 use native.Mathlib.Omega.{arith}
-use borrow.Author.Tests.{eq-eqb, lt-ltb, ltb-false, ltb-true}
+use borrow.Author.Tests.{lt-ltb, ltb-false, ltb-true}
 use Rattle.theory_graph.proofs.Booleans.{bool-iff, onBool}
 use Rattle.theory_graph.proofs.Ends.{endsIn-mem}
 use Rattle.theory_graph.proofs.Lists.{mem-member, member-mem, three-in}
 use Rattle.theory_graph.proofs.SpanningForest.{onEq}
 use Rattle.theory_graph.specs.Graph.{Edge, NodeSet}
 use Rattle.theory_graph.specs.Lists.{member}
-use Rattle.theory_graph.specs.SmallGraph.{different, noEdge}
+use Rattle.theory_graph.specs.SmallGraph.{different}
 use Rattle.theory_junctions.proofs.DistinctLists.{in-firsts}
 use Rattle.theory_junctions.proofs.Query.{reduced-few}
-use Rattle.theory_junctions.proofs.ReadOut.{reply-equal}
+use Rattle.theory_junctions.proofs.ReadOut.{read-equal, reply-equal}
 use Rattle.theory_junctions.proofs.ReduceLaws.{class-list, relevance, shared-list}
 use Rattle.theory_junctions.proofs.Reduced.{image-length}
 use Rattle.theory_junctions.proofs.ReducedGraphs.{small-below, small-ends, small-query, small-same, small-size}
@@ -27,7 +27,7 @@ use Rattle.theory_junctions.specs.Blocks.{Blocks, mergedTo}
 use Rattle.theory_junctions.specs.Classes.{reducedGraph}
 use Rattle.theory_junctions.specs.Reduce.{Relevance, Search, classesIn, relevantTo, rootsIn, sharedIn, smallGraph, smallJunctions, smallNumber, writtenEdges}
 use Rattle.theory_junctions.specs.ReducedGraph.{HasReducedGraph, IsReducedGraph, mostEdges, mostJunctions}
-use Rattle.theory_junctions.specs.Reply.{adjacent, readReply, reply}
+use Rattle.theory_junctions.specs.Reply.{readReply, reply}
 
 -- ---- where at most two are active, two different ones are all of them
 two-all : (S : List ℕ) → different S ≤ 2 → (x y : ℕ) → List·Memᴰ x S → List·Memᴰ y S → ¬ (x ≡ y) → member S ≡ member (x ∷ y ∷ [])
@@ -66,8 +66,7 @@ module _ (E : List Edge) (B : Blocks E) (S order : List ℕ) (T : Search E B (me
   read l x y mx my =
       onEq x y
       (λ e.
-      let self : readReply H (ν x) (ν x) ≡ 2 = ap (λ t. cond (t || adjacent H (ν x) (ν x)) 2 (cond (noEdge H) 0 1)) (eq-eqb (ν x) (ν x) refl) in
-      ap (reply E x) (sym e) ∙ reply-equal E x ∙ sym self ∙ ap (λ u. readReply H (ν x) (ν u)) e)
+      ap (reply E x) (sym e) ∙ reply-equal E x ∙ sym (read-equal H (ν x)) ∙ ap (λ u. readReply H (ν x) (ν u)) e)
       λ n.
       subst (λ (K : NodeSet). Search E B K order → Relevance E B K rel → reply E x y ≡ readReply (smallGraph B K rel order) (smallNumber B K rel order x) (smallNumber B K rel order y))
       (sym (two-all S l x y mx my n)) (small-query E B x y rel order) T W

@@ -52,6 +52,9 @@ third x y J l mx my ne = go (others y (others x J)) refl
 pub reply-equal : (E : List Edge) (x : ℕ) → reply E x x ≡ 2
 reply-equal E x = reply-two E x x .1 (joined-refl E x, λ c a b. joined-refl (losing c E) x)
 
+pub read-equal : (H : List Edge) (x : ℕ) → readReply H x x ≡ 2
+read-equal H x = ap (λ t. cond (t || adjacent H x x) 2 (cond (noEdge H) 0 1)) (eq-eqb x x refl)
+
 adjacent-edge : (E : List Edge) (x y : ℕ) → adjacent E x y ≡ true → List·Memᴰ (x, y) E ⊎ List·Memᴰ (y, x) E
 adjacent-edge [] x y h = contradict h refl
 adjacent-edge (e ∷ E) x y h =
