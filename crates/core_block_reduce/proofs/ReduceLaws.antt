@@ -8,9 +8,10 @@ use mathlib.Core.Path.{_∙_, _≡_, ap, ap₂, refl, subst, sym}
 use lib.Dec.{ltb}
 use lib.ListN.{getD, length}
 use native.Mathlib.Omega.{arith}
-use borrow.Author.Tests.{ltb-false, ltb-true}
+use borrow.Author.Tests.{lt-ltb, ltb-false, ltb-true}
 use Rattle.theory_graph.proofs.Booleans.{onBool}
-use Rattle.theory_graph.proofs.Lists.{member-mem, table-in, table-length, table-mem}
+use Rattle.theory_graph.proofs.Ends.{endsIn-mem}
+use Rattle.theory_graph.proofs.Lists.{mem-member, member-mem, table-in, table-length, table-mem}
 use Rattle.theory_graph.proofs.TableLaws.{table-equal}
 use Rattle.theory_graph.specs.Graph.{Edge, NodeSet}
 use Rattle.theory_graph.specs.Lists.{filter, member, table}
@@ -161,10 +162,6 @@ module _ {n m k : ℕ} {w₀ w₁ w₂ : List ℕ} (r : CanReduce n m k w₀) (c
           active₆ : (v : ℕ) → member (activeIn k w₀) v ≡ true → K₆ v ≡ true
           active₆ v a = ap (λ (S : List ℕ). member S v) actives-same ∙ a
 
-          edge-at : (j : ℕ) → j < e → List·Memᴰ (half n TO w₈ (2 * (m + j)), half n TO w₈ (2 * (m + j) + 1)) H
-          edge-at j l = subst (λ (G : List Edge). List·Memᴰ (half n TO w₈ (2 * (m + j)), half n TO w₈ (2 * (m + j) + 1)) G) behind
-              (table-in (λ j. (half n TO w₈ (2 * (m + j)), half n TO w₈ (2 * (m + j) + 1))) 0 e j (omega arith) (omega arith))
-
           count-edges : e ≡ length H
           count-edges = sym (table-length (λ j. (half n TO w₈ (2 * (m + j)), half n TO w₈ (2 * (m + j) + 1))) 0 e) ∙ ap (λ (G : List Edge). length G) behind
 
@@ -192,6 +189,10 @@ module _ {n m k : ℕ} {w₀ w₁ w₂ : List ℕ} (r : CanReduce n m k w₀) (c
               let j : mostEdges k ≡ 4 * k - 6 = ap (λ t. cond t 0 (4 * k - 6)) t in
               (omega (arith, a, i, different-k, count-own (u .numbers)), omega (arith, z, j, different-k, count-edges, edges-most (u .numbers))))
 
+          -- the active nodes given are k different ones
+          active-k : different (activeIn k w₀) ≡ k
+          active-k = sym (ap different actives-same) ∙ different-k
+
           -- ---- the reply of two
           read : k ≤ 2 → (a z : ℕ) → member (activeIn k w₀) a ≡ true → member (activeIn k w₀) z ≡ true → reply (plain (edgesIn n m w₀)) a z ≡ readReply (edgesBehind n m e w₈) (number a) (number z)
           read l a z ka kz =
@@ -213,11 +214,15 @@ module _ {n m k : ℕ} {w₀ w₁ w₂ : List ℕ} (r : CanReduce n m k w₀) (c
             numbers = λ i l.
                 let a = r .loaded .active i l in
                 ap (node MAPPED w₈) (sym (act₇ i l)) ∙ y .numbers i l ∙ ap (node NUMBER w₇) (act₇ i l) ∙ x .nodes NUMBER (omega arith) (node ACTIVE w₀ i) a;
-            alike = alike;
-            below = λ v a. active-low (u .numbers) v (active₆ v a);
-            once = λ v z a o i. sym (active-node (u .numbers) v (active₆ v a)) ∙ ap (nodeOf (u .numbers)) i ∙ active-node (u .numbers) z (active₆ z o);
-            ends = λ j l. ends-low (u .numbers) (half n TO w₈ (2 * (m + j))) (half n TO w₈ (2 * (m + j) + 1)) (edge-at j l);
-            nodes = sizes .0;
-            edges = sizes .1;
-            read = read;
+            active = active-k;
+            graph = record {
+              same = alike;
+              place = λ v a. active-low (u .numbers) v (active₆ v (mem-member v (activeIn k w₀) a));
+              inside = endsIn-mem (λ v. ltb v h) (edgesBehind n m e w₈) (λ p s o.
+                  let (a, z) = ends-low (u .numbers) p s (subst (λ (G : List Edge). List·Memᴰ (p, s) G) behind o) in
+                  (lt-ltb p h a, lt-ltb s h z));
+              nodes = subst (λ (k : ℕ). h ≤ mostJunctions k) (sym active-k) (sizes .0);
+              edges = subst (λ (k : ℕ). length (edgesBehind n m e w₈) ≤ mostEdges k) (sym active-k) (omega (arith, sizes .1, count-edges, ap (λ (G : List Edge). length G) behind));
+              read = λ l a z ka kz. read (omega (arith, l, active-k)) a z (mem-member a (activeIn k w₀) ka) (mem-member z (activeIn k w₀) kz);
+            };
           }

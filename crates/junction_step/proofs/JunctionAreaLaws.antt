@@ -8,7 +8,7 @@ use lib.Dec.{eqb, ltb}
 use lib.ListN.{drop, getD, length, length-drop, length-map, length-take, set, take}
 use lib.Seq.{drop-drop, getD-drop, getD-take, sets, take-take}
 use native.Mathlib.Omega.{arith}
-use borrow.Author.Tests.{lt-ltb}
+use borrow.Author.Tests.{lt-ltb, ltb-true}
 use borrow.Rule.Slice.PartMut.{putMid, same-len-mid, take-put}
 use Rattle.core_block_reduce.specs.Core.{BlocksReduced, CanReduce, edgesBehind}
 use Rattle.core_loading.proofs.LoadingLaws.{entered-most}
@@ -17,8 +17,8 @@ use Rattle.core_reduce.specs.declared.Counts.{Counts}
 use Rattle.core_words.specs.Fields.{ACTIVE, MAPPED, TO, half, node}
 use Rattle.theory_graph.proofs.ActiveLists.{in-firsts}
 use Rattle.theory_graph.proofs.EdgeCount.{firsts-most}
-use Rattle.theory_graph.proofs.Ends.{endsIn-mem}
-use Rattle.theory_graph.proofs.Lists.{map-equal, mem-member, member-mem, table-length, table-mem}
+use Rattle.theory_graph.proofs.Ends.{endsIn-mem, endsIn-of}
+use Rattle.theory_graph.proofs.Lists.{map-equal, mem-member, member-mem, table-in, table-length, table-mem}
 use Rattle.theory_graph.proofs.TableLaws.{pairs-tables, table-equal, table-getD}
 use Rattle.theory_graph.specs.Graph.{Edge}
 use Rattle.theory_graph.specs.Lists.{firsts, member, pairs, table}
@@ -133,11 +133,14 @@ module _ {p : Part} {l : Graph} {w : List ℕ} (q : JunctionMakeReady p l w) whe
     active-low : l .active ≤ 2 * c
     active-low = omega (arith, active-is, firsts-most eqb T, length-T)
 
+    edges-out : length (edgesBehind n m e zs) ≡ e
+    edges-out = table-length {A = Edge} (λ j. (half n TO zs (2 * (m + j)), half n TO zs (2 * (m + j) + 1))) 0 e
+
     few-out : e ≤ 8 * c
-    few-out = omega (arith, K .edges, most-four (l .active), active-low)
+    few-out = omega (arith, K .graph .edges, edges-out, K .active, most-four (different (activeIn (l .active) L)), active-low)
 
     nodes-out : r .nodes ≤ 6 * c
-    nodes-out = omega (arith, K .nodes, most-three (l .active), active-low)
+    nodes-out = omega (arith, K .graph .nodes, K .active, most-three (different (activeIn (l .active) L)), active-low)
 
     T-1 : take (2 * c) (drop (p .places) w₁) ≡ T
     T-1 = mid-less (p .places) (2 * c) s w w₁ (omega (arith, q .ready .places, q .behind)) (omega (arith, length-1, high, q .ready .places, q .behind))
@@ -287,30 +290,39 @@ module _ {p : Part} {l : Graph} {w : List ℕ} (q : JunctionMakeReady p l w) whe
       sixteen-z j b =
           let x : getD z (21 * c + j) 0 ≡ half n TO zs (2 * (m + j)) =
           sym (getD-drop (21 * c) z j 0) ∙ sym (getD-take e (drop (21 * c) z) j 0 b) ∙ ap (λ (u : List ℕ). getD u j 0) names ∙ table-getD (λ j. half n TO zs (2 * (m + j))) e j b in
-          omega (arith, x, K .ends j b .0, nodes-out, q .ready .much)
+          omega (
+            arith,
+            x,
+            ltb-true _ (r .nodes) (endsIn-of (λ v. ltb v (r .nodes)) (edgesBehind n m e zs) (K .graph .inside)
+                (table-in (λ j. (half n TO zs (2 * (m + j)), half n TO zs (2 * (m + j) + 1))) 0 e j (omega arith) (omega arith)) .0),
+            nodes-out,
+            q .ready .much,
+          )
 
       -- ---- the graph
+      active-in : (v : ℕ) → List·Memᴰ v T → List·Memᴰ v (activeIn (l .active) L)
+      active-in v k = subst (λ (S : List ℕ). List·Memᴰ v S) (sym list-L) (in-firsts T v k)
+
       is-active : (v : ℕ) → List·Memᴰ v T → member (activeIn (l .active) L) v ≡ true
-      is-active v k = mem-member v (activeIn (l .active) L) (subst (λ (S : List ℕ). List·Memᴰ v S) (sym list-L) (in-firsts T v k))
+      is-active v k = mem-member v (activeIn (l .active) L) (active-in v k)
 
       numbers : (t : ℕ) → List·Memᴰ t T → node MAPPED zs t ≡ K .number t
       numbers t k =
           let (j, b, x) = table-mem (node ACTIVE L) 0 (l .active) t (subst (λ (S : List ℕ). List·Memᴰ t S) (sym list-L) (in-firsts T t k)) in
           ap (node MAPPED zs) x ∙ K .numbers j (omega arith) ∙ ap (K .number) (sym x)
 
+      -- as many are active by the places as by the words
+      same-different : different (activeIn (l .active) L) ≡ different T
+      same-different = K .active ∙ active-is
+
       graph-L : IsReducedGraph (plain (edgesIn n m L)) T (r .nodes) (edgesBehind n m e zs) (K .number)
       graph-L = record {
-        same = same-labels (member (activeIn (l .active) L)) (member T) (λ k. k) (plain (edgesIn n m L)) (λ k. k) (edgesBehind n m e zs) (K .number) (λ k h. is-active k (member-mem T k h)) (K .alike);
-        place = λ a k. K .below a (is-active a k);
-        inside = endsIn-mem (λ v. ltb v (r .nodes)) (edgesBehind n m e zs) (λ i j k.
-            let (d, b, x) = table-mem (λ j. (half n TO zs (2 * (m + j)), half n TO zs (2 * (m + j) + 1))) 0 e (i, j) k in
-            let (f, h) = K .ends d (omega arith) in (
-              ap (λ (v : Edge). ltb (v .0) (r .nodes)) x ∙ lt-ltb _ (r .nodes) f,
-              ap (λ (v : Edge). ltb (v .1) (r .nodes)) x ∙ lt-ltb _ (r .nodes) h,
-            ));
-        nodes = subst (λ (k : ℕ). r .nodes ≤ mostJunctions k) active-is (K .nodes);
-        edges = subst (λ (k : ℕ). length (edgesBehind n m e zs) ≤ mostEdges k) active-is (omega (arith, K .edges, table-length {A = Edge} (λ j. (half n TO zs (2 * (m + j)), half n TO zs (2 * (m + j) + 1))) 0 e));
-        read = λ h x y kx ky. K .read (omega (arith, active-is)) x y (is-active x kx) (is-active y ky);
+        same = same-labels (member (activeIn (l .active) L)) (member T) (λ k. k) (plain (edgesIn n m L)) (λ k. k) (edgesBehind n m e zs) (K .number) (λ k h. is-active k (member-mem T k h)) (K .graph .same);
+        place = λ a k. K .graph .place a (active-in a k);
+        inside = K .graph .inside;
+        nodes = subst (λ (k : ℕ). r .nodes ≤ mostJunctions k) same-different (K .graph .nodes);
+        edges = subst (λ (k : ℕ). length (edgesBehind n m e zs) ≤ mostEdges k) same-different (K .graph .edges);
+        read = λ h x y kx ky. K .graph .read (omega (arith, same-different)) x y (active-in x kx) (active-in y ky);
       }
 
       graph-z : IsReducedGraph (plain (edgesIn n m (drop s w))) T (r .nodes) (areaGraph c e z) (K .number)

@@ -21,7 +21,7 @@ pub(crate) fn put_ends(work: &mut [u32], from: usize, count: usize, q: usize)
 }
 
 // Internal: reduces the graph that is loaded behind the part's area, and writes the area: the nodes and the edges that it has then. An edge's name is never
-// read; its smaller end stands for it.
+// read; its first end stands for it.
 pub fn make_area(
     part: replay_step::Part,
     l: replay_step::Graph,

@@ -10,6 +10,7 @@ use lib.Dec.{eqb}
 use lib.ListN.{length}
 use native.Mathlib.Omega.{arith}
 use borrow.Author.Tests.{eq-eqb, eqb-false, eqb-true, ne-eqb, not-true}
+use Rattle.theory_graph.proofs.ActiveLists.{in-firsts}
 use Rattle.theory_graph.proofs.Booleans.{onBool}
 use Rattle.theory_graph.proofs.Lists.{filter-in, firsts-cover, mem-append}
 use Rattle.theory_graph.specs.Lists.{filter, firsts}
@@ -109,10 +110,5 @@ distinct-fewer (t ∷ T) l d f =
     go n (List·Memᴰ·tail m) = m
 
 -- an entry is among the different ones
-pub in-firsts : (S : List ℕ) (u : ℕ) → List·Memᴰ u S → List·Memᴰ u (firsts eqb S)
-in-firsts S u m =
-    let (c, n, e) = firsts-cover eqb (λ x. eq-eqb x x refl) (λ x y z p q. eq-eqb x z (eqb-true x y p ∙ eqb-true y z q)) u S m in
-    subst (λ (s : ℕ). List·Memᴰ s (firsts eqb S)) (eqb-true c u e) n
-
 pub distinct-different : (S l : List ℕ) → Distinct l → ((u : ℕ) → List·Memᴰ u l → List·Memᴰ u S) → length l ≤ different S
 distinct-different S l d f = distinct-fewer (firsts eqb S) l d (λ u m. in-firsts S u (f u m))

@@ -9,6 +9,7 @@ use lib.Dec.{ltb}
 use lib.ListN.{length}
 use native.Mathlib.Omega.{arith}
 use borrow.Author.Tests.{lt-ltb, ltb-false, ltb-true}
+use Rattle.theory_graph.proofs.ActiveLists.{in-firsts}
 use Rattle.theory_graph.proofs.Booleans.{bool-iff, onBool}
 use Rattle.theory_graph.proofs.Ends.{endsIn-mem}
 use Rattle.theory_graph.proofs.Lists.{mem-member, member-mem, three-in}
@@ -16,7 +17,6 @@ use Rattle.theory_graph.proofs.SpanningForest.{onEq}
 use Rattle.theory_graph.specs.Graph.{Edge, NodeSet}
 use Rattle.theory_graph.specs.Lists.{member}
 use Rattle.theory_graph.specs.SmallGraph.{different}
-use Rattle.theory_junctions.proofs.DistinctLists.{in-firsts}
 use Rattle.theory_junctions.proofs.Query.{reduced-few}
 use Rattle.theory_junctions.proofs.ReadOut.{read-equal, reply-equal}
 use Rattle.theory_junctions.proofs.ReduceLaws.{class-list, relevance, shared-list}

@@ -1,4 +1,4 @@
--- Replies of small graphs, computed by a program that follows document 02's words, with three graphs that show what document 000's Lemma 7 leaves out.
+-- Replies of small graphs, computed by a program that follows document 02's words, with three pairs of graphs that show what the merging of document 000's Lemma 7 needs.
 -- Assumes nothing: these are definitions.
 use Prim.Native.Nat.{ℕ}
 use mathlib.Core.List.{List, [], _∷_}
@@ -54,16 +54,18 @@ table =
     asked ((3, 1) ∷ (1, 0) ∷ (1, 0) ∷ (4, 1) ∷ []) 0 4 1 ∷
     []
 
--- ---- what Lemma 7 of document 000 leaves out: a graph, and the graph after a merge that a condition of specs/Classes forbids; the reply changes
+-- ---- why each condition under which a junction is merged into its top (specs/Classes, `shares`) is needed: a graph, and the graph after a merge that this one
+-- condition forbids, with edges added between active junctions; the reply changes. Lemma 7 of document 000 does not have the third condition at all, and leaves the
+-- first two to its proof (docs/theory.md, section 13)
 abbrev pub merges : List Row
 merges =
     -- the top is active: the path 0-2-1 with 2 merged into 0
     asked ((0, 2) ∷ (2, 1) ∷ []) 0 1 1 ∷
     asked ((0, 0) ∷ (0, 1) ∷ []) 0 1 2 ∷
-    -- the class has another relevant member: 1 merged into 0 on the triangle 0, 1, 2, with the edges 3-5 and 4-6 added between active junctions
-    asked ((0, 1) ∷ (1, 2) ∷ (2, 0) ∷ (1, 3) ∷ (1, 4) ∷ (0, 5) ∷ (0, 6) ∷ (2, 7) ∷ (3, 5) ∷ (4, 6) ∷ []) 3 4 2 ∷
-    asked ((0, 0) ∷ (0, 2) ∷ (2, 0) ∷ (0, 3) ∷ (0, 4) ∷ (0, 5) ∷ (0, 6) ∷ (2, 7) ∷ (3, 5) ∷ (4, 6) ∷ []) 3 4 1 ∷
-    -- the member is the top of two classes: 1 merged into 0, with the same edges added
+    -- the class has another relevant member: 1 merged into 0 on the triangle 0, 1, 2, with the edges 3-5 and 7-6 added
+    asked ((0, 1) ∷ (1, 2) ∷ (2, 0) ∷ (1, 3) ∷ (0, 5) ∷ (0, 6) ∷ (2, 7) ∷ (3, 5) ∷ (7, 6) ∷ []) 3 7 2 ∷
+    asked ((0, 0) ∷ (0, 2) ∷ (2, 0) ∷ (0, 3) ∷ (0, 5) ∷ (0, 6) ∷ (2, 7) ∷ (3, 5) ∷ (7, 6) ∷ []) 3 7 1 ∷
+    -- the member is the top of two classes: 1 merged into 0, with the edges 3-5 and 4-6 added
     asked ((0, 1) ∷ (1, 3) ∷ (1, 4) ∷ (0, 5) ∷ (0, 6) ∷ (3, 5) ∷ (4, 6) ∷ []) 3 4 2 ∷
     asked ((0, 0) ∷ (0, 3) ∷ (0, 4) ∷ (0, 5) ∷ (0, 6) ∷ (3, 5) ∷ (4, 6) ∷ []) 3 4 1 ∷
     []
