@@ -1,7 +1,7 @@
 use Prim.Native.Nat.{_≤_, _-_}
 use borrow.Author.Needs.{needs}
-use Rattle.test_replay.proofs.vectors.copy_answers.Statement.{statement}
-use Rattle.test_replay.proofs.vectors.copy_answers.Tie as tie
+use Rattle.test_library.proofs.vectors.copy_answers.Statement.{statement}
+use Rattle.test_library.proofs.vectors.copy_answers.Tie as tie
 
 abbrev Inv-loop : tie.InvT-loop
 Inv-loop t₀ text start from count i₀ t i = i ≤ count
