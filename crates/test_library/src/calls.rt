@@ -17,6 +17,12 @@ pub fn length(least: usize, table: usize, short: usize) -> usize
     counts::minus(least, (table == short) as usize)
 }
 
+// Internal: the length of a table that is only read: its size, one entry less where it is the table that is short, one more where it is the one that is longer.
+pub fn exact(size: usize, table: usize, short: usize, long: usize) -> usize {
+    let most = counts::plus(size, (table == long) as usize);
+    counts::minus(most, (table == short) as usize)
+}
+
 // Internal: the number by which a call is refused, or 99 where it is refused and changed so many entries.
 pub fn code(code: usize, changed: usize) -> usize {
     if (code > 0) & (changed > 0) {
@@ -50,6 +56,14 @@ pub fn entries_wrong(t: &[u16], want: &Entries, count: usize, all: usize) -> usi
         wrong = counts::counted(wrong, counts::entry(t[i]) != v);
     }
     wrong
+}
+
+// Internal: fills the first count words, or all, with what is in a table before a call.
+pub fn refill(w: &mut [u32], count: usize) {
+    let n = counts::least(count, w.len());
+    for i in 0..n {
+        w[i] = 7;
+    }
 }
 
 // Internal: how many words are wrong of all that were lent, where the first count are to be 0 and the others as before.

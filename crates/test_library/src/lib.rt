@@ -9,3 +9,4 @@ pub mod random;
 pub mod replays;
 pub mod tables;
 pub mod text;
+pub mod vectors;

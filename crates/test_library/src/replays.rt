@@ -45,6 +45,23 @@ pub struct Lengths {
     pub work: usize,
 }
 
+// Internal: the sizes of the tables that are only read and the least lengths of the others, so many words among them; one of them one entry short, 1 to 8, or
+// those that are written longer; and one of those that are only read one entry longer, 1 to 5.
+pub fn lengths_of(sizes: Sizes, words: usize, short: usize, long: usize) -> Lengths {
+    let m = sizes.m;
+    let t = sizes.t;
+    Lengths {
+        a: calls::exact(m, 1, short, long),
+        b: calls::exact(m, 2, short, long),
+        start: calls::exact(m, 3, short, long),
+        x: calls::exact(t, 4, short, long),
+        y: calls::exact(t, 5, short, long),
+        answers: calls::length(t, 6, short),
+        names: calls::length(t, 7, short),
+        work: calls::length(words, 8, short),
+    }
+}
+
 // A refusal's number and its place, both 0 where there is none, and the three numbers that are returned.
 pub struct Reply {
     pub code: usize,

@@ -286,6 +286,35 @@ pub fn small(s: usize) -> List {
     l
 }
 
+// How many roads the segments of block list s go along: in every second list 5 to 15, so that several are of one road by chance, else each along its own.
+fn block_roads(s: usize) -> usize {
+    if s / 9 % 2 == 0 {
+        return 0;
+    }
+    5 + random::at(s, 24, 0, 11) % 11
+}
+
+// A network of 5 to 13 junctions and 6 to 18 segments, of cycles or blocks that share junctions.
+fn block_network(s: usize) -> Network {
+    Network {
+        kind: networks::SHARED + s / 3 % 3,
+        seed: s,
+        segments: 6 + random::at(s, 8, 0, 13) % 13,
+        places: 5 + random::at(s, 7, 0, 9) % 9,
+        roads: block_roads(s),
+    }
+}
+
+// Internal: the list s of at most 18 segments and 16 events on cycles or blocks that share junctions, of each kind in turn, and every third with a fault. In a
+// fifth of the lists all segments are open at the start, and in the others half of them or more, so that the cycles are often whole.
+pub fn blocks(s: usize) -> List {
+    let l = drawn(block_network(s), 16, 4 + s / 18 % 5);
+    if s % 3 == 2 {
+        return spoilt(l, s);
+    }
+    l
+}
+
 // Internal: which table of the small list s is one entry short: of some of the lists with a fault one, else those that are written are longer.
 pub fn short(s: usize) -> usize {
     if (s % 3 == 2) & (random::at(s, 20, 0, 8) == 0) {
@@ -379,4 +408,11 @@ pub fn ring(i: usize) -> List {
         roads: 0,
     };
     made(sizes, w, ring_roads(i), ring_eighths(i))
+}
+
+// Internal: its first events: as many as fit into a table that a test can hold for the sibling, which asks for four times the words of an event.
+pub fn shorter_ring(i: usize) -> List {
+    let mut l = ring(i);
+    l.sizes.t = 1200;
+    l
 }

@@ -1,20 +1,13 @@
-// Replays made by a slow program before any code of the product; they stand on standard input. The first 50 are those of document 02, No. 7: 17 are accepted
-// and 33 refused. The other five are of No. 5, all accepted. A vector is a line of numbers of four digits in base 16, then ; at its end. Ten of the sizes: N, M,
-// T, the share and zeros; ten of the lengths: of A, B, the starting table, X, Y, the answers, the names and the work table, and two zeros; ten of the reply: a
-// refusal's number and its place, the queries, the segments open at the end, kept and zeros. Then come the first five tables of these lengths; and where it is
-// accepted the answers and the names.
+// Replays made by a slow program before any code of the product; they stand on standard input, in the form of test_library::vectors. The first 50 are those of
+// document 02, No. 7: 17 are accepted and 33 refused. The other five are of No. 5, all accepted.
 use libc::STDIN_FILENO;
 use test_library::counts;
 use test_library::print;
 use test_library::replays;
-use test_library::replays::Answers;
-use test_library::replays::Lengths;
-use test_library::replays::List;
 use test_library::replays::Replayed;
-use test_library::replays::Reply;
-use test_library::replays::Sizes;
 use test_library::text;
 use test_library::text::Text;
+use test_library::vectors;
 use test_replay_calls::calls;
 use test_replay_calls::calls::Work;
 use test_slow_replay::replay;
@@ -26,72 +19,14 @@ struct Counts {
     slow_differs: usize,
 }
 
-fn read_sizes(text: &Text, start: usize) -> Sizes {
-    let r = text::row(text, start, 0);
-    Sizes {
-        n: r[0],
-        m: r[1],
-        t: r[2],
-        p: r[3],
-    }
-}
-
-fn read_lengths(text: &Text, start: usize) -> Lengths {
-    let r = text::row(text, start, 10);
-    Lengths {
-        a: r[0],
-        b: r[1],
-        start: r[2],
-        x: r[3],
-        y: r[4],
-        answers: r[5],
-        names: r[6],
-        work: r[7],
-    }
-}
-
-fn read_reply(text: &Text, start: usize) -> Reply {
-    let r = text::row(text, start, 20);
-    Reply {
-        code: r[0],
-        place: r[1],
-        queries: r[2],
-        open: r[3],
-        kept: r[4],
-    }
-}
-
-fn read_list(text: &Text, start: usize, sizes: Sizes, lengths: Lengths) -> List {
-    let mut l = replays::filled(sizes, 65000);
-    let b = text::copy(&mut l.a, text, start, 30, lengths.a);
-    let s = text::copy(&mut l.b, text, start, b, lengths.b);
-    let x = text::copy(&mut l.start, text, start, s, lengths.start);
-    let y = text::copy(&mut l.x, text, start, x, lengths.x);
-    text::copy(&mut l.y, text, start, y, lengths.y);
-    l
-}
-
-// Which number comes behind the tables of the list.
-fn behind(l: Lengths) -> usize {
-    let network = counts::plus(l.a, counts::plus(l.b, l.start));
-    counts::plus(counts::plus(30, network), counts::plus(l.x, l.y))
-}
-
-fn copy_answers(t: &mut Answers, text: &Text, start: usize, from: usize, count: usize) {
-    for i in 0..count {
-        let v = text::number(text, start, counts::plus(from, i));
-        replays::set_answer(t, i, v);
-    }
-}
-
 // What is wanted, of t events.
 fn read_outcome(text: &Text, start: usize, from: usize, t: usize) -> Replayed {
     let mut answers = [0u8; 4104];
-    copy_answers(&mut answers, text, start, from, t);
+    vectors::copy_answers(&mut answers, text, start, from, t);
     let mut names = [0u16; 8200];
     text::copy(&mut names, text, start, counts::plus(from, t), t);
     Replayed {
-        reply: read_reply(text, start),
+        reply: vectors::read_reply(text, start),
         answers,
         names,
         words_wrong: 0,
@@ -100,10 +35,10 @@ fn read_outcome(text: &Text, start: usize, from: usize, t: usize) -> Replayed {
 
 // Counts the vector that begins at start.
 fn add(c: Counts, text: &Text, start: usize, work: &mut Work) -> Counts {
-    let sizes = read_sizes(text, start);
-    let lengths = read_lengths(text, start);
-    let l = read_list(text, start, sizes, lengths);
-    let want = read_outcome(text, start, behind(lengths), sizes.t);
+    let sizes = vectors::read_sizes(text, start);
+    let lengths = vectors::read_lengths(text, start);
+    let l = vectors::read_list(text, start, sizes, lengths);
+    let want = read_outcome(text, start, vectors::behind(lengths), sizes.t);
     let r = calls::run(l, lengths, work);
     let slow = replay::reply(l, lengths, 0);
     Counts {

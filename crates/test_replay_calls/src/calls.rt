@@ -22,28 +22,10 @@ fn plain(r: ReplayReply) -> Reply {
     }
 }
 
-// The length of a table that is only read: its size, one entry less where it is the table that is short, one more where it is the one that is longer.
-fn exact(size: usize, table: usize, short: usize, long: usize) -> usize {
-    let most = counts::plus(size, (table == long) as usize);
-    counts::minus(most, (table == short) as usize)
-}
-
-// Internal: the sizes of the tables that are only read and the least lengths of the others; one of them one entry short, 1 to 8, or those that are written
-// longer; and one of those that are only read one entry longer, 1 to 5.
+// Internal: the lengths of the tables that a list is lent, as `replays::lengths_of` has them.
 pub fn lengths(sizes: Sizes, short: usize, long: usize) -> Lengths {
-    let m = sizes.m;
-    let t = sizes.t;
-    let words = replay::required(sizes.n, m, t);
-    Lengths {
-        a: exact(m, 1, short, long),
-        b: exact(m, 2, short, long),
-        start: exact(m, 3, short, long),
-        x: exact(t, 4, short, long),
-        y: exact(t, 5, short, long),
-        answers: calls::length(t, 6, short),
-        names: calls::length(t, 7, short),
-        work: calls::length(words, 8, short),
-    }
+    let words = replay::required(sizes.n, sizes.m, sizes.t);
+    replays::lengths_of(sizes, words, short, long)
 }
 
 // The call with tables of these lengths.
@@ -78,17 +60,11 @@ fn call<'a>(
     )
 }
 
-fn refill(work: &mut Work, count: usize) {
-    for i in 0..count {
-        work[i % 1247536] = 7;
-    }
-}
-
 // Internal: the outcome of the call. Of the work table the required length must be 0 where it is accepted, and all else as before.
 pub fn run(l: List, lengths: Lengths, work: &mut Work) -> Replayed {
     let sizes = l.sizes;
     let words = replay::required(sizes.n, sizes.m, sizes.t);
-    refill(work, words + 8);
+    calls::refill(work, words + 8);
     let mut answers = [7u8; 4104];
     let mut names = [7u16; 8200];
     let reply = plain(call(

@@ -1,16 +1,16 @@
 use Prim.Native.Nat.{_≤_, _-_}
 use borrow.Author.Needs.{needs}
-use Rattle.test_replay.proofs.vectors.copy_answers.Statement.{statement}
-use Rattle.test_replay.proofs.vectors.copy_answers.Tie as tie
+use Rattle.test_junctions.proofs.vectors.run.Statement.{statement}
+use Rattle.test_junctions.proofs.vectors.run.Tie as tie
 
 abbrev Inv-loop : tie.InvT-loop
-Inv-loop t₀ text start from count i₀ t i = i ≤ count
+Inv-loop text length work₀ c₀ start₀ counter₀ work c start counter = counter ≤ 100
 
 abbrev μ-loop : tie.MeasureT-loop
-μ-loop t₀ text start from count i₀ t i = count - i
+μ-loop text length work₀ c₀ start₀ counter₀ work c start counter = 100 - counter
 
-pub copy-answers-spec : {M : Type 1} → statement M
-copy-answers-spec =
+pub run-spec : {M : Type 1} → statement M
+run-spec =
     tie.close
     (tie.spec
     Inv-loop

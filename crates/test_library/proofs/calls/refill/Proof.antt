@@ -1,13 +1,15 @@
 use Prim.Native.Nat.{_≤_, _-_}
+use mathlib.Core.Path.{_≡_}
+use lib.ListN.{length}
 use borrow.Author.Needs.{needs}
-use Rattle.test_replay_calls.proofs.calls.refill.Statement.{statement}
-use Rattle.test_replay_calls.proofs.calls.refill.Tie as tie
+use Rattle.test_library.proofs.calls.refill.Statement.{statement}
+use Rattle.test_library.proofs.calls.refill.Tie as tie
 
 abbrev Inv-loop : tie.InvT-loop
-Inv-loop work₀ count i₀ work i = i ≤ count
+Inv-loop w₀ count n i₀ w i = (i ≤ n) × (length w ≡ length w₀)
 
 abbrev μ-loop : tie.MeasureT-loop
-μ-loop work₀ count i₀ work i = count - i
+μ-loop w₀ count n i₀ w i = n - i
 
 pub refill-spec : {M : Type 1} → statement M
 refill-spec =
@@ -15,6 +17,8 @@ refill-spec =
     (tie.spec
     Inv-loop
     μ-loop
+    (λ c κs. search needs)
+    (λ c. search needs)
     (λ c. search needs)
     (λ c. search needs)
     (λ c. search needs)
