@@ -1,11 +1,12 @@
 /*
- * Lumzhasel from C and C++: the replay of a road network, the contraction, the
- * check of sizes, the kind of an event, the reader's call and the check number of
- * answers. Each call is proved, for all inputs, to return and to leave in the lent tables
- * exactly what the definitions say (crates/call_exports/src/lib.rt). Link the archive,
- * which `rt staticlib call_exports` writes to target/staticlib/libcall_exports.a and
- * `bindings/c/install` puts beside this header as liblumzhasel.a; it is for x86-64 Linux and
- * needs only memcpy and memset of the C library.
+ * Lumzhasel from C and C++: the replay of a road network, by the loss of a road and by
+ * the loss of a junction, the contraction, the check of sizes, the kind of an event, the
+ * reader's call and the check number of answers. Each call is proved, for all inputs, to
+ * return and to leave in the lent tables exactly what the definitions say
+ * (crates/call_exports/src/lib.rt). Link the archive, which `rt staticlib call_exports`
+ * writes to target/staticlib/libcall_exports.a and `bindings/c/install` puts beside this
+ * header as liblumzhasel.a; it is for x86-64 Linux and needs only memcpy and memset of the
+ * C library.
  *
  * VERSIONS. What a call is lent gains fields, and replies gain numbers, from one version
  * to the next; their names stay (docs/integrate.md says what each version brought). A
@@ -32,7 +33,11 @@
  * nothing but its tables, so that calls on different tables may run at the same time.
  * It takes stack: a thread with 64 KB is enough for every call. Replays of 4,096 events ran
  * on one with 48 KB for the shares 4, 5, 8 and 12, and a contraction at the full sizes on
- * one with 16 KB. This is measured (bench/stack) and not proved.
+ * one with 16 KB. This is measured (bench/stack; of lum_replay_junctions, that 64 KB are
+ * enough for each share, in the Rust package's tests) and not proved.
+ *
+ * A REPLAY below, where no call is named, is lum_replay or lum_replay_junctions: both take
+ * the same network and list and refuse them alike.
  *
  * TABLES of a replay that are only read have exactly their sizes: a_len, b_len and
  * start_len are m, x_len and y_len are t, whatever stands behind them in memory. A longer
@@ -58,7 +63,7 @@
  *  LUM_LONG        12   0        a table that is only read is longer than its size (replay)
  *
  * The first that holds counts, in this order: 1, 2, 4, 8 in the contraction; 1, 2, 12, 3,
- * 4, 11 in the replay, then the first event that shows 5, 6 or 7, and 5 precedes the others
+ * 4, 11 in a replay, then the first event that shows 5, 6 or 7, and 5 precedes the others
  * at one event. So a table too short and another too long give 2. Places are counted from
  * 0. 9 and 10 are the program's alone. lum_refusal_text(code) says each in words.
  */
@@ -73,7 +78,7 @@ extern "C" {
 #endif
 
 /* The version of the calls below. */
-#define LUM_VERSION 9u
+#define LUM_VERSION 10u
 
 /* The limits. */
 #define LUM_MOST_JUNCTIONS 4096u
@@ -118,7 +123,10 @@ static inline const char *lum_refusal_text(size_t code)
     }
 }
 
-/* The answer bytes: of a query, and of an event that opens or closes. */
+/*
+ * The answer bytes: of a query, and of an event that opens or closes. By the loss of what
+ * 1 and 2 are told apart, each replay says: a road, or a third junction.
+ */
 #define LUM_NOT_JOINED 0u
 #define LUM_JOINED_ONCE 1u
 #define LUM_JOINED_TWICE 2u
@@ -142,12 +150,16 @@ enum lum_kind {
 /* The archive returns a kind as a number of 32 bits. */
 typedef char lum_kind_has_32_bits[sizeof(enum lum_kind) == 4 ? 1 : -1];
 
-/* The name at an event that is no query with answer 1. No road has it. */
+/* The name at an event that is no query with answer 1 (lum_replay). No road has it. */
 #define LUM_NO_NAME 65535u
 
-/* The least length of the replay's work table, for sizes within the limits. */
+/* The least length of lum_replay's work table, for sizes within the limits. */
 #define LUM_REPLAY_WORK(n, m, t) \
     (256u * (size_t)(t) + 32u * (size_t)(n) + 8u * (size_t)(m) + 2048u)
+
+/* The least length of lum_replay_junctions's work table, likewise. */
+#define LUM_REPLAY_JUNCTIONS_WORK(n, m, t) \
+    (1024u * (size_t)(t) + 32u * (size_t)(n) + 8u * (size_t)(m) + 2048u)
 
 /* The least length of the contraction's work table, likewise. */
 #define LUM_CONTRACT_WORK(n, m) (16u * (size_t)(n) + 8u * (size_t)(m) + 512u)
@@ -175,6 +187,12 @@ struct lum_replay_reply {
     size_t kept;    /* the nodes of the small graphs, summed over all windows */
 };
 
+struct lum_replay_junctions_reply {
+    size_t code, place;
+    size_t queries; /* the queries in the list */
+    size_t open;    /* the segments open at its end */
+};
+
 /* What a contraction is lent: each table with the number of its entries. */
 struct lum_contract_lent {
     size_t n, m, k; /* nodes, edges, active entries */
@@ -200,7 +218,7 @@ struct lum_contract_lent {
     size_t work_len;
 };
 
-/* What a replay is lent: each table with the number of its entries. */
+/* What a replay by the loss of a road is lent: each table with the number of its entries. */
 struct lum_replay_lent {
     size_t n, m, t, p; /* junctions, segments, events, the share */
     const uint16_t *a;
@@ -217,6 +235,25 @@ struct lum_replay_lent {
     size_t answers_len;
     uint16_t *names;
     size_t names_len;
+    uint32_t *work;
+    size_t work_len;
+};
+
+/* What a replay by the loss of a junction is lent: the same, but for the names. */
+struct lum_replay_junctions_lent {
+    size_t n, m, t, p; /* junctions, segments, events, the share */
+    const uint16_t *a;
+    size_t a_len;
+    const uint16_t *b;
+    size_t b_len;
+    const uint16_t *start;
+    size_t start_len;
+    const uint16_t *x;
+    size_t x_len;
+    const uint16_t *y;
+    size_t y_len;
+    uint8_t *answers;
+    size_t answers_len;
     uint32_t *work;
     size_t work_len;
 };
@@ -324,6 +361,32 @@ struct lum_contract_reply lum_contract(struct lum_contract_lent lent);
  * name is its smallest segment number, open or not. Refused by 1 to 7, 11 and 12.
  */
 struct lum_replay_reply lum_replay(struct lum_replay_lent lent);
+
+/*
+ * Replays the same list over the same network by the loss of a junction: what a flooded
+ * crossing does, which shuts every road that meets there. Sizes, share, segments, roads and
+ * events are those of lum_replay.
+ *
+ *  table        length                      afterwards, where the call is accepted
+ *  a, b, start  m, and no more              (read)
+ *  x, y         t, and no more              (read)
+ *  answers      t at least                  the first t entries: the answer bytes
+ *  work         1,024t + 32n + 8m + 2,048   0 over that length
+ *               at least
+ *
+ * No other entry changes. The answer byte of a query is LUM_NOT_JOINED, 0, where the
+ * junctions are not joined, LUM_JOINED_ONCE, 1, where they are joined and the loss of some
+ * third junction parts them, LUM_JOINED_TWICE, 2, where they are joined and the loss of no
+ * third junction does; an event that opens or closes has LUM_NO_QUERY, 3. The 0 are those of
+ * lum_replay, as are `queries` and `open`. The share changes nothing.
+ *
+ * The two junctions themselves are not lost. So a junction with itself has 2, and so have
+ * two junctions that an open road joins, where lum_replay has 1 if there is no other way.
+ * A 2 here need not be a 2 of lum_replay, nor one there a 2 here: from one ring to another
+ * that shares a crossing with it lum_replay has 2, and this call 1. Refused by 1 to 7, 11
+ * and 12.
+ */
+struct lum_replay_junctions_reply lum_replay_junctions(struct lum_replay_junctions_lent lent);
 
 #ifdef __cplusplus
 }

@@ -86,7 +86,7 @@ impl fmt::Display for Reason {
     }
 }
 
-/// The call that is refused, by which its words are chosen: a replay has segments and junctions, a contraction edges
+/// The call that is refused, by which its words are chosen: a replay, of either kind, has segments and junctions, a contraction edges
 /// and nodes.
 #[derive(Clone, Copy, Debug, PartialEq, Eq, Hash)]
 #[non_exhaustive]
@@ -99,6 +99,9 @@ pub enum Call {
     Contract,
     /// [`tables::replay`](crate::tables::replay), and [`Network::replay`](crate::Network::replay) over it.
     Replay,
+    /// [`tables::replay_junctions`](crate::tables::replay_junctions), and
+    /// [`Network::replay_junctions`](crate::Network::replay_junctions) over it.
+    ReplayJunctions,
 }
 
 /// A refused call: the reason and its place, which is 0 where the reason names none. No table was changed.
@@ -117,7 +120,7 @@ impl fmt::Display for Refusal {
     fn fmt(&self, f: &mut fmt::Formatter<'_>) -> fmt::Result {
         write!(f, "refused {} at {}: ", self.reason.code(), self.place)?;
         match (self.reason, self.call) {
-            (Reason::End, Call::Replay) => f.write_str("an end of the segment is no junction"),
+            (Reason::End, Call::Replay | Call::ReplayJunctions) => f.write_str("an end of the segment is no junction"),
             (Reason::End, Call::Contract) => f.write_str("an end of the edge is no node"),
             (reason, _) => reason.fmt(f),
         }
@@ -210,10 +213,12 @@ mod tests {
     #[test]
     fn a_contraction_has_edges() {
         let words = |call, reason| refusal(call, reason).to_string();
-        assert_eq!(
-            words(Call::Replay, Reason::End),
-            "refused 4 at 3: an end of the segment is no junction"
-        );
+        for replay in [Call::Replay, Call::ReplayJunctions] {
+            assert_eq!(
+                words(replay, Reason::End),
+                "refused 4 at 3: an end of the segment is no junction"
+            );
+        }
         assert_eq!(
             words(Call::Contract, Reason::End),
             "refused 4 at 3: an end of the edge is no node"

@@ -2,7 +2,8 @@
 //!
 //! One network and one list of openings, closures and queries make a replay. It says of two junctions
 //! at each query: 0 not joined, 1 joined by a way that the loss of one road breaks, 2 joined whichever
-//! single road is lost. The contraction that it rests on is a call of its own.
+//! single road is lost. Its sibling says the same by the loss of a junction, and the contraction that it
+//! rests on is a call of its own.
 //!
 //! ```
 //! use lumzhasel::{Answer, List, Network};
@@ -62,6 +63,27 @@
 //! assert_eq!(replayed.names, [Some(0), Some(1), None]);
 //! let watched: Vec<(usize, usize)> = replayed.watched().collect();
 //! assert_eq!(watched, [(0, 0), (1, 1)]);
+//! # Ok::<(), lumzhasel::Error>(())
+//! ```
+//!
+//! A flooded crossing shuts every road that meets there. [`Network::replay_junctions`] answers the same list by the loss
+//! of a third junction. Two rings that share a crossing are joined whichever single road is lost, and part where the
+//! crossing is, until a road past it opens:
+//!
+//! ```
+//! # use lumzhasel::{Answer, List, Network};
+//! // The rings 0, 1, 2 and 2, 3, 4, and a road from 1 to 3.
+//! let roads = [(0, 1), (1, 2), (2, 0), (2, 3), (3, 4), (4, 2), (1, 3)];
+//! let network = Network::with_segments(5, roads).with_open(0..6);
+//! let mut list = List::new();
+//! list.query(0, 4).open(6).query(0, 4);
+//!
+//! let by_roads: Vec<Answer> = network.replay(&list)?.queries().map(|(_, answer)| answer).collect();
+//! assert_eq!(by_roads, [Answer::JoinedTwice, Answer::JoinedTwice]);
+//! let flooded = network.replay_junctions(&list)?;
+//! let by_junctions: Vec<(usize, Answer)> = flooded.queries().collect();
+//! assert_eq!(by_junctions, [(0, Answer::JoinedOnce), (2, Answer::JoinedTwice)]);
+//! assert_eq!((flooded.totals.queries, flooded.totals.open), (2, 7));
 //! # Ok::<(), lumzhasel::Error>(())
 //! ```
 //!
@@ -127,7 +149,8 @@
 //!
 //! A call takes stack: a thread with 64 KB is enough for every call. Replays of 4,096 events ran on one
 //! with 48 KB for the shares 4, 5, 8 and 12, and a contraction at the full sizes on one with 16 KB. This
-//! is measured (bench/stack) and not proved; a thread of `std::thread` has 2 MB by default.
+//! is measured (bench/stack; of a replay by the loss of a junction, that 64 KB are enough for each share, in
+//! this package's tests) and not proved; a thread of `std::thread` has 2 MB by default.
 #![deny(missing_docs)]
 #![deny(unsafe_code)]
 
@@ -143,8 +166,8 @@ pub mod tables;
 mod values;
 
 pub use error::{Call, Error, Reason, Refusal};
-pub use tables::{Contracted, Kind, Sizes, Totals};
-pub use values::{Answer, Event, List, Network, Replayed, SmallGraph};
+pub use tables::{Contracted, JunctionTotals, Kind, Sizes, Totals};
+pub use values::{Answer, Event, List, Network, Replayed, ReplayedJunctions, SmallGraph};
 
 /// The most junctions of a replay, and nodes of a contraction.
 pub const MOST_JUNCTIONS: usize = 4096;
@@ -156,7 +179,7 @@ pub const MOST_EVENTS: usize = 4096;
 pub const MOST_ENTRIES: usize = 8192;
 
 /// The version of the calls that this package was written for.
-pub const VERSION: u32 = 9;
+pub const VERSION: u32 = 10;
 
 /// The version of the calls in the archive.
 pub fn version() -> u32 {

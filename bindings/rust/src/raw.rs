@@ -1,8 +1,8 @@
 //! The exported calls of the archive, each lent a struct of numbers and tables, a table as a pointer and a length. All unsafe code
-//! stands here. These declarations are those of version 9, [`crate::VERSION`]: whoever changes one changes both.
+//! stands here. These declarations are those of version 10, [`crate::VERSION`]: whoever changes one changes both.
 #![allow(unsafe_code)]
 
-use crate::tables::{ContractTables, ReplayTables};
+use crate::tables::{ContractTables, ReplayJunctionsTables, ReplayTables};
 
 #[repr(C)]
 pub(crate) struct SizesReply {
@@ -36,6 +36,14 @@ pub(crate) struct ReplayReply {
     pub queries: usize,
     pub open: usize,
     pub kept: usize,
+}
+
+#[repr(C)]
+pub(crate) struct ReplayJunctionsReply {
+    pub code: usize,
+    pub place: usize,
+    pub queries: usize,
+    pub open: usize,
 }
 
 /// A table that is only read, as a pointer and a length.
@@ -99,6 +107,21 @@ struct ReplayLent {
     work: Written<u32>,
 }
 
+#[repr(C)]
+struct ReplayJunctionsLent {
+    n: usize,
+    m: usize,
+    t: usize,
+    p: usize,
+    a: Read<u16>,
+    b: Read<u16>,
+    start: Read<u16>,
+    x: Read<u16>,
+    y: Read<u16>,
+    answers: Written<u8>,
+    work: Written<u32>,
+}
+
 extern "C" {
     fn lum_version() -> u32;
 
@@ -113,6 +136,8 @@ extern "C" {
     fn lum_contract(lent: ContractLent) -> ContractReply;
 
     fn lum_replay(lent: ReplayLent) -> ReplayReply;
+
+    fn lum_replay_junctions(lent: ReplayJunctionsLent) -> ReplayJunctionsReply;
 }
 
 pub(crate) fn version() -> u32 {
@@ -181,4 +206,22 @@ pub(crate) fn replay(lent: ReplayTables<'_>) -> ReplayReply {
     };
     // SAFETY: as in `contract`: pointers and lengths of whole slices, those that are written borrowed mutably.
     unsafe { lum_replay(lent) }
+}
+
+pub(crate) fn replay_junctions(lent: ReplayJunctionsTables<'_>) -> ReplayJunctionsReply {
+    let lent = ReplayJunctionsLent {
+        n: lent.n,
+        m: lent.m,
+        t: lent.t,
+        p: lent.p,
+        a: read(lent.a),
+        b: read(lent.b),
+        start: read(lent.start),
+        x: read(lent.x),
+        y: read(lent.y),
+        answers: written(lent.answers),
+        work: written(lent.work),
+    };
+    // SAFETY: as in `contract`: pointers and lengths of whole slices, those that are written borrowed mutably.
+    unsafe { lum_replay_junctions(lent) }
 }

@@ -1,6 +1,6 @@
 //! The calls on tables that the caller lends. Nothing is allocated, and nothing is kept after a call.
 //!
-//! The tables of a replay that are only read have exactly their sizes, m or t: slice a longer one, as `&a[..m]`. All
+//! The tables of a replay, by the loss of a road or of a junction, that are only read have exactly their sizes, m or t: slice a longer one, as `&a[..m]`. All
 //! other tables may be longer than they must be. Entries past the stated sizes are ignored there, and none of them
 //! changes. A refused call changes no table. A later version's call may take a table more: then its
 //! struct here has a field more, and a caller who lends none does not compile.
@@ -42,19 +42,31 @@ pub const CLOSES: u16 = 65534;
 
 /// The answer byte of two junctions that are not joined.
 pub const NOT_JOINED: u8 = 0;
-/// The answer byte of two junctions that are joined and that the loss of some single road parts.
+/// The answer byte of two junctions that are joined and that the loss of some single road parts; in
+/// [`replay_junctions`] the loss of some third junction.
 pub const JOINED_ONCE: u8 = 1;
-/// The answer byte of two junctions that are joined and stay so whichever single road is lost.
+/// The answer byte of two junctions that are joined and stay so whichever single road is lost; in
+/// [`replay_junctions`] whichever third junction is.
 pub const JOINED_TWICE: u8 = 2;
 /// The byte of an event that opens or closes.
 pub const NO_QUERY: u8 = 3;
 
-/// The name at an event that is no query with the answer 1. No road has this name.
+/// The name at an event of a [`replay`] that is no query with the answer 1. No road has this name.
 pub const NO_NAME: u16 = 65535;
 
-/// The least length of the work table of a replay of `t` events over `n` junctions and `m` segments.
+/// The least length of the work table of a [`replay`] of `t` events over `n` junctions and `m` segments.
 pub const fn replay_work(n: usize, m: usize, t: usize) -> usize {
-    t.saturating_mul(256)
+    work_of(n, m, t.saturating_mul(256))
+}
+
+/// The least length of the work table of a replay by the loss of a junction, [`replay_junctions`], likewise.
+pub const fn replay_junctions_work(n: usize, m: usize, t: usize) -> usize {
+    work_of(n, m, t.saturating_mul(1024))
+}
+
+// What the two have in common, and what the events take.
+const fn work_of(n: usize, m: usize, events: usize) -> usize {
+    events
         .saturating_add(n.saturating_mul(32))
         .saturating_add(m.saturating_mul(8))
         .saturating_add(2048)
@@ -108,7 +120,7 @@ pub struct Sizes {
     pub k: usize,
 }
 
-/// What an accepted replay returns.
+/// What an accepted [`replay`] returns.
 #[derive(Clone, Copy, Debug, PartialEq, Eq, Hash)]
 #[non_exhaustive]
 pub struct Totals {
@@ -118,6 +130,16 @@ pub struct Totals {
     pub open: usize,
     /// The nodes of the small graphs, summed over all windows.
     pub kept: usize,
+}
+
+/// What an accepted replay by the loss of a junction, [`replay_junctions`], returns.
+#[derive(Clone, Copy, Debug, PartialEq, Eq, Hash)]
+#[non_exhaustive]
+pub struct JunctionTotals {
+    /// The queries in the list.
+    pub queries: usize,
+    /// The segments that are open at its end.
+    pub open: usize,
 }
 
 /// What an accepted contraction returns.
@@ -130,7 +152,7 @@ pub struct Contracted {
     pub edges: usize,
 }
 
-/// What a replay is lent: `t` events over `n` junctions and `m` segments, with the share `p`, 4 to 12. Segment s
+/// What a [`replay`] is lent: `t` events over `n` junctions and `m` segments, with the share `p`, 4 to 12. Segment s
 /// joins `a[s]` and `b[s]`, both ways; all segments with the same two ends, in either order, are one road, which is
 /// open while any of them is. Event i is a query of the junctions `x[i]` and `y[i]`, or opens ([`OPENS`] in `x[i]`) or
 /// closes ([`CLOSES`]) the segment `y[i]`.
@@ -160,6 +182,34 @@ pub struct ReplayTables<'a> {
     /// open road whose loss parts the two junctions, else [`NO_NAME`]. A road's name is its smallest segment, open or not.
     pub names: &'a mut [u16],
     /// At least [`replay_work`]. An accepted replay leaves 0 over that length.
+    pub work: &'a mut [u32],
+}
+
+/// What a replay by the loss of a junction, [`replay_junctions`], is lent: a [`ReplayTables`] without names, and with a
+/// longer work table. The network and the events are the same.
+#[derive(Debug)]
+pub struct ReplayJunctionsTables<'a> {
+    /// The junctions.
+    pub n: usize,
+    /// The segments.
+    pub m: usize,
+    /// The events.
+    pub t: usize,
+    /// The share of a window's first part, in sixteenths. It changes no answer and no number.
+    pub p: usize,
+    /// One end of each segment, exactly m.
+    pub a: &'a [u16],
+    /// The other end of each segment, exactly m.
+    pub b: &'a [u16],
+    /// For each segment 1 where it is open at the start and 0 where it is closed, exactly m.
+    pub start: &'a [u16],
+    /// The first number of each event, exactly t.
+    pub x: &'a [u16],
+    /// The second number of each event, exactly t.
+    pub y: &'a [u16],
+    /// At least t. An accepted replay fills the first t: [`NOT_JOINED`], [`JOINED_ONCE`], [`JOINED_TWICE`] or [`NO_QUERY`].
+    pub answers: &'a mut [u8],
+    /// At least [`replay_junctions_work`]. An accepted replay leaves 0 over that length.
     pub work: &'a mut [u32],
 }
 
@@ -334,7 +384,7 @@ pub fn contract(lent: ContractTables<'_>) -> Result<Contracted, Error> {
     reply(Call::Contract, r.code, r.place, Contracted { nodes, edges })
 }
 
-/// Replays a list. What is not said to be written does not change.
+/// Replays a list by the loss of a road. What is not said to be written does not change.
 ///
 /// # Errors
 ///
@@ -345,6 +395,44 @@ pub fn replay(lent: ReplayTables<'_>) -> Result<Totals, Error> {
     let r = raw::replay(lent);
     let (queries, open, kept) = (r.queries, r.open, r.kept);
     reply(Call::Replay, r.code, r.place, Totals { queries, open, kept })
+}
+
+/// Replays a list by the loss of a junction, as a flooded crossing shuts every road that meets there. An answer is
+/// [`NOT_JOINED`] where [`replay`] has it, [`JOINED_ONCE`] where the two are joined and the loss of some third junction
+/// parts them, and else [`JOINED_TWICE`]: so also of a junction with itself, and of two junctions that an open road
+/// joins. What is not said to be written does not change.
+///
+/// ```
+/// use lumzhasel::tables::{replay_junctions, replay_junctions_work, ReplayJunctionsTables};
+///
+/// // The row 0, 1, 2: its ends hang on junction 1, and two neighbours on no third.
+/// let mut answers = [0; 2];
+/// let totals = replay_junctions(ReplayJunctionsTables {
+///     n: 3,
+///     m: 2,
+///     t: 2,
+///     p: 8,
+///     a: &[0, 1],
+///     b: &[1, 2],
+///     start: &[1, 1],
+///     x: &[0, 0],
+///     y: &[2, 1],
+///     answers: &mut answers,
+///     work: &mut vec![0; replay_junctions_work(3, 2, 2)],
+/// })?;
+/// assert_eq!((totals.queries, totals.open), (2, 2));
+/// assert_eq!(answers, [1, 2]);
+/// # Ok::<(), lumzhasel::Error>(())
+/// ```
+///
+/// # Errors
+///
+/// Those of [`replay`], in its order.
+pub fn replay_junctions(lent: ReplayJunctionsTables<'_>) -> Result<JunctionTotals, Error> {
+    check_version()?;
+    let r = raw::replay_junctions(lent);
+    let (queries, open) = (r.queries, r.open);
+    reply(Call::ReplayJunctions, r.code, r.place, JunctionTotals { queries, open })
 }
 
 #[cfg(test)]

@@ -1,7 +1,7 @@
 //! Networks, lists and results as values. Each call makes the tables that it lends.
 
 use crate::error::{Call, Error};
-use crate::tables::{self, ContractTables, ReplayTables, Totals, CLOSES, OPENS};
+use crate::tables::{self, ContractTables, JunctionTotals, ReplayJunctionsTables, ReplayTables, Totals, CLOSES, OPENS};
 
 /// Junctions and the segments between them; or nodes and edges, for a contraction. Both are numbered from 0.
 ///
@@ -84,7 +84,15 @@ impl Network {
         self.segments.iter().map(|&(u, v)| (entry(u), entry(v))).unzip()
     }
 
-    /// Replays a list over the network.
+    // The entries of the tables that a replay only reads.
+    fn entries(&self, list: &List) -> Entries {
+        let (a, b) = self.ends();
+        let start = self.start.iter().map(|&open| open.into()).collect();
+        let (x, y) = list.events.iter().map(|e| e.entries()).unzip();
+        Entries { a, b, start, x, y }
+    }
+
+    /// Replays a list over the network, by the loss of a road.
     ///
     /// # Errors
     ///
@@ -96,9 +104,7 @@ impl Network {
         let (n, m, t) = (self.junctions, self.segments.len(), list.events.len());
         // Before any table is made, which must have a length within reason.
         tables::sizes_of(Call::Replay, n, m, t, 0)?;
-        let (a, b) = self.ends();
-        let start: Vec<u16> = self.start.iter().map(|&open| open.into()).collect();
-        let (x, y): (Vec<u16>, Vec<u16>) = list.events.iter().map(|e| e.entries()).unzip();
+        let Entries { a, b, start, x, y } = self.entries(list);
         let (mut answers, mut names) = (vec![0; t], vec![0; t]);
         let totals = tables::replay(ReplayTables {
             n,
@@ -114,13 +120,57 @@ impl Network {
             names: &mut names,
             work: &mut vec![0; tables::replay_work(n, m, t)],
         })?;
-        let answers = tables::answers(&answers, t)?.iter().map(|&b| Answer::from_byte(b));
         let road = |name: u16| (name != tables::NO_NAME).then_some(name.into());
         let names = names.into_iter().map(road);
         Ok(Replayed {
             totals,
-            answers: answers.collect(),
+            answers: answers_of(&answers)?,
             names: names.collect(),
+        })
+    }
+
+    /// Replays a list over the network, by the loss of a junction: a flooded crossing, which shuts every road that meets
+    /// there. An answer is [`JoinedOnce`](Answer::JoinedOnce) where the loss of some third junction parts the two. A
+    /// junction with itself, and two junctions that an open road joins, are [`JoinedTwice`](Answer::JoinedTwice).
+    ///
+    /// ```
+    /// # use lumzhasel::{Answer, List, Network};
+    /// // The row 0, 1, 2: its ends hang on junction 1, and two neighbours on no third, though on the road between them.
+    /// let row = Network::with_segments(3, [(0, 1), (1, 2)]).with_open([0, 1]);
+    /// let mut list = List::new();
+    /// list.query(0, 2).query(0, 1);
+    ///
+    /// let (once, twice) = (Some(Answer::JoinedOnce), Some(Answer::JoinedTwice));
+    /// assert_eq!(row.replay_junctions(&list)?.answers, [once, twice]);
+    /// assert_eq!(row.replay(&list)?.answers, [once, once]);
+    /// # Ok::<(), lumzhasel::Error>(())
+    /// ```
+    ///
+    /// # Errors
+    ///
+    /// Those of [`replay`](Network::replay), in its order.
+    pub fn replay_junctions(&self, list: &List) -> Result<ReplayedJunctions, Error> {
+        let (n, m, t) = (self.junctions, self.segments.len(), list.events.len());
+        // Before any table is made, which must have a length within reason.
+        tables::sizes_of(Call::ReplayJunctions, n, m, t, 0)?;
+        let Entries { a, b, start, x, y } = self.entries(list);
+        let mut answers = vec![0; t];
+        let totals = tables::replay_junctions(ReplayJunctionsTables {
+            n,
+            m,
+            t,
+            p: list.share,
+            a: &a,
+            b: &b,
+            start: &start,
+            x: &x,
+            y: &y,
+            answers: &mut answers,
+            work: &mut vec![0; tables::replay_junctions_work(n, m, t)],
+        })?;
+        Ok(ReplayedJunctions {
+            totals,
+            answers: answers_of(&answers)?,
         })
     }
 
@@ -190,6 +240,33 @@ impl Network {
     }
 }
 
+// The tables that a replay only reads, each with just as many entries as its size says.
+struct Entries {
+    a: Vec<u16>,
+    b: Vec<u16>,
+    start: Vec<u16>,
+    x: Vec<u16>,
+    y: Vec<u16>,
+}
+
+// The answers by the bytes of a table that a replay has filled.
+fn answers_of(table: &[u8]) -> Result<Vec<Option<Answer>>, Error> {
+    let bytes = tables::answers(table, table.len())?;
+    Ok(bytes.iter().map(|&b| Answer::from_byte(b)).collect())
+}
+
+// Each query's event and answer, in order.
+fn queries_of(answers: &[Option<Answer>]) -> impl Iterator<Item = (usize, Answer)> + '_ {
+    let each = answers.iter().enumerate();
+    each.filter_map(|(i, answer)| answer.map(|a| (i, a)))
+}
+
+// The check number of the first answers, by their bytes.
+fn check_number_of(answers: &[Option<Answer>], events: usize) -> Result<u32, Error> {
+    let bytes: Vec<u8> = answers.iter().map(|&answer| Answer::to_byte(answer)).collect();
+    tables::check_number(&bytes, events)
+}
+
 // A number as a table's entry. One that does not fit is far past every limit, as is the entry that stands for it, so that
 // the call refuses it in the same words; and no entry is one that opens or closes.
 fn entry(v: usize) -> u16 {
@@ -242,7 +319,8 @@ impl List {
         List::from(Vec::new())
     }
 
-    /// The same events with another share, 4 to 12. It changes `kept` and the time that a replay takes, and no answer.
+    /// The same events with another share, 4 to 12. It changes `kept` and the time that a replay takes, and no answer;
+    /// a replay by the loss of a junction has no `kept`.
     pub fn with_share(self, share: usize) -> List {
         List { share, ..self }
     }
@@ -304,15 +382,16 @@ impl Extend<Event> for List {
     }
 }
 
-/// The reply to a query.
+/// The reply to a query: by the loss of a road, of a [`Network::replay`], or by the loss of a junction, of a
+/// [`Network::replay_junctions`].
 #[derive(Clone, Copy, Debug, PartialEq, Eq, Hash)]
 #[non_exhaustive]
 pub enum Answer {
     /// 0: no route of open roads runs between the junctions.
     NotJoined,
-    /// 1: they are joined, and the loss of some single road parts them.
+    /// 1: they are joined, and the loss of some single road, or of some third junction, parts them.
     JoinedOnce,
-    /// 2: they are joined, and stay joined whichever single road is lost.
+    /// 2: they are joined, and stay joined whichever single road, or third junction, is lost.
     JoinedTwice,
     /// A byte that this package has no name for.
     Other(u8),
@@ -348,7 +427,7 @@ impl Answer {
     }
 }
 
-/// The result of a replay.
+/// The result of a replay by the loss of a road.
 #[derive(Clone, Debug, PartialEq, Eq, Hash)]
 #[non_exhaustive]
 pub struct Replayed {
@@ -365,8 +444,7 @@ pub struct Replayed {
 impl Replayed {
     /// Each query's event and answer, in order.
     pub fn queries(&self) -> impl Iterator<Item = (usize, Answer)> + '_ {
-        let each = self.answers.iter().enumerate();
-        each.filter_map(|(i, answer)| answer.map(|a| (i, a)))
+        queries_of(&self.answers)
     }
 
     /// Each query with the answer [`JoinedOnce`](Answer::JoinedOnce), in order: its event, and the road to watch by the
@@ -384,8 +462,35 @@ impl Replayed {
     /// [`Reason::Sizes`](crate::Reason::Sizes) above 4,096 events, then [`Reason::Short`](crate::Reason::Short) where
     /// there are fewer answers.
     pub fn check_number(&self, events: usize) -> Result<u32, Error> {
-        let bytes: Vec<u8> = self.answers.iter().map(|&answer| Answer::to_byte(answer)).collect();
-        tables::check_number(&bytes, events)
+        check_number_of(&self.answers, events)
+    }
+}
+
+/// The result of a replay by the loss of a junction. It names nothing to watch, and keeps no count of small graphs.
+#[derive(Clone, Debug, PartialEq, Eq, Hash)]
+#[non_exhaustive]
+pub struct ReplayedJunctions {
+    /// The numbers of the whole list.
+    pub totals: JunctionTotals,
+    /// For each event its answer; none where it opens or closes.
+    pub answers: Vec<Option<Answer>>,
+}
+
+impl ReplayedJunctions {
+    /// Each query's event and answer, in order.
+    pub fn queries(&self) -> impl Iterator<Item = (usize, Answer)> + '_ {
+        queries_of(&self.answers)
+    }
+
+    /// The check number of the first `events` answers, by their bytes, to compare them by voice; see
+    /// [`tables::check_number`].
+    ///
+    /// # Errors
+    ///
+    /// [`Reason::Sizes`](crate::Reason::Sizes) above 4,096 events, then [`Reason::Short`](crate::Reason::Short) where
+    /// there are fewer answers.
+    pub fn check_number(&self, events: usize) -> Result<u32, Error> {
+        check_number_of(&self.answers, events)
     }
 }
 

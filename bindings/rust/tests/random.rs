@@ -2,7 +2,7 @@
 
 mod common;
 
-use common::{list, random_graph, random_list, Edge, Numbers, Removals};
+use common::{damage, list, random_graph, random_list, Edge, Numbers, Removals};
 use lumzhasel::tables::OPENS;
 
 #[test]
@@ -107,41 +107,6 @@ fn damaged_lists() {
     }
     for code in (0..8).chain([11, 12]) {
         assert!(seen[code] > 0, "a reply was never seen: {seen:?}");
-    }
-}
-
-// Changes a size, the share, a length or an entry.
-fn damage(l: &mut common::List, r: &mut Numbers) {
-    let value = match r.below(5) {
-        0 => l.n as u16,
-        1 => l.m as u16,
-        2 => 65534,
-        3 => 65535,
-        _ => r.below(8) as u16,
-    };
-    let place = r.below(12);
-    match r.below(14) {
-        0 => l.p = r.below(16),
-        1 => l.n = r.below(8),
-        2 => l.m = r.below(8),
-        3 => l.t = r.below(12),
-        4 => l.n = 4090 + r.below(14),
-        5 => l.a.truncate(l.a.len().saturating_sub(1 + r.below(3))),
-        6 => l.answers.truncate(l.answers.len().saturating_sub(1 + r.below(3))),
-        7 => l.start.truncate(l.start.len().saturating_sub(1 + r.below(3))),
-        8 => l.names.truncate(l.names.len().saturating_sub(1 + r.below(3))),
-        9 => l.y.push(value),
-        k => {
-            let table = match k {
-                10 => &mut l.a,
-                11 => &mut l.start,
-                12 => &mut l.x,
-                _ => &mut l.y,
-            };
-            if place < table.len() {
-                table[place] = value;
-            }
-        }
     }
 }
 

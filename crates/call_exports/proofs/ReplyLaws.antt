@@ -1,4 +1,5 @@
--- What a struct says is what the reply does that it was written from: of the contraction, then of the replay, the accepted reply and the refusal. Those of the
+-- What a struct says is what the reply does that it was written from: of the contraction, of the replay, then of the replay by the
+-- loss of a junction, the accepted reply and the refusal. Those of the
 -- small calls, and that a refusal's number is not 0, stand in call_replies/proofs/ReplyLaws.
 -- Assumes nothing.
 use Prim.Native.Nat.{ℕ}
@@ -16,8 +17,13 @@ use Rattle.theory_timeline.specs.Replay as timeline
 use Rattle.theory_timeline.specs.declared.ReplayReply.{ReplayReply}
 use Rattle.theory_timeline.specs.declared.ReplayReply.the-variants as replays
 use Rattle.theory_timeline.specs.declared.Totals.{Totals}
+use Rattle.theory_junction_timeline.specs.JunctionCall as replaying-junctions
+use Rattle.theory_junction_timeline.specs.JunctionReplay as junctions
+use Rattle.theory_junction_timeline.specs.declared.JunctionReply.{JunctionReply}
+use Rattle.theory_junction_timeline.specs.declared.JunctionReply.the-variants as junction-replays
+use Rattle.theory_junction_timeline.specs.declared.JunctionTotals.{JunctionTotals}
 use Rattle.call_replies.proofs.ReplyLaws.{refusal-code}
-use Rattle.call_exports.specs.Exports.{contractedOf, replayedOf}
+use Rattle.call_exports.specs.Exports.{contractedOf, replayedJunctionsOf, replayedOf}
 
 -- ---- the contraction
 -- its outcome is accepted just where the number is 0
@@ -57,3 +63,24 @@ module _ (l : timeline.Lent) (p : ℕ) (answers names work : List ℕ) {r : Repl
       ap (λ (r : ReplayReply). replaying.outcome r answers names work) (sym g) ∙ e in
       ap (λ (b : Bool). record { accepted = b; code = c; place = i; queries = 0; opened = 0; kept = 0; answers = answers; names = names; work = work })
       (refusal-code (λ (o : timeline.Outcome). o .accepted) (λ (o : timeline.Outcome). o .code) says (replay-told l p)) ∙ says
+
+-- ---- the replay by the loss of a junction
+-- likewise
+junctions-told : (l : timeline.Lent) (p : ℕ) → junctions.replayJunctions l p .accepted ≡ eqb (junctions.replayJunctions l p .code) 0
+unfolding junctions.replayJunctions junctions.junctionDone junctions.junctionRefused
+junctions-told l p =
+    onBool (eqb (junctions.junctionFault l p .0) 0) (λ h. rw (junctions.replayJunctions, h) refl) (λ h. rw (junctions.replayJunctions, h) (sym h))
+
+module _ (l : timeline.Lent) (p : ℕ) (answers work : List ℕ) {r : JunctionReply}
+    (e : replaying-junctions.junctionOutcome r answers work ≡ junctions.replayJunctions l p) where
+  pub junctions-done : {s : JunctionTotals} → r ≡ junction-replays.Done s →
+      replayedJunctionsOf record { code = 0; place = 0; queries = s .queries; «open» = s .«open» } answers work ≡ junctions.replayJunctions l p
+  junctions-done g = ap (λ (r : JunctionReply). replaying-junctions.junctionOutcome r answers work) (sym g) ∙ e
+
+  pub junctions-refused : {c i : ℕ} → r ≡ junction-replays.Refused c i →
+      replayedJunctionsOf record { code = c; place = i; queries = 0; «open» = 0 } answers work ≡ junctions.replayJunctions l p
+  junctions-refused {c} {i} g =
+      let says : replaying-junctions.junctionOutcome (junction-replays.Refused c i) answers work ≡ junctions.replayJunctions l p =
+      ap (λ (r : JunctionReply). replaying-junctions.junctionOutcome r answers work) (sym g) ∙ e in
+      ap (λ (b : Bool). record { accepted = b; code = c; place = i; queries = 0; opened = 0; answers = answers; work = work })
+      (refusal-code (λ (o : junctions.JunctionOutcome). o .accepted) (λ (o : junctions.JunctionOutcome). o .code) says (junctions-told l p)) ∙ says

@@ -8,10 +8,14 @@ use denote.Ref.{RefT, now}
 use Rattle.theory_contraction.specs.Contraction as contraction
 use Rattle.theory_timeline.specs.Replay as timeline
 use Rattle.theory_timeline.specs.Call as replaying
+use Rattle.theory_junction_timeline.specs.JunctionReplay as junctions
+use Rattle.theory_junction_timeline.specs.JunctionCall as replaying-junctions
 use Rattle.call_exports.specs.declared.LumContractLent.{LumContractLent}
 use Rattle.call_exports.specs.declared.LumContractReply.{LumContractReply}
 use Rattle.call_exports.specs.declared.LumReplayLent.{LumReplayLent}
 use Rattle.call_exports.specs.declared.LumReplayReply.{LumReplayReply}
+use Rattle.call_exports.specs.declared.LumReplayJunctionsLent.{LumReplayJunctionsLent}
+use Rattle.call_exports.specs.declared.LumReplayJunctionsReply.{LumReplayJunctionsReply}
 
 -- with the tables that may be written as they are afterwards
 abbrev pub contractedOf : LumContractReply → List ℕ → List ℕ → List ℕ → List ℕ → List ℕ → List ℕ → contraction.Outcome
@@ -44,6 +48,18 @@ replayedOf r answers names work =
       work = work;
     }
 
+abbrev pub replayedJunctionsOf : LumReplayJunctionsReply → List ℕ → List ℕ → junctions.JunctionOutcome
+replayedJunctionsOf r answers work =
+    record {
+      accepted = eqb (r .code) 0;
+      code = r .code;
+      place = r .place;
+      queries = r .queries;
+      opened = r .«open»;
+      answers = answers;
+      work = work;
+    }
+
 -- ---- what a struct lends
 abbrev pub contractLent : LumContractLent → contraction.Lent
 contractLent l =
@@ -53,6 +69,10 @@ contractLent l =
 abbrev pub replayLent : LumReplayLent → timeline.Lent
 replayLent l =
     replaying.lent (l .n) (l .m) (l .t) (now (l .a)) (now (l .b)) (now (l .start)) (now (l .x)) (now (l .y)) (now (l .answers)) (now (l .names)) (now (l .work))
+
+abbrev pub replayJunctionsLent : LumReplayJunctionsLent → timeline.Lent
+replayJunctionsLent l =
+    replaying-junctions.junctionLent (l .n) (l .m) (l .t) (now (l .a)) (now (l .b)) (now (l .start)) (now (l .x)) (now (l .y)) (now (l .answers)) (now (l .work))
 
 -- ---- the fields of a struct after the call, in their order, of which those count that may be written
 abbrev Table : Type 0
@@ -70,3 +90,9 @@ ReplayFields = ℕ × (ℕ × (ℕ × (ℕ × (Table × (Table × (Table × (Tab
 
 abbrev pub replayLeft : LumReplayReply → ReplayFields → timeline.Outcome
 replayLeft r (n, (m, (t, (p, (a, (b, (start, (x, (y, (answers, (names, (work, end)))))))))))) = replayedOf r (now answers) (now names) (now work)
+
+abbrev pub ReplayJunctionsFields : Type 0
+ReplayJunctionsFields = ℕ × (ℕ × (ℕ × (ℕ × (Table × (Table × (Table × (Table × (Table × (Table × (Table × Unit {0}))))))))))
+
+abbrev pub replayJunctionsLeft : LumReplayJunctionsReply → ReplayJunctionsFields → junctions.JunctionOutcome
+replayJunctionsLeft r (n, (m, (t, (p, (a, (b, (start, (x, (y, (answers, (work, end))))))))))) = replayedJunctionsOf r (now answers) (now work)

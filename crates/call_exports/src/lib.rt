@@ -3,6 +3,7 @@
 use call_contract::ContractReply;
 use call_replies::LumCheckNumberReply;
 use call_replies::LumSizesReply;
+use theory_junction_timeline::JunctionReply;
 use theory_timeline::ReplayReply;
 ghost use mathlib.Core.Path.{_≡_};
 ghost use lib.ListN.{length, take};
@@ -14,9 +15,11 @@ ghost use Rattle.call_kinds.specs.Kinds.{kindNumber, kindOf};
 ghost use Rattle.call_sizes.specs.Sizes.{checkSizes};
 ghost use Rattle.theory_timeline.specs.Call as replaying;
 ghost use Rattle.theory_timeline.specs.Replay.{replay};
+ghost use Rattle.theory_junction_timeline.specs.JunctionCall.{junctionLent};
+ghost use Rattle.theory_junction_timeline.specs.JunctionReplay.{replayJunctions};
 ghost use Rattle.call_replies.specs.Replies.{sizesOf, checkNumberOf};
 ghost use Rattle.call_replies.specs.Version.{version};
-ghost use Rattle.call_exports.specs.Exports.{contractedOf, replayedOf, contractLent, contractLeft, replayLent, replayLeft};
+ghost use Rattle.call_exports.specs.Exports.{contractedOf, replayedOf, replayedJunctionsOf, contractLent, contractLeft, replayLent, replayLeft, replayJunctionsLent, replayJunctionsLeft};
 
 // What a contraction is lent.
 #[repr(C)]
@@ -53,6 +56,22 @@ pub struct LumReplayLent<'a> {
     pub work: &'a mut [u32],
 }
 
+// What a replay by the loss of a junction is lent: a replay's tables, but for the names.
+#[repr(C)]
+pub struct LumReplayJunctionsLent<'a> {
+    pub n: usize,
+    pub m: usize,
+    pub t: usize,
+    pub p: usize,
+    pub a: &'a [u16],
+    pub b: &'a [u16],
+    pub start: &'a [u16],
+    pub x: &'a [u16],
+    pub y: &'a [u16],
+    pub answers: &'a mut [u8],
+    pub work: &'a mut [u32],
+}
+
 // In each reply the code is 0 where the call is accepted, else the refusal's number; then place is its place and the other numbers are 0.
 #[repr(C)]
 pub struct LumContractReply {
@@ -69,6 +88,14 @@ pub struct LumReplayReply {
     pub queries: usize,
     pub open: usize,
     pub kept: usize,
+}
+
+#[repr(C)]
+pub struct LumReplayJunctionsReply {
+    pub code: usize,
+    pub place: usize,
+    pub queries: usize,
+    pub open: usize,
 }
 
 // The version of the calls in this archive, so that a caller who was built for others can tell.
@@ -249,6 +276,79 @@ pub extern "C" fn lum_replay<'a>(lent: LumReplayLent<'a>) -> LumReplayReply
         lent.y,
         lent.answers,
         lent.names,
+        lent.work,
+    )
+}
+
+// The replay by the loss of a junction on the fields of the struct that it is lent, in their order.
+fn replay_junctions_tables<'a>(
+    n: usize,
+    m: usize,
+    t: usize,
+    p: usize,
+    a: &'a [u16],
+    b: &'a [u16],
+    start: &'a [u16],
+    x: &'a [u16],
+    y: &'a [u16],
+    answers: &'a mut [u8],
+    work: &'a mut [u32],
+) -> LumReplayJunctionsReply
+    ensures { λ r. ⌜ replayedJunctionsOf r (now (answers .exit)) (now (work .exit))
+        ≡ replayJunctions (junctionLent n m t (now (a .entry)) (now (b .entry)) (now (start .entry)) (now (x .entry)) (now (y .entry))
+        (now (answers .entry)) (now (work .entry))) p ⌝ }
+{
+    let reply = call_replay_junctions::replay_junctions(
+        n,
+        m,
+        t,
+        p,
+        a,
+        b,
+        start,
+        x,
+        y,
+        answers,
+        work,
+    );
+    match reply {
+        JunctionReply::Done(s) => {
+            return LumReplayJunctionsReply {
+                code: 0,
+                place: 0,
+                queries: s.queries,
+                open: s.open,
+            };
+        }
+        JunctionReply::Refused(code, place) => {
+            return LumReplayJunctionsReply {
+                code: code,
+                place: place,
+                queries: 0,
+                open: 0,
+            };
+        }
+    }
+}
+
+// The replay by the loss of a junction.
+#[no_mangle]
+pub extern "C" fn lum_replay_junctions<'a>(
+    lent: LumReplayJunctionsLent<'a>,
+) -> LumReplayJunctionsReply
+    ensures { λ r. ⌜ replayJunctionsLeft r (lent .exit) ≡ replayJunctions (replayJunctionsLent (lent .entry)) (lent .entry .p) ⌝ }
+{
+    replay_junctions_tables(
+        lent.n,
+        lent.m,
+        lent.t,
+        lent.p,
+        lent.a,
+        lent.b,
+        lent.start,
+        lent.x,
+        lent.y,
+        lent.answers,
         lent.work,
     )
 }

@@ -34,7 +34,7 @@ pub struct LumCheckNumberReply {
 pub fn version() -> u32
     ensures { λ r. ⌜ r ≡ version ⌝ }
 {
-    9
+    10
 }
 
 // Internal: the kind of an event, by its number.

@@ -4,7 +4,8 @@
 
 pub mod vectors;
 
-use lumzhasel::tables::{contract, replay, ContractTables, ReplayTables, CLOSES, NO_NAME, OPENS};
+use lumzhasel::tables::{contract, replay, replay_junctions, CLOSES, NO_NAME, OPENS};
+use lumzhasel::tables::{ContractTables, ReplayJunctionsTables, ReplayTables};
 use lumzhasel::Error;
 
 pub type Edge = (usize, usize);
@@ -76,6 +77,25 @@ impl Removals {
     pub fn least_name(&self, names: &[u16], u: usize, v: usize) -> Option<u16> {
         let parting = (0..self.without.len()).filter(|&e| self.without[e][u] != self.without[e][v]);
         parting.map(|e| names[e]).min()
+    }
+}
+
+/// The answer by the loss of a junction: each third one is taken away, with every edge that meets it, by its own search.
+pub fn answer_by_junctions(n: usize, edges: &[Edge], u: usize, v: usize) -> u8 {
+    let joined = |edges: &[Edge]| {
+        let least = components(n, edges);
+        least[u] == least[v]
+    };
+    if !joined(edges) {
+        return 0;
+    }
+    let parts = |c: usize| {
+        let left = edges.iter().copied().filter(|&(a, b)| a != c && b != c);
+        !joined(&left.collect::<Vec<Edge>>())
+    };
+    match (0..n).any(|c| c != u && c != v && parts(c)) {
+        true => 1,
+        false => 2,
     }
 }
 
@@ -172,7 +192,7 @@ pub fn refusal(e: Error) -> (usize, usize) {
     (refused.reason.code(), refused.place)
 }
 
-/// What a replay is lent.
+/// What a replay is lent. One by the loss of a junction is lent no names.
 #[derive(Clone, Debug, PartialEq)]
 pub struct List {
     pub n: usize,
@@ -198,6 +218,14 @@ pub struct Replayed {
     pub work: Vec<u32>,
 }
 
+/// The reply and the written tables of a replay by the loss of a junction: two numbers, or a refusal's number and place.
+#[derive(Debug, PartialEq)]
+pub struct ReplayedJunctions {
+    pub reply: Result<(usize, usize), (usize, usize)>,
+    pub answers: Vec<u8>,
+    pub work: Vec<u32>,
+}
+
 fn windows(first: usize, n: usize, p: usize, all: &mut Vec<(usize, usize)>) {
     all.push((first, n));
     if n >= 2 {
@@ -218,6 +246,17 @@ impl List {
         256 * self.t + 32 * self.n + 8 * self.m + 2048
     }
 
+    pub fn required_by_junctions(&self) -> usize {
+        1024 * self.t + 32 * self.n + 8 * self.m + 2048
+    }
+
+    /// The same list for a replay by the loss of a junction: with a work table of the least length, and no names.
+    pub fn for_junctions(self) -> List {
+        let work = vec![0; self.required_by_junctions()];
+        let names = Vec::new();
+        List { work, names, ..self }
+    }
+
     /// The set of open segments before event i.
     fn open_before(&self, i: usize) -> Vec<bool> {
         let mut open: Vec<bool> = self.start[..self.m].iter().map(|e| *e == 1).collect();
@@ -232,12 +271,21 @@ impl List {
     }
 
     fn fault(&self) -> Option<(usize, usize)> {
+        self.fault_with(self.names.len() < self.t || self.work.len() < self.required())
+    }
+
+    fn fault_by_junctions(&self) -> Option<(usize, usize)> {
+        self.fault_with(self.work.len() < self.required_by_junctions())
+    }
+
+    // The first fault, where of the tables that are written but the answers it is said whether one is too short.
+    fn fault_with(&self, short_written: bool) -> Option<(usize, usize)> {
         if self.n > 4096 || self.m > 8192 || self.t > 4096 {
             return Some((1, 0));
         }
         let short_network = [&self.a, &self.b, &self.start].iter().any(|table| table.len() < self.m);
         let short_list = self.x.len() < self.t || self.y.len() < self.t || self.answers.len() < self.t;
-        if short_network || short_list || self.names.len() < self.t || self.work.len() < self.required() {
+        if short_network || short_list || short_written {
             return Some((2, 0));
         }
         let long_network = [&self.a, &self.b, &self.start].iter().any(|table| table.len() > self.m);
@@ -333,12 +381,18 @@ impl List {
         }
     }
 
+    // The queries and the segments that are open at the end, of a list without a fault.
+    fn counts(&self) -> (usize, usize) {
+        let open = self.open_before(self.t).iter().filter(|o| **o).count();
+        let queries = self.x[..self.t].iter().filter(|&&x| x != OPENS && x != CLOSES).count();
+        (queries, open)
+    }
+
     pub fn slow(&self) -> Replayed {
         if let Some(refusal) = self.fault() {
             return self.untouched(Err(refusal));
         }
-        let open = self.open_before(self.t).iter().filter(|o| **o).count();
-        let queries = self.x[..self.t].iter().filter(|&&x| x != OPENS && x != CLOSES).count();
+        let (queries, open) = self.counts();
         let mut done = self.untouched(Ok((queries, open, self.kept())));
         for i in 0..self.t {
             done.answers[i] = 3;
@@ -380,6 +434,65 @@ impl List {
         assert_eq!(&lent, self, "a table that is only read was written");
         done.reply = r.map(|t| (t.queries, t.open, t.kept)).map_err(refusal);
         done
+    }
+
+    pub fn slow_junctions(&self) -> ReplayedJunctions {
+        let mut done = ReplayedJunctions {
+            reply: Err((0, 0)),
+            answers: self.answers.clone(),
+            work: self.work.clone(),
+        };
+        if let Some(refusal) = self.fault_by_junctions() {
+            done.reply = Err(refusal);
+            return done;
+        }
+        done.reply = Ok(self.counts());
+        for i in 0..self.t {
+            done.answers[i] = 3;
+            if self.x[i] != OPENS && self.x[i] != CLOSES {
+                let open = self.open_before(i);
+                let segments = self.segments(|s| open[s]);
+                done.answers[i] = answer_by_junctions(self.n, &segments, self.x[i] as usize, self.y[i] as usize);
+            }
+        }
+        done.work[..self.required_by_junctions()].fill(0);
+        done
+    }
+
+    /// The reply and the tables of the call by the loss of a junction.
+    pub fn call_junctions(&self) -> ReplayedJunctions {
+        let lent = self.clone();
+        let (mut answers, mut work) = (self.answers.clone(), self.work.clone());
+        let r = replay_junctions(ReplayJunctionsTables {
+            n: lent.n,
+            m: lent.m,
+            t: lent.t,
+            p: lent.p,
+            a: &lent.a,
+            b: &lent.b,
+            start: &lent.start,
+            x: &lent.x,
+            y: &lent.y,
+            answers: &mut answers,
+            work: &mut work,
+        });
+        assert_eq!(&lent, self, "a table that is only read was written");
+        let reply = r.map(|t| (t.queries, t.open)).map_err(refusal);
+        ReplayedJunctions { reply, answers, work }
+    }
+
+    /// Calls the replay by the loss of a junction, holds it to the slow version, and hands its outcome back.
+    pub fn compare_junctions(&self) -> ReplayedJunctions {
+        let (got, want) = (self.call_junctions(), self.slow_junctions());
+        assert!(
+            got == want,
+            "{self:?}\ngot {:?} {:?}\nwant {:?} {:?}",
+            got.reply,
+            got.answers,
+            want.reply,
+            want.answers
+        );
+        got
     }
 
     /// Calls the replay, holds it to the slow version, and hands its outcome back.
@@ -645,6 +758,38 @@ pub fn random_list(r: &mut Numbers, junctions: usize, segments: usize, events: u
     list(n, 4 + r.below(9), &ends, &told).with_start(&start)
 }
 
+/// A list without a fault over rings, each of which shares a crossing with one before it, and some roads across. Most
+/// segments are open at the start, so that from ring to ring no road parts what a crossing does.
+pub fn random_rings(r: &mut Numbers, rings: usize, across: usize, events: usize) -> List {
+    let mut ends: Vec<(u16, u16)> = Vec::new();
+    let mut n = 1;
+    for _ in 0..1 + r.below(rings) {
+        let crossing = r.below(n);
+        let more = 2 + r.below(3);
+        let round: Vec<usize> = std::iter::once(crossing).chain(n..n + more).collect();
+        ends.extend((0..=more).map(|i| (round[i] as u16, round[(i + 1) % (more + 1)] as u16)));
+        n += more;
+    }
+    let of_rings = ends.len();
+    ends.extend((0..r.below(across + 1)).map(|_| (r.below(n) as u16, r.below(n) as u16)));
+    // Of the rings' segments one in eight is closed at the start, of the others three in four.
+    let mut open: Vec<bool> = (0..ends.len())
+        .map(|s| if s < of_rings { r.below(8) > 0 } else { r.below(4) == 0 })
+        .collect();
+    let start: Vec<u16> = open.iter().map(|o| *o as u16).collect();
+    let mut told = Vec::new();
+    for _ in 0..r.below(events + 1) {
+        if r.below(3) > 0 {
+            told.push(query_maybe_with_itself(r, n));
+            continue;
+        }
+        let s = r.below(ends.len());
+        told.push((if open[s] { CLOSES } else { OPENS }, s as u16));
+        open[s] = !open[s];
+    }
+    list(n, 4 + r.below(9), &ends, &told).with_start(&start)
+}
+
 /// A graph without a fault, of at most these sizes. Its names are few, so that several edges have the same, or any, or the largest.
 pub fn random_graph(r: &mut Numbers, nodes: usize, edges: usize, entries: usize) -> Graph {
     let n = 1 + r.below(nodes);
@@ -668,6 +813,41 @@ impl List {
         let t = self.names.len() + r.below(4);
         self.names = r.junk(t);
         self.work = r.junk(w).iter().map(|v| 65537 * *v as u32).collect();
+    }
+}
+
+/// Changes a size, the share, a length or an entry.
+pub fn damage(l: &mut List, r: &mut Numbers) {
+    let value = match r.below(5) {
+        0 => l.n as u16,
+        1 => l.m as u16,
+        2 => 65534,
+        3 => 65535,
+        _ => r.below(8) as u16,
+    };
+    let place = r.below(12);
+    match r.below(14) {
+        0 => l.p = r.below(16),
+        1 => l.n = r.below(8),
+        2 => l.m = r.below(8),
+        3 => l.t = r.below(12),
+        4 => l.n = 4090 + r.below(14),
+        5 => l.a.truncate(l.a.len().saturating_sub(1 + r.below(3))),
+        6 => l.answers.truncate(l.answers.len().saturating_sub(1 + r.below(3))),
+        7 => l.start.truncate(l.start.len().saturating_sub(1 + r.below(3))),
+        8 => l.names.truncate(l.names.len().saturating_sub(1 + r.below(3))),
+        9 => l.y.push(value),
+        k => {
+            let table = match k {
+                10 => &mut l.a,
+                11 => &mut l.start,
+                12 => &mut l.x,
+                _ => &mut l.y,
+            };
+            if place < table.len() {
+                table[place] = value;
+            }
+        }
     }
 }
 
