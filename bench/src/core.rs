@@ -10,13 +10,13 @@ pub type Half = [u32; 3];
 pub const MARK: usize = 0;
 /// At i: the i-th active node (in).
 pub const ACTIVE: usize = 1;
-const HEAD: usize = 2;
+pub(crate) const HEAD: usize = 2;
 /// At i: the i-th node of the search.
-const ORDER: usize = 3;
+pub(crate) const ORDER: usize = 3;
 /// 1 + the place in the search, 0 where unseen.
-const PLACE: usize = 4;
-const PARENT: usize = 5;
-const TOP: usize = 6;
+pub(crate) const PLACE: usize = 4;
+pub(crate) const PARENT: usize = 5;
+pub(crate) const TOP: usize = 6;
 /// At i: the top of the class i.
 const CLASS: usize = 7;
 /// The branches of a class that have an active node.
@@ -24,13 +24,13 @@ const BRANCHES: usize = 8;
 /// At i: 1 + the number of the nearest kept class above the class i.
 const ABOVE: usize = 9;
 /// 1 + the number of a class.
-const NUMBER: usize = 10;
+pub(crate) const NUMBER: usize = 10;
 /// At i: the smallest name between the class i and the nearest kept class above.
 const UPWARD: usize = 11;
 /// The root of the tree, where it is asked for.
 pub const ROOT: usize = 12;
 /// 1 + the edge to the parent, 0 at a root.
-const TREE_EDGE: usize = 13;
+pub(crate) const TREE_EDGE: usize = 13;
 /// At i: the name of the i-th edge (out).
 pub const NAMED: usize = 15;
 /// At i: the ends of the i-th edge (out).
@@ -69,7 +69,7 @@ pub fn put_edge(edge: &mut [Half; 2], u: u32, v: u32, name: u32) {
     edge[1][0] = v;
 }
 
-fn link_edges(nodes: &mut [Node], halves: &mut [Half]) {
+pub(crate) fn link_edges(nodes: &mut [Node], halves: &mut [Half]) {
     for (e, edge) in halves.as_chunks_mut::<2>().0.iter_mut().enumerate() {
         for side in 0..2 {
             let head = &mut nodes[edge[side ^ 1][0] as usize][HEAD];
@@ -99,7 +99,11 @@ fn append<const ROOTS: bool>(
 }
 
 /// Breadth first from each active node that is not seen yet; how many nodes are seen.
-fn spanning_forest<const ROOTS: bool>(nodes: &mut [Node], halves: &[Half], k: usize) -> usize {
+pub(crate) fn spanning_forest<const ROOTS: bool>(
+    nodes: &mut [Node],
+    halves: &[Half],
+    k: usize,
+) -> usize {
     let mut seen = 0;
     let mut done = 0;
     for j in 0..k {
@@ -126,7 +130,7 @@ fn spanning_forest<const ROOTS: bool>(nodes: &mut [Node], halves: &[Half], k: us
 }
 
 /// The top of v; the path to it is halved on the way.
-fn find(nodes: &mut [Node], mut v: usize) -> usize {
+pub(crate) fn find(nodes: &mut [Node], mut v: usize) -> usize {
     loop {
         let u = nodes[v][TOP] as usize;
         if u == v {
@@ -138,11 +142,25 @@ fn find(nodes: &mut [Node], mut v: usize) -> usize {
     }
 }
 
-/// Merges the 2-edge-connected classes along the tree path of each edge that is no tree edge.
-fn merge_edges(nodes: &mut [Node], halves: &[Half], seen: usize) {
+/// Each node is its own class.
+pub(crate) fn start_tops(nodes: &mut [Node]) {
     for (v, node) in nodes.iter_mut().enumerate() {
         node[TOP] = v as u32;
     }
+}
+
+/// The final tops of the seen nodes, in the order of the search.
+pub(crate) fn compress_all(nodes: &mut [Node], seen: usize) {
+    for i in 0..seen {
+        let v = nodes[i][ORDER] as usize;
+        let top = nodes[v][TOP] as usize;
+        nodes[v][TOP] = nodes[top][TOP];
+    }
+}
+
+/// Merges the 2-edge-connected classes along the tree path of each edge that is no tree edge.
+fn merge_edges(nodes: &mut [Node], halves: &[Half], seen: usize) {
+    start_tops(nodes);
     for (e, edge) in halves.as_chunks::<2>().0.iter().enumerate() {
         let x = edge[0][0] as usize;
         let y = edge[1][0] as usize;
@@ -165,11 +183,7 @@ fn merge_edges(nodes: &mut [Node], halves: &[Half], seen: usize) {
             a = top;
         }
     }
-    for i in 0..seen {
-        let v = nodes[i][ORDER] as usize;
-        let top = nodes[v][TOP] as usize;
-        nodes[v][TOP] = nodes[top][TOP];
-    }
+    compress_all(nodes, seen);
 }
 
 /// Gives the class with this top the next number.

@@ -1,9 +1,11 @@
 //! The rivals of the proved replay, and the lists and graphs that they are timed on.
 
+pub mod blocks;
 pub mod check_number;
 pub mod contraction;
 pub mod core;
 pub mod graphs;
+pub mod junctions;
 pub mod lists;
 pub mod random;
 pub mod replay;

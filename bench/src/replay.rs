@@ -175,14 +175,64 @@ fn make_events(a: &[u16], b: &[u16], x: &[u16], y: &[u16], roads: &mut Roads, ab
     }
 }
 
-/// A window's events, and the size of its small graph. The area of a window of n events is 17 n words at the front of its work slice:
-/// places (2 n), event words (3 n), the smaller and the larger ends of the edges, and their names (4 n each).
+/// A window's events, and the size of its small graph. The area of a window of n events stands at the front of its work slice: places (2 n), event
+/// words (3 n), the smaller and the larger ends of the edges, and their names (4 n each; 8 n each in the sibling).
 #[derive(Clone, Copy)]
-struct Window {
-    at: usize,
-    events: usize,
-    nodes: usize,
-    edges: usize,
+pub(crate) struct Window {
+    pub(crate) at: usize,
+    pub(crate) events: usize,
+    pub(crate) nodes: usize,
+    pub(crate) edges: usize,
+}
+
+/// What differs between the replay and its sibling in a step: how the graph is reduced, and how much room its edges need.
+pub(crate) trait Reduction {
+    /// The edges that a window has room for, for each of its events.
+    const EDGES: usize;
+    /// How many edges stand behind the graph's own while it is reduced, for each event.
+    const BEHIND: usize;
+    /// The words of an area, for each event.
+    const AREA: usize = 5 + 3 * Self::EDGES;
+
+    /// Reduces the graph of the first m edges to the k active nodes, each of which has its number in MARK afterwards; the nodes and the edges.
+    fn reduce(nodes: &mut [Node], halves: &mut [Half], m: usize, k: usize) -> (usize, usize);
+
+    /// Writes so many edges of the reduced graph: their ends, and their names.
+    fn write_edges(
+        nodes: &[Node],
+        behind: &[Half],
+        edges: usize,
+        small: &mut [u32],
+        large: &mut [u32],
+        names: &mut [u32],
+    );
+}
+
+struct Contraction;
+
+impl Reduction for Contraction {
+    const EDGES: usize = 4;
+    const BEHIND: usize = 0;
+
+    fn reduce(nodes: &mut [Node], halves: &mut [Half], m: usize, k: usize) -> (usize, usize) {
+        core::reduce::<false>(nodes, &mut halves[..2 * m], k)
+    }
+
+    fn write_edges(
+        nodes: &[Node],
+        _: &[Half],
+        edges: usize,
+        small: &mut [u32],
+        large: &mut [u32],
+        names: &mut [u32],
+    ) {
+        let out = small.iter_mut().zip(large).zip(names);
+        for (node, ((u, v), name)) in nodes[..edges].iter().zip(out) {
+            *u = node[SMALL_END];
+            *v = node[LARGE_END];
+            *name = node[NAMED];
+        }
+    }
 }
 
 /// Clears the marks and enters the places as active nodes; the number of different ones.
@@ -192,23 +242,25 @@ fn enter_all(nodes: &mut [Node], places: &[Places]) -> usize {
     places.fold(0, |k, &v| core::enter(nodes, k, v as usize))
 }
 
-/// Writes a part's area: its places by their new numbers, its event words, and the edges that stand in the nodes.
-fn write_area(nodes: &[Node], edges: usize, places: &[Places], events: &[Event], part: &mut [u32]) {
+/// Writes a part's area: its places by their new numbers, its event words, and the edges of its reduced graph, out of a graph of m edges.
+fn write_area<R: Reduction>(
+    (nodes, halves): (&[Node], &[Half]),
+    m: usize,
+    edges: usize,
+    places: &[Places],
+    events: &[Event],
+    part: &mut [u32],
+) {
     let c = events.len();
     let (new_places, rest) = part.split_at_mut(2 * c);
     let (new_events, ends) = rest.split_at_mut(3 * c);
-    let (small, rest) = ends.split_at_mut(4 * c);
-    let (large, names) = rest.split_at_mut(4 * c);
+    let (small, rest) = ends.split_at_mut(R::EDGES * c);
+    let (large, names) = rest.split_at_mut(R::EDGES * c);
     for (new, &v) in new_places.iter_mut().zip(places.as_flattened()) {
         *new = nodes[v as usize][MARK];
     }
     new_events.copy_from_slice(events.as_flattened());
-    let out = small.iter_mut().zip(large).zip(names);
-    for (node, ((u, v), name)) in nodes[..edges].iter().zip(out) {
-        *u = node[SMALL_END];
-        *v = node[LARGE_END];
-        *name = node[NAMED];
-    }
+    R::write_edges(nodes, &halves[2 * m..], edges, small, large, names);
 }
 
 /// Loads one edge for each road that is open at the start and that no event names, with its name; how many they are. `open` has the numbers at the end,
@@ -236,7 +288,7 @@ fn load_roads(
 
 /// The whole list's area, behind the window above it, whose nodes are all n junctions. Of the roads the contraction needs the numbers of open
 /// segments alone, and its words stand where the rest of them was.
-fn top(
+pub(crate) fn top<R: Reduction>(
     n: usize,
     a: &[u16],
     b: &[u16],
@@ -247,16 +299,16 @@ fn top(
 ) -> Window {
     let t = x.len();
     let (above, rest) = work.split_at_mut(5 * t);
-    let (whole, rest) = rest.split_at_mut(17 * t);
+    let (whole, rest) = rest.split_at_mut(R::AREA * t);
     let (open, scratch) = rest.split_at_mut(a.len());
     let mut roads = make_roads(n, a, b, start, open, scratch);
     make_events(a, b, x, y, &mut roads, above);
     let (places, events) = events_of(above, t);
-    let (nodes, halves) = core::split(scratch, n, a.len());
+    let (nodes, halves) = core::split(scratch, n, a.len() + R::BEHIND * t);
     let k = enter_all(nodes, places);
     let m = load_roads(a, b, events, open, halves);
-    let (count, edges) = core::reduce::<false>(nodes, &mut halves[..2 * m], k);
-    write_area(nodes, edges, places, events, whole);
+    let (count, edges) = R::reduce(nodes, halves, m, k);
+    write_area::<R>((nodes, halves), m, edges, places, events, whole);
     Window {
         at: 0,
         events: t,
@@ -266,19 +318,19 @@ fn top(
 }
 
 /// The area of the part of c events from lo on, out of the window's, which is at the front of work; it is written behind that.
-fn step(w: Window, lo: usize, c: usize, work: &mut [u32]) -> Window {
+pub(crate) fn step<R: Reduction>(w: Window, lo: usize, c: usize, work: &mut [u32]) -> Window {
     let n = w.events;
-    let (area, rest) = work.split_at_mut(17 * n);
-    let (part, scratch) = rest.split_at_mut(17 * c);
+    let (area, rest) = work.split_at_mut(R::AREA * n);
+    let (part, scratch) = rest.split_at_mut(R::AREA * c);
     let (places, events) = events_of(area, n);
-    let (small, rest) = area[5 * n..].split_at(4 * n);
-    let (large, names) = rest.split_at(4 * n);
+    let (small, rest) = area[5 * n..].split_at(R::EDGES * n);
+    let (large, names) = rest.split_at(R::EDGES * n);
     let (first, behind) = (lo - w.at, lo - w.at + c);
     let here = &places[first..behind];
 
     // The window's edges first; then each road that the window names, the part does not, and that is open, once: by the last
     // event before the part that names it, else by the first behind it.
-    let (nodes, halves) = core::split(scratch, w.nodes, w.edges + n - c);
+    let (nodes, halves) = core::split(scratch, w.nodes, w.edges + n - c + R::BEHIND * c);
     let k = enter_all(nodes, here);
     let pairs = halves.as_chunks_mut::<2>().0;
     let given = small[..w.edges].iter().zip(large).zip(names);
@@ -301,14 +353,20 @@ fn step(w: Window, lo: usize, c: usize, work: &mut [u32]) -> Window {
         }
     }
 
-    let (count, edges) = core::reduce::<false>(nodes, &mut halves[..2 * m], k);
-    write_area(nodes, edges, here, &events[first..behind], part);
+    let (count, edges) = R::reduce(nodes, halves, m, k);
+    let here = (here, &events[first..behind]);
+    write_area::<R>((nodes, halves), m, edges, here.0, here.1, part);
     Window {
         at: lo,
         events: c,
         nodes: count,
         edges,
     }
+}
+
+/// How many of n events the first part of a window has.
+pub(crate) fn first_part(n: usize, p: usize) -> usize {
+    (n * p / 16).max(1)
 }
 
 /// Answers a window's events, and names the roads that answers 1 hang on; the nodes of its small graph and of those of the windows inside it.
@@ -324,16 +382,18 @@ fn window(w: Window, p: usize, answers: &mut [u8], names: &mut [u16], work: &mut
         };
         return w.nodes;
     }
-    let c = (n * p / 16).max(1);
-    let part = step(w, w.at, c, work);
+    let c = first_part(n, p);
+    let part = step::<Contraction>(w, w.at, c, work);
     let first = window(part, p, answers, names, &mut work[17 * n..]);
-    let part = step(w, w.at + c, n - c, work);
+    let part = step::<Contraction>(w, w.at + c, n - c, work);
     let second = window(part, p, answers, names, &mut work[17 * n..]);
     w.nodes + first + second
 }
 
+/// The first fault of what is lent, where of the tables that are written the shortest one for events has so many entries, and the work table has
+/// `words` and needs `need`; else the number of segments that are open at the end.
 #[allow(clippy::too_many_arguments)]
-pub fn replay(
+pub(crate) fn check(
     n: usize,
     m: usize,
     t: usize,
@@ -343,10 +403,10 @@ pub fn replay(
     start: &[u16],
     x: &[u16],
     y: &[u16],
-    answers: &mut [u8],
-    names: &mut [u16],
-    work: &mut [u32],
-) -> Result<Totals, Refusal> {
+    written: usize,
+    words: usize,
+    need: fn(usize, usize, usize) -> usize,
+) -> Result<usize, Refusal> {
     if n > MOST_JUNCTIONS || m > MOST_SEGMENTS || t > MOST_EVENTS {
         return Err(Refusal::new(1, 0));
     }
@@ -355,9 +415,8 @@ pub fn replay(
         || start.len() < m
         || x.len() < t
         || y.len() < t
-        || answers.len() < t
-        || names.len() < t
-        || work.len() < required(n, m, t);
+        || written < t
+        || words < need(n, m, t);
     if short {
         return Err(Refusal::new(2, 0));
     }
@@ -375,18 +434,40 @@ pub fn replay(
     if let Some(s) = start.iter().position(|&e| e > 1) {
         return Err(Refusal::new(11, s));
     }
-    let open = check_events(n, m, Segments::at_start(start), x, y)?;
+    check_events(n, m, Segments::at_start(start), x, y)
+}
 
+pub(crate) fn count_queries(x: &[u16]) -> usize {
+    x.iter().filter(|&&v| !names_segment(v)).count()
+}
+
+#[allow(clippy::too_many_arguments)]
+pub fn replay(
+    n: usize,
+    m: usize,
+    t: usize,
+    p: usize,
+    a: &[u16],
+    b: &[u16],
+    start: &[u16],
+    x: &[u16],
+    y: &[u16],
+    answers: &mut [u8],
+    names: &mut [u16],
+    work: &mut [u32],
+) -> Result<Totals, Refusal> {
+    let written = answers.len().min(names.len());
+    let words = work.len();
+    let open = check(n, m, t, p, a, b, start, x, y, written, words, required)?;
     let work = &mut work[..required(n, m, t)];
     let mut kept = 0;
     if t > 0 {
-        let whole = top(n, a, b, start, x, y, work);
+        let whole = top::<Contraction>(n, a, b, start, x, y, work);
         kept = window(whole, p, answers, names, &mut work[5 * t..]);
     }
-    let queries = x.iter().filter(|&&v| !names_segment(v)).count();
     work.fill(0);
     Ok(Totals {
-        queries,
+        queries: count_queries(x),
         open,
         kept,
     })

@@ -367,6 +367,61 @@ impl Piece {
         (0, NO_NAME)
     }
 
+    /// By the loss of a junction: a third one parts the two where it lies on the way between them and nothing below the next junction of the way leads
+    /// above it. The search stops there, or when it leaves the way for the last time.
+    fn junction_answer(&mut self, from: u16, to: u16) -> u8 {
+        if from == to {
+            return 2;
+        }
+        let before = self.time;
+        self.path.clear();
+        self.find(from, NONE);
+        // The first `way` junctions of the path lead to `to`, once it is found.
+        let mut way = 0;
+        'path: while let Some(top) = self.path.last_mut() {
+            let row = &self.halves[top.next as usize..top.end as usize];
+            for (i, half) in row.iter().enumerate() {
+                let found = self.found[half.far as usize];
+                if found <= before {
+                    top.next += i as u32 + 1;
+                    let far = half.far;
+                    self.find(far, NONE);
+                    if far == to {
+                        way = self.path.len();
+                    }
+                    continue 'path;
+                }
+                top.low = top.low.min(found);
+            }
+            let low = top.low;
+            self.path.pop();
+            let depth = self.path.len();
+            let Some(parent) = self.path.last_mut() else {
+                break;
+            };
+            if depth < way {
+                if depth == 1 {
+                    return 2;
+                }
+                if low >= parent.found {
+                    return 1;
+                }
+                way = depth;
+            }
+            parent.low = parent.low.min(low);
+        }
+        0
+    }
+
+    /// Nothing but the segments that are open at the start is open.
+    fn begin(&mut self, n: usize, a: &[u16], b: &[u16], start: &[u16]) {
+        self.roads.reset(n, a, b);
+        self.make_rows(n, a, b);
+        for s in open_at_start(start) {
+            self.open(s as usize, a, b);
+        }
+    }
+
     #[allow(clippy::too_many_arguments)]
     pub fn replay(
         &mut self,
@@ -379,11 +434,7 @@ impl Piece {
         answers: &mut [u8],
         names: &mut [u16],
     ) {
-        self.roads.reset(n, a, b);
-        self.make_rows(n, a, b);
-        for s in open_at_start(start) {
-            self.open(s as usize, a, b);
-        }
+        self.begin(n, a, b, start);
         let replies = answers.iter_mut().zip(names);
         for ((&x, &y), (answer, name)) in x.iter().zip(y).zip(replies) {
             (*answer, *name) = match x {
@@ -396,6 +447,34 @@ impl Piece {
                     (3, NO_NAME)
                 }
                 _ => self.answer(x, y),
+            };
+        }
+    }
+
+    /// The answers by the loss of a junction.
+    #[allow(clippy::too_many_arguments)]
+    pub fn replay_junctions(
+        &mut self,
+        n: usize,
+        a: &[u16],
+        b: &[u16],
+        start: &[u16],
+        x: &[u16],
+        y: &[u16],
+        answers: &mut [u8],
+    ) {
+        self.begin(n, a, b, start);
+        for ((&x, &y), answer) in x.iter().zip(y).zip(answers) {
+            *answer = match x {
+                OPENS => {
+                    self.open(y as usize, a, b);
+                    3
+                }
+                CLOSES => {
+                    self.close(y as usize, a, b);
+                    3
+                }
+                _ => self.junction_answer(x, y),
             };
         }
     }

@@ -1,8 +1,9 @@
-//! The plain Rust replay, contraction and check number, and the searches, against slow versions written from the definitions, and against vectors.
+//! The plain Rust replays, contraction and check number, and the searches, against slow versions written from the definitions, and against vectors.
 
 use bench::random::Random;
 use bench::{
-    check_number, contraction, lists, replay, roads, search, Refusal, CLOSES, NO_NAME, OPENS,
+    check_number, contraction, junctions, lists, replay, roads, search, Refusal, CLOSES, NO_NAME,
+    OPENS,
 };
 
 #[path = "../../bindings/rust/tests/common/vectors.rs"]
@@ -232,6 +233,93 @@ fn slow_replay(l: &lists::List, p: usize) -> Replayed {
     )
 }
 
+/// What the sibling gives: the answers and the totals.
+type ByJunctions = (Vec<u8>, junctions::Totals);
+
+/// The answer by the loss of a junction, which takes every segment that meets it: each third one is taken away in turn.
+fn junction_answer(n: usize, segments: &[(usize, usize)], u: usize, v: usize) -> u8 {
+    let joined = |kept: &dyn Fn(usize) -> bool| {
+        let piece = pieces(n, segments, kept);
+        piece[u] == piece[v]
+    };
+    if !joined(&|_| true) {
+        return 0;
+    }
+    let third = |c: &usize| *c != u && *c != v;
+    let spared = |c: usize, s: usize| segments[s].0 != c && segments[s].1 != c;
+    if (0..n).filter(third).all(|c| joined(&|s| spared(c, s))) {
+        2
+    } else {
+        1
+    }
+}
+
+/// The answers and the totals of a valid list by the loss of a junction.
+fn slow_junctions(l: &lists::List) -> ByJunctions {
+    let mut open: Vec<usize> = (0..l.m).filter(|&s| l.start[s] == 1).collect();
+    let mut answers = Vec::new();
+    for (&x, &y) in l.x.iter().zip(&l.y) {
+        let s = y as usize;
+        match x {
+            OPENS => open.push(s),
+            CLOSES => open.retain(|&o| o != s),
+            _ => {}
+        }
+        if x >= CLOSES {
+            answers.push(3);
+            continue;
+        }
+        let ends = |&s: &usize| (l.a[s] as usize, l.b[s] as usize);
+        let segments: Vec<_> = open.iter().map(ends).collect();
+        answers.push(junction_answer(l.n, &segments, x as usize, s));
+    }
+    let queries = l.x.iter().filter(|&&x| x < CLOSES).count();
+    let totals = junctions::Totals {
+        queries,
+        open: open.len(),
+    };
+    (answers, totals)
+}
+
+/// What the plain sibling gives of the first t events, with answers and work of these lengths. It leaves what it is not to change.
+fn plain_junctions(
+    l: &lists::List,
+    t: usize,
+    p: usize,
+    lengths: [usize; 2],
+) -> Result<ByJunctions, Refusal> {
+    let (mut answers, mut work) = (vec![9; lengths[0]], vec![77; lengths[1]]);
+    let reply = junctions::replay(
+        l.n,
+        l.m,
+        t,
+        p,
+        &l.a,
+        &l.b,
+        &l.start,
+        &l.x,
+        &l.y,
+        &mut answers,
+        &mut work,
+    );
+    let (filled, cleared) = if reply.is_ok() {
+        (t, junctions::required(l.n, l.m, t))
+    } else {
+        (0, 0)
+    };
+    assert!(work[..cleared].iter().all(|&w| w == 0) && work[cleared..].iter().all(|&w| w == 77));
+    assert!(answers[filled..].iter().all(|&a| a == 9));
+    answers.truncate(filled);
+    reply.map(|totals| (answers, totals))
+}
+
+/// The answers of the search of the piece.
+fn searched_junctions(l: &lists::List) -> Vec<u8> {
+    let mut found = vec![9; l.events()];
+    search::Piece::new().replay_junctions(l.n, &l.a, &l.b, &l.start, &l.x, &l.y, &mut found);
+    found
+}
+
 /// What a contraction is lent, the written tables by their lengths.
 struct Lent<'a> {
     n: usize,
@@ -411,6 +499,75 @@ fn replays() {
     assert!(named > 5_000, "{named} answers 1 have a name");
 }
 
+/// The list on a tree of cycles of three segments: each cycle shares a junction with an earlier one.
+fn on_cycles(mut l: lists::List, random: &mut Random) -> lists::List {
+    for first in (0..l.m).step_by(3) {
+        let own = first / 3 * 2;
+        let corners = [random.below(own + 1), own + 1, own + 2].map(|v| (v % l.n) as u16);
+        for s in first..l.m.min(first + 3) {
+            l.a[s] = corners[s - first];
+            l.b[s] = corners[(s - first + 1) % 3];
+        }
+    }
+    l
+}
+
+#[test]
+fn junction_replays() {
+    let mut random = Random::new(6);
+    let mut parted = 0;
+    for round in 0..6_000 {
+        let n = 1 + random.below(10);
+        let m = 1 + random.below(16);
+        let doubles = random.below(3) * random.below(m) / 2;
+        let t = random.below(32);
+        let run = random.below(t / 2 + 1);
+        let open = random.below(3) * random.below(m + 1) / 2;
+        let mut l = lists::random_list(n, m, doubles, open, t, run, &mut random);
+        if round % 2 == 1 {
+            l = on_cycles(l, &mut random);
+        }
+        let p = 4 + round % 9;
+        let slow = slow_junctions(&l);
+        let plain = plain_junctions(&l, t, p, [t + 2, junctions::required(n, m, t) + 3]);
+        assert_eq!(plain.as_ref(), Ok(&slow));
+        assert_eq!(searched_junctions(&l), slow.0);
+        let (by_roads, ..) = plain_replay(&l, t, p, [t, t, replay::required(n, m, t)]).unwrap();
+        let pairs = slow.0.iter().zip(&by_roads);
+        parted += pairs.filter(|&(&j, &r)| (j, r) == (1, 2)).count();
+    }
+    assert!(
+        parted > 500,
+        "{parted} pairs hang on a junction and on no road"
+    );
+}
+
+/// At the full sizes all shares and the search give the same.
+#[test]
+fn junctions_of_the_full_size() {
+    for kind in lists::Kind::ALL {
+        let l = lists::list(kind, 4096, &mut Random::new(7));
+        let found = searched_junctions(&l);
+        let need = junctions::required(l.n, l.m, 4096);
+        for p in 4..13 {
+            let (answers, _) = plain_junctions(&l, 4096, p, [4096, need]).unwrap();
+            assert!(answers == found, "the {} list, p = {p}", kind.name());
+        }
+    }
+}
+
+/// The work table of the replay is too short.
+#[test]
+fn junction_words() {
+    let l = lists::random_list(4, 5, 1, 2, 6, 0, &mut Random::new(8));
+    let need = junctions::required(4, 5, 6);
+    for words in [replay::required(4, 5, 6), need - 1] {
+        let reply = plain_junctions(&l, 6, 8, [6, words]);
+        assert_eq!(reply, Err(Refusal::new(2, 0)));
+    }
+    assert!(plain_junctions(&l, 6, 8, [6, need]).is_ok());
+}
+
 /// Whether events name two segments of one road.
 fn names_shared_road(l: &lists::List) -> bool {
     let ends = |s: u16| (l.a[s as usize] as usize, l.b[s as usize] as usize);
@@ -519,7 +676,16 @@ fn contraction_vectors() {
     }
 }
 
-fn run_replay_vector(v: vectors::Replay) {
+/// The list of a vector, its number of events, its share, the lengths of the written tables and its reply.
+fn taken(
+    v: vectors::Replay,
+) -> (
+    lists::List,
+    usize,
+    usize,
+    [usize; 3],
+    Result<vectors::Replayed, Refusal>,
+) {
     let l = lists::List {
         n: v.n,
         m: v.m,
@@ -529,8 +695,13 @@ fn run_replay_vector(v: vectors::Replay) {
         x: v.x,
         y: v.y,
     };
-    let reply = plain_replay(&l, v.t, v.p, v.lengths);
-    let expected = v.reply.map_err(refusal).map(|r| {
+    (l, v.t, v.p, v.lengths, v.reply.map_err(refusal))
+}
+
+fn run_replay_vector(v: vectors::Replay) {
+    let (l, t, p, lengths, expected) = taken(v);
+    let reply = plain_replay(&l, t, p, lengths);
+    let expected = expected.map(|r| {
         let totals = replay::Totals {
             queries: r.queries,
             open: r.open,
@@ -550,6 +721,25 @@ fn replay_vectors() {
         .into_iter()
         .chain(programs)
         .for_each(run_replay_vector);
+}
+
+#[test]
+fn junction_vectors() {
+    let all = vectors::junctions();
+    assert_eq!(all.len(), 80);
+    for v in all {
+        let (l, t, p, [answers, _, words], expected) = taken(v);
+        let reply = plain_junctions(&l, t, p, [answers, words]);
+        let expected = expected.map(|r| {
+            let totals = junctions::Totals {
+                queries: r.queries,
+                open: r.open,
+            };
+            assert_eq!(searched_junctions(&l), r.answers);
+            (r.answers, totals)
+        });
+        assert_eq!(reply, expected);
+    }
 }
 
 #[test]

@@ -1,4 +1,4 @@
-//! The vectors of crates/test_replay, test_contraction and test_program, from the files that these programs read. The
+//! The vectors of crates/test_replay, test_junctions, test_contraction and test_program, from the files that these programs read. The
 //! benchmark's tests read them by this file too, so it uses nothing of the package.
 //!
 //! Each vector is a line with ; at its end. Of replays and contractions it is numbers of four digits in base 16: ten of
@@ -29,7 +29,7 @@ pub struct Replayed {
     pub open: usize,
     pub kept: usize,
     pub answers: Vec<u8>,
-    /// The program prints none.
+    /// The program prints none, and the sibling writes none.
     pub names: Option<Vec<u16>>,
 }
 
@@ -88,7 +88,7 @@ fn read<T>(text: &str, vector: impl Fn(&mut Numbers) -> T) -> Vec<T> {
     lines(text).map(whole).collect()
 }
 
-fn replay(numbers: &mut Numbers) -> Replay {
+fn replay(numbers: &mut Numbers, with_names: bool) -> Replay {
     let [n, m, t, p, ..] = numbers.row();
     let [a, b, start, x, y, answers, names, work, ..] = numbers.row();
     let [code, place, queries, open, kept, ..] = numbers.row();
@@ -99,7 +99,7 @@ fn replay(numbers: &mut Numbers) -> Replay {
             open,
             kept,
             answers: numbers.table(t).iter().map(|&v| v as u8).collect(),
-            names: Some(numbers.table(t)),
+            names: with_names.then(|| numbers.table(t)),
         }),
         _ => Err((code, place)),
     };
@@ -119,7 +119,14 @@ fn replay(numbers: &mut Numbers) -> Replay {
 }
 
 pub fn replays() -> Vec<Replay> {
-    read(include_str!("../../../../crates/test_replay/stdin"), replay)
+    let text = include_str!("../../../../crates/test_replay/stdin");
+    read(text, |numbers| replay(numbers, true))
+}
+
+/// Of the sibling, by the loss of a junction: the length of the names is 0, and so is kept.
+pub fn junctions() -> Vec<Replay> {
+    let text = include_str!("../../../../crates/test_junctions/stdin");
+    read(text, |numbers| replay(numbers, false))
 }
 
 fn contraction(numbers: &mut Numbers) -> Contraction {
