@@ -1,4 +1,4 @@
-//! Times the proved replay, contraction and check number beside their rivals on the same lists, graphs and tables.
+//! Times the proved replays, contraction and check number beside their rivals on the same lists, graphs and tables.
 //! The one argument is the folder that results.md and plot.svg are written to.
 
 mod plot;
@@ -25,9 +25,10 @@ fn main() -> ExitCode {
 
 fn run(folder: &Path) -> Result<(), String> {
     let replays = timing::replays()?;
+    let junctions = timing::junctions()?;
     let contractions = timing::contractions()?;
     let numbers = timing::numbers()?;
-    let text = report::markdown(&replays, &contractions, &numbers);
+    let text = report::markdown(&replays, &junctions, &contractions, &numbers);
     print!("{text}");
     let write = |name: &str, text: &str| {
         let path = folder.join(name);

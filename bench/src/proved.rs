@@ -1,8 +1,8 @@
 //! The proved calls, with the replies that the rivals give.
 
 use bench::replay::Totals;
-use bench::Refusal;
-use lumzhasel::tables::{self, ContractTables, ReplayTables};
+use bench::{junctions, Refusal};
+use lumzhasel::tables::{self, ContractTables, ReplayJunctionsTables, ReplayTables};
 use lumzhasel::Error;
 
 fn refusal(e: Error) -> Refusal {
@@ -46,6 +46,40 @@ pub fn replay(
         queries: r.queries,
         open: r.open,
         kept: r.kept,
+    })
+}
+
+#[allow(clippy::too_many_arguments)]
+pub fn replay_junctions(
+    n: usize,
+    m: usize,
+    t: usize,
+    p: usize,
+    a: &[u16],
+    b: &[u16],
+    start: &[u16],
+    x: &[u16],
+    y: &[u16],
+    answers: &mut [u8],
+    work: &mut [u32],
+) -> Result<junctions::Totals, Refusal> {
+    let lent = ReplayJunctionsTables {
+        n,
+        m,
+        t,
+        p,
+        a,
+        b,
+        start,
+        x,
+        y,
+        answers,
+        work,
+    };
+    let r = tables::replay_junctions(lent).map_err(refusal)?;
+    Ok(junctions::Totals {
+        queries: r.queries,
+        open: r.open,
     })
 }
 

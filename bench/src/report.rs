@@ -1,7 +1,7 @@
 //! The tables, as Markdown.
 
 use crate::timing::{
-    ContractionRow, NumberRow, ReplayRow, Time, GRAPHS, LISTS, ROUNDS, SHARES, TABLES,
+    ContractionRow, JunctionRow, NumberRow, ReplayRow, Time, GRAPHS, LISTS, ROUNDS, SHARES, TABLES,
 };
 use std::fmt::Write;
 
@@ -28,6 +28,7 @@ fn both(t: Time) -> String {
 
 pub fn markdown(
     replays: &[ReplayRow],
+    junctions: &[JunctionRow],
     contractions: &[ContractionRow],
     numbers: &[NumberRow],
 ) -> String {
@@ -78,6 +79,39 @@ pub fn markdown(
                 figures(r.whole.median / proved.median),
                 both(r.piece),
                 figures(r.piece.median / proved.median),
+            );
+        }
+    }
+    let _ = write!(
+        out,
+        "\n## The replay by the loss of a junction\n\n\
+         On the same lists. The search does not depend on the share p. The last column is the proved replay by the loss of a junction over the proved replay by the loss of a road.\n\n\
+         | list | T | N | M | answers 0, 1, 2 a list | p | proved | plain Rust | proved / plain | search of the piece | of the piece / proved | replay by roads | proved / by roads |\n\
+         |---|---|---|---|---|---|---|---|---|---|---|---|---|\n"
+    );
+    for r in junctions {
+        for (i, p) in SHARES.iter().enumerate() {
+            let (proved, plain) = (r.proved[i], r.plain[i]);
+            let what = format!(
+                "the replay by the loss of a junction, {} list, T = {}, p = {p}",
+                r.kind.name(),
+                r.events
+            );
+            let _ = writeln!(
+                out,
+                "| {} | {} | {} | {} | {} | {p} | {} | {} | {} | {} | {} | {} | {} |",
+                r.kind.name(),
+                r.events,
+                r.junctions,
+                r.segments,
+                r.answers.map(|a| (a / LISTS).to_string()).join(", "),
+                both(proved),
+                both(plain),
+                ratio(proved, plain, what),
+                both(r.piece),
+                figures(r.piece.median / proved.median),
+                both(r.replay[i]),
+                figures(proved.median / r.replay[i].median),
             );
         }
     }

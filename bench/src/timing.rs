@@ -5,7 +5,7 @@ use crate::proved;
 use bench::graphs::{self, Shape};
 use bench::lists::{self, Kind, List};
 use bench::random::Random;
-use bench::{check_number, contraction, replay, search};
+use bench::{check_number, contraction, junctions, replay, search};
 use std::hint::black_box;
 use std::time::Instant;
 
@@ -151,11 +151,15 @@ fn compare(
     Ok(queries)
 }
 
-fn replay_row(kind: Kind, events: usize) -> Result<ReplayRow, String> {
+/// The lists of a row, the same for the replay and for its sibling.
+fn make_lists(kind: Kind, events: usize) -> Vec<List> {
     let mut random = Random::new(events as u64);
-    let lists: Vec<List> = (0..LISTS)
-        .map(|_| lists::list(kind, events, &mut random))
-        .collect();
+    let list = |_| lists::list(kind, events, &mut random);
+    (0..LISTS).map(list).collect()
+}
+
+fn replay_row(kind: Kind, events: usize) -> Result<ReplayRow, String> {
+    let lists = make_lists(kind, events);
     let (junctions, segments) = (lists[0].n, lists[0].m);
     let open = bench::open_at_start(&lists[0].start).count();
     let (mut whole, mut piece) = (search::Whole::new(), search::Piece::new());
@@ -224,6 +228,141 @@ pub fn replays() -> Result<Vec<ReplayRow>, String> {
     for kind in Kind::ALL {
         for events in SIZES {
             rows.push(replay_row(kind, events)?);
+        }
+    }
+    Ok(rows)
+}
+
+pub struct JunctionRow {
+    pub kind: Kind,
+    pub events: usize,
+    pub junctions: usize,
+    pub segments: usize,
+    /// By share.
+    pub proved: Vec<Time>,
+    pub plain: Vec<Time>,
+    /// The proved replay by the loss of a road.
+    pub replay: Vec<Time>,
+    pub piece: Time,
+    /// The answers of all lists that are 0, 1 and 2.
+    pub answers: [usize; 3],
+}
+
+type JunctionReplay = fn(
+    usize,
+    usize,
+    usize,
+    usize,
+    &[u16],
+    &[u16],
+    &[u16],
+    &[u16],
+    &[u16],
+    &mut [u8],
+    &mut [u32],
+) -> Result<junctions::Totals, bench::Refusal>;
+
+fn call_junctions(
+    f: JunctionReplay,
+    l: &List,
+    p: usize,
+    answers: &mut [u8],
+    work: &mut [u32],
+) -> Result<junctions::Totals, bench::Refusal> {
+    f(
+        l.n,
+        l.m,
+        l.events(),
+        p,
+        &l.a,
+        &l.b,
+        &l.start,
+        &l.x,
+        &l.y,
+        answers,
+        work,
+    )
+}
+
+/// The proved and the plain sibling must give the same numbers, and they and the search the same answers, which are returned.
+fn compare_junctions(
+    l: &List,
+    piece: &mut search::Piece,
+    work: &mut [u32],
+) -> Result<Vec<u8>, String> {
+    let t = l.events();
+    let mut found = vec![vec![9; t]; 3];
+    piece.replay_junctions(l.n, &l.a, &l.b, &l.start, &l.x, &l.y, &mut found[2]);
+    for p in SHARES {
+        let by_proved = call_junctions(proved::replay_junctions, l, p, &mut found[0], work);
+        let by_plain = call_junctions(junctions::replay, l, p, &mut found[1], work);
+        if by_proved.is_err() || by_proved != by_plain {
+            return Err(format!(
+                "the replays by the loss of a junction differ: {by_proved:?} and {by_plain:?}"
+            ));
+        }
+        if let Some(i) = (0..t).find(|&i| found.iter().any(|f| f[i] != found[0][i])) {
+            return Err(format!(
+                "the answers to event {i} by the loss of a junction differ: {:?}",
+                [0, 1, 2].map(|r| found[r][i])
+            ));
+        }
+    }
+    Ok(found.swap_remove(0))
+}
+
+fn junction_row(kind: Kind, events: usize) -> Result<JunctionRow, String> {
+    let lists = make_lists(kind, events);
+    let (n, m) = (lists[0].n, lists[0].m);
+    let mut piece = search::Piece::new();
+    let mut work = vec![0; junctions::required(n, m, events)];
+    let mut met = [0; 3];
+    for list in &lists {
+        let found = compare_junctions(list, &mut piece, &mut work)?;
+        for answer in found.into_iter().filter(|&a| a < 3) {
+            met[usize::from(answer)] += 1;
+        }
+    }
+
+    let (mut answers, mut names) = (vec![0; events], vec![0; events]);
+    let shares = SHARES.len();
+    let mut times = measure(3 * shares + 1, LISTS, |rival, i| {
+        let l = &lists[i];
+        let siblings: [JunctionReplay; 2] = [proved::replay_junctions, junctions::replay];
+        match (rival % 3, SHARES.get(rival / 3)) {
+            (2, Some(&p)) => {
+                let f = proved::replay;
+                let _ = black_box(call(f, l, p, &mut answers, &mut names, &mut work));
+            }
+            (f, Some(&p)) => {
+                let _ = black_box(call_junctions(siblings[f], l, p, &mut answers, &mut work));
+            }
+            (_, None) => {
+                piece.replay_junctions(l.n, &l.a, &l.b, &l.start, &l.x, &l.y, &mut answers)
+            }
+        }
+        black_box((&mut answers, &mut names));
+    });
+    let piece = times.pop().unwrap();
+    let every_third = |first: usize| times.iter().copied().skip(first).step_by(3).collect();
+    Ok(JunctionRow {
+        kind,
+        events,
+        junctions: n,
+        segments: m,
+        proved: every_third(0),
+        plain: every_third(1),
+        replay: every_third(2),
+        piece,
+        answers: met,
+    })
+}
+
+pub fn junctions() -> Result<Vec<JunctionRow>, String> {
+    let mut rows = Vec::new();
+    for kind in Kind::ALL {
+        for events in SIZES {
+            rows.push(junction_row(kind, events)?);
         }
     }
     Ok(rows)

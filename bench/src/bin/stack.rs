@@ -5,12 +5,23 @@ use bench::graphs::{graph, Shape};
 use bench::lists::{list, Kind};
 use bench::random::Random;
 use bench::MOST_EVENTS;
-use lumzhasel::tables::{self, ContractTables, ReplayTables};
+use lumzhasel::tables::{self, ContractTables, ReplayJunctionsTables, ReplayTables};
 use std::process::{Command, ExitCode, Stdio};
 use std::thread;
 
-/// Replays by their shares, and the contraction.
-const CALLS: [&str; 6] = ["nothing", "4", "5", "8", "12", "contraction"];
+/// Replays by their shares, those by the loss of a junction with a j before it, and the contraction.
+const CALLS: [&str; 10] = [
+    "nothing",
+    "4",
+    "5",
+    "8",
+    "12",
+    "j4",
+    "j5",
+    "j8",
+    "j12",
+    "contraction",
+];
 const STEP: usize = 4;
 /// Threads have at least 16 KB.
 const LEAST: usize = 16;
@@ -38,6 +49,30 @@ fn replay(share: usize) -> impl FnOnce() + Send {
             work: &mut work,
         };
         tables::replay(lent).expect("the list is in order");
+    }
+}
+
+/// The same by the loss of a junction.
+fn replay_junctions(share: usize) -> impl FnOnce() + Send {
+    let list = list(Kind::Fleet, MOST_EVENTS, &mut Random::new(1));
+    let (n, m, t) = (list.n, list.m, list.events());
+    let mut answers = vec![0; t];
+    let mut work = vec![0; tables::replay_junctions_work(n, m, t)];
+    move || {
+        let lent = ReplayJunctionsTables {
+            n,
+            m,
+            t,
+            p: share,
+            a: &list.a,
+            b: &list.b,
+            start: &list.start,
+            x: &list.x,
+            y: &list.y,
+            answers: &mut answers,
+            work: &mut work,
+        };
+        tables::replay_junctions(lent).expect("the list is in order");
     }
 }
 
@@ -73,7 +108,10 @@ fn run(call: &str, kb: usize) {
     let call: Box<dyn FnOnce() + Send> = match call {
         "nothing" => Box::new(|| {}),
         "contraction" => Box::new(contract()),
-        share => Box::new(replay(share.parse().expect("a share"))),
+        share => match share.strip_prefix('j') {
+            Some(share) => Box::new(replay_junctions(share.parse().expect("a share"))),
+            None => Box::new(replay(share.parse().expect("a share"))),
+        },
     };
     let thread = thread::Builder::new().stack_size(kb * 1024).spawn(call);
     let ended = thread.expect("a thread").join();
@@ -112,7 +150,12 @@ fn main() -> ExitCode {
                 let name = match call {
                     "nothing" => "none".to_string(),
                     "contraction" => "the contraction".to_string(),
-                    share => format!("a replay with the share {share}"),
+                    share => match share.strip_prefix('j') {
+                        Some(share) => {
+                            format!("a replay by the loss of a junction with the share {share}")
+                        }
+                        None => format!("a replay with the share {share}"),
+                    },
                 };
                 println!("| {name} | {} |", least(call));
             }
