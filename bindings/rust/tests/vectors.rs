@@ -4,23 +4,27 @@ mod common;
 
 use common::{vectors, Graph, List, Numbers};
 
-fn run_replay(r: &mut Numbers, v: vectors::Replay) {
+// What a vector lends, with junk in the tables that are written.
+fn lent(r: &mut Numbers, v: &vectors::Replay) -> List {
     let [answers, names, work] = v.lengths;
-    let l = List {
+    List {
         n: v.n,
         m: v.m,
         t: v.t,
         p: v.p,
-        a: v.a,
-        b: v.b,
-        start: v.start,
-        x: v.x,
-        y: v.y,
+        a: v.a.clone(),
+        b: v.b.clone(),
+        start: v.start.clone(),
+        x: v.x.clone(),
+        y: v.y.clone(),
         answers: r.junk(answers).iter().map(|v| *v as u8).collect(),
         names: r.junk(names),
         work: r.junk(work).iter().map(|v| *v as u32).collect(),
-    };
-    let got = l.compare();
+    }
+}
+
+fn run_replay(r: &mut Numbers, v: vectors::Replay) {
+    let got = lent(r, &v).compare();
     assert_eq!(
         got.reply,
         v.reply.as_ref().map(|r| (r.queries, r.open, r.kept)).map_err(|e| *e)
@@ -39,6 +43,22 @@ fn replays() {
     let all = vectors::replays();
     assert_eq!(all.len(), 55);
     all.into_iter().for_each(|v| run_replay(&mut r, v));
+}
+
+// By the loss of a junction.
+#[test]
+fn junctions() {
+    let mut r = Numbers::from(330_000);
+    let all = vectors::junctions();
+    assert_eq!(all.len(), 80);
+    for v in all {
+        let got = lent(&mut r, &v).compare_junctions();
+        let want = v.reply.as_ref().map(|r| (r.queries, r.open)).map_err(|e| *e);
+        assert_eq!(got.reply, want);
+        if let Ok(want) = v.reply {
+            assert_eq!(got.answers[..v.t], want.answers);
+        }
+    }
 }
 
 // The package has no program: what the program reads is lent to the call, and what it prints is held to the reply.
