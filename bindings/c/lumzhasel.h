@@ -31,10 +31,10 @@
  *
  * A call keeps nothing after it returns, allocates nothing, and reads and writes
  * nothing but its tables, so that calls on different tables may run at the same time.
- * It takes stack: a thread with 64 KB is enough for every call. Replays of 4,096 events ran
- * on one with 48 KB for the shares 4, 5, 8 and 12, and a contraction at the full sizes on
- * one with 16 KB. This is measured (bench/stack; of lum_replay_junctions, that 64 KB are
- * enough for each share, in the Rust package's tests) and not proved.
+ * It takes stack: a thread with 64 KB is enough for every call. Replays of 4,096 events, by
+ * the loss of a road and by that of a junction, ran on one with 48 KB for the shares 4, 5, 8
+ * and 12, and a contraction at the full sizes on one with 16 KB. This is measured
+ * (bench/stack) and not proved.
  *
  * A REPLAY below, where no call is named, is lum_replay or lum_replay_junctions: both take
  * the same network and list and refuse them alike.

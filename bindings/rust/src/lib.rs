@@ -147,10 +147,10 @@
 //! Before its first call it asks the archive for the version of its calls ([`version`]). Where that is
 //! not [`VERSION`], no other call is made, and each function returns [`Error::Version`].
 //!
-//! A call takes stack: a thread with 64 KB is enough for every call. Replays of 4,096 events ran on one
-//! with 48 KB for the shares 4, 5, 8 and 12, and a contraction at the full sizes on one with 16 KB. This
-//! is measured (bench/stack; of a replay by the loss of a junction, that 64 KB are enough for each share, in
-//! this package's tests) and not proved; a thread of `std::thread` has 2 MB by default.
+//! A call takes stack: a thread with 64 KB is enough for every call. Replays of 4,096 events, by the loss of
+//! a road and by that of a junction, ran on one with 48 KB for the shares 4, 5, 8 and 12, and a contraction
+//! at the full sizes on one with 16 KB. This is measured (bench/stack) and not proved; a thread of
+//! `std::thread` has 2 MB by default.
 #![deny(missing_docs)]
 #![deny(unsafe_code)]
 
