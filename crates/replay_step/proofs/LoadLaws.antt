@@ -106,13 +106,17 @@ module _ {w : Window} {most : ℕ} {p : Part} {v : List ℕ} (q : LoadReady w mo
   abbrev s : ℕ
   s = p .scratch
 
-  pub active-need : ActiveReady (p .places) (2 * p .events) s (w .nodes) v
-  active-need = record {
-    front = omega (arith, q .starts, q .ends, q .places, q .front, q .behind);
+  -- any of the window's places can be entered
+  pub active-need : (from count : ℕ) → from + count ≤ 2 * n → ActiveReady from count s (w .nodes) v
+  active-need from count h = record {
+    front = omega (arith, q .front, q .behind);
     room = omega (arith, q .room);
     many = q .many;
-    nodes = λ i l. q .nodes (p .places + i) (omega (arith, q .starts, q .ends, q .places));
+    nodes = λ i l. q .nodes (from + i) (omega arith);
   }
+
+  part-active : ActiveReady (p .places) (2 * p .events) s (w .nodes) v
+  part-active = active-need (p .places) (2 * p .events) (omega (arith, q .starts, q .ends, q .places))
 
   pub edges-need : (z : List ℕ) → take s z ≡ take s v → length z ≡ length v → EdgesReady (5 * n) most (w .edges) s (w .nodes) z
   edges-need z f e = record {
@@ -189,9 +193,9 @@ module _ {w : Window} {most : ℕ} {p : Part} {v : List ℕ} (q : LoadReady w mo
         much = omega (arith, q .much, q .starts, q .ends);
         many = q .many;
         few = omega (arith, C .most, D .most, q .light, q .starts, q .ends);
-        nodes = λ i l. omega (arith, active-need .nodes i l, front-get s (p .places + i) v w₄ front-4 (omega (arith, active-need .front)));
-        entered = rw (mid-less (p .places) (2 * p .events) s v w₄ (omega (arith, active-need .front))
-            (omega (arith, active-need .front, q .room, C .long, D .long)) (omega (arith, active-need .front, q .room)) front-4)
+        nodes = λ i l. omega (arith, part-active .nodes i l, front-get s (p .places + i) v w₄ front-4 (omega (arith, part-active .front)));
+        entered = rw (mid-less (p .places) (2 * p .events) s v w₄ (omega (arith, part-active .front))
+            (omega (arith, part-active .front, q .room, C .long, D .long)) (omega (arith, part-active .front, q .room)) front-4)
             (entered-same (A₁ .entered) (fields MARK (omega arith)) (fields ACTIVE (omega arith)));
         ends = D .edged .ends;
         names = D .edged .names;

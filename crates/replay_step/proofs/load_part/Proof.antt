@@ -7,7 +7,9 @@ use Rattle.replay_step.proofs.load_part.Statement.{statement}
 use Rattle.replay_step.proofs.load_part.Tie as tie
 
 enter-places-requires : tie.Need-enter-places-requires
-enter-places-requires c κs = active-need (c .before .before .before .pre)
+enter-places-requires c κs =
+    let q = c .before .before .before .pre in
+    active-need q _ _ (omega (arith, q .starts, q .ends, q .places))
 
 copy-edges-requires : tie.Need-copy-edges-requires
 copy-edges-requires c κs =
