@@ -55,8 +55,8 @@ table =
     []
 
 -- ---- why each condition under which a junction is merged into its top (specs/Classes, `shares`) is needed: a graph, and the graph after a merge that this one
--- condition forbids, with edges added between active junctions; the reply changes. Lemma 7 of document 000 does not have the third condition at all, and leaves the
--- first two to its proof (docs/theory.md, section 13)
+-- condition forbids, with edges added between active junctions; the reply changes. Of these conditions Lemma 7 of document 000 has the
+-- second in its words and the first in its proof, and the third nowhere (docs/theory.md, section 13)
 abbrev pub merges : List Row
 merges =
     -- the top is active: the path 0-2-1 with 2 merged into 0
