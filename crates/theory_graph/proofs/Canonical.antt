@@ -53,6 +53,7 @@ module _ (E : List Edge) (S : List ℕ) (h : ℕ) (H : List Edge) (ρ σ : ℕ �
       ps = places_same E S h H ρ σ g h H' ρ' σ' g'
 
       at_map : (T : List ℕ) (a : ℕ) → Memᴰ a T → map σ T ≡ map σ' T → σ a ≡ σ' a
+      at_map [] a x6 e = elim x6 [ ]
       at_map (x ∷ T) a (Memᴰ.head p) e = ap σ p ∙ ap (λ l. first l) e ∙ sym (ap σ' p)
         where
           first : List ℕ → ℕ
@@ -86,6 +87,7 @@ module _ (E : List Edge) (S : List ℕ) (h : ℕ) (H : List Edge) (ρ σ : ℕ �
       (λ t. k (λ a m q. contradict (any_in (λ a. eqb (σ a) i) m (eq-eqb (σ a) i q)) t))
 
   at_places : (T : List ℕ) (a : ℕ) → Memᴰ a T → map σ T ≡ map σ' T → σ a ≡ σ' a
+  at_places [] a x'' e = elim x'' [ ]
   at_places (x ∷ T) a (Memᴰ.head p) e = ap σ p ∙ ap (λ l. first l) e ∙ sym (ap σ' p)
     where
       first : List ℕ → ℕ

@@ -134,6 +134,7 @@ crossing_in U (e ∷ H) h =
     let (f, m, c) = crossing_in U H (omega (arith, ltb-false 0 (crossing U e) t)) in (f, Memᴰ.tail m, c)
 
 pub in_crossing : (U : NodeSet) (e : Edge) {H : List Edge} → Memᴰ e H → 0 < crossing U e → 0 < cut U H
+in_crossing U e {H = []} x5 c = elim x5 [ ]
 in_crossing U e {H = f ∷ H} (Memᴰ.head p) c = let c' : 0 < crossing U f = subst (λ (g : Edge). 0 < crossing U g) p c in omega arith
 in_crossing U e {H = f ∷ H} (Memᴰ.tail m) c = omega (arith, in_crossing U e m c)
 

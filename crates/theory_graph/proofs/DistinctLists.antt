@@ -40,6 +40,7 @@ others x J = filter (λ u. not (eqb u x)) J
 
 pub others_fewer : (x : ℕ) (J : List ℕ) → Memᴰ x J → length (others x J) + 1 ≤ length J
 unfolding others
+others_fewer x [] x'' = elim x'' [ ]
 others_fewer x (y ∷ J) (Memᴰ.head p) =
     let e : others x (y ∷ J) ≡ others x J = ap (λ b. cond (not b) (y ∷ filter (λ u. not (eqb u x)) J) (filter (λ u. not (eqb u x)) J)) (eq-eqb y x (sym p)) in
     omega (arith, ap (λ l. length l) e, others_less J)

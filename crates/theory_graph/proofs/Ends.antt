@@ -16,6 +16,7 @@ ends_in_mem N [] f = refl
 ends_in_mem N (e ∷ E) f = let (p, q) = f e.0 e.1 (Memᴰ.head refl) in ap₂ ◌&&◌ p (ap₂ ◌&&◌ q (ends_in_mem N E (λ i j m. f i j (Memᴰ.tail m))))
 
 pub ends_in_of : (N : NodeSet) (E : List Edge) {e : Edge} → ends_in N E ≡ true → Memᴰ e E → (N e.0 ≡ true) × (N e.1 ≡ true)
+ends_in_of N [] {e = e} h x'' = elim x'' [ ]
 ends_in_of N (f ∷ E) h (Memᴰ.head p) = and_elim (N f.0) (N f.1 && ends_in N E) h λ a b. and_elim (N f.1) (ends_in N E) b λ c r.
     (ap (λ (e : Edge). N e.0) p ∙ a, ap (λ (e : Edge). N e.1) p ∙ c)
 ends_in_of N (f ∷ E) h (Memᴰ.tail m) = and_elim (N f.0) (N f.1 && ends_in N E) h λ a b. and_elim (N f.1) (ends_in N E) b λ c r. ends_in_of N E r m

@@ -177,7 +177,7 @@ module _ (E : List Edge) (S : List ℕ) (h : ℕ) (H : List Edge) (ρ σ : ℕ �
 
   spread_closed : (X : NodeSet) (n : ℕ) → cut (spread X n) E ≤ 0
   spread_closed X zero = closed_empty E
-  spread_closed X (suc n) = closed_union _ _ E (closed_when (X n) _ E (reach_closed E (ρ n))) (spread_closed X n)
+  spread_closed X (suc n) = closed_union (when (X n) (reach E (ρ n))) (spread X n) E (closed_when (X n) (reach E (ρ n)) E (reach_closed E (ρ n))) (spread_closed X n)
 
   spread_in : (X : NodeSet) (n k v : ℕ) → k < n → X k ≡ true → reach E (ρ k) v ≡ true → spread X n v ≡ true
   spread_in X zero k v l Xk r = absurd (omega arith)

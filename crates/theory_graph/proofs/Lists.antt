@@ -19,11 +19,13 @@ any_find f [] h = contradict h refl
 any_find f (x ∷ xs) h = or_elim _ _ h (λ p. (x, Memᴰ.head refl, p)) λ p. let (a, m, q) = any_find f xs p in (a, Memᴰ.tail m, q)
 
 pub any_in : (f : ℕ → Bool) {a : ℕ} {xs : List ℕ} → Memᴰ a xs → f a ≡ true → any f xs ≡ true
+any_in f {a = a} {xs = []} x5 q = elim x5 [ ]
 any_in f {xs = x ∷ xs} (Memᴰ.head p) q = ap (λ b. b || any f xs) (ap f (sym p) ∙ q)
 any_in f {xs = x ∷ xs} (Memᴰ.tail m) q = ap (λ b. f x || b) (any_in f m q) ∙ or-true (f x)
 
 -- every entry passes a test just where each one does
 pub tests_each : {A : Type 0} (f : A → Bool) (a : A) (l : List A) → all f l ≡ true → Memᴰ a l → f a ≡ true
+tests_each {A = A} f a [] h x'' = elim x'' [ ]
 tests_each f a (x ∷ l) h (Memᴰ.head p) = and_elim (f x) (all f l) h λ q r. ap f p ∙ q
 tests_each f a (x ∷ l) h (Memᴰ.tail m) = and_elim (f x) (all f l) h λ q r. tests_each f a l r m
 
@@ -74,10 +76,12 @@ member_mem [] a h = contradict h refl
 member_mem (x ∷ S) a h = or_elim _ _ h (λ p. Memᴰ.head (eqb-true a x p)) (λ p. Memᴰ.tail (member_mem S a p))
 
 pub mem_map : (f : ℕ → ℕ) {a : ℕ} {S : List ℕ} → Memᴰ a S → Memᴰ (f a) (map f S)
+mem_map f {a = a} {S = []} x'' = elim x'' [ ]
 mem_map f {S = x ∷ S} (Memᴰ.head p) = Memᴰ.head (ap f p)
 mem_map f {S = x ∷ S} (Memᴰ.tail m) = Memᴰ.tail (mem_map f m)
 
 pub map_mem : (f : ℕ → ℕ) (y : ℕ) (S : List ℕ) → Memᴰ y (map f S) → (a : ℕ) × Memᴰ a S × (y ≡ f a)
+map_mem f y [] x' = elim x' [ ]
 map_mem f y (x ∷ S) (Memᴰ.head p) = (x, Memᴰ.head refl, p)
 map_mem f y (x ∷ S) (Memᴰ.tail m) = let (a, n, e) = map_mem f y S m in (a, Memᴰ.tail n, e)
 
@@ -100,6 +104,7 @@ filter_in f a (x ∷ xs) m = go (f x) refl m (filter_in f a xs)
     go false e m ih = let (n, q) = ih m in (Memᴰ.tail n, q)
 
 pub in_filter : {A : Type 0} (f : A → Bool) (a : A) (xs : List A) → Memᴰ a xs → f a ≡ true → Memᴰ a (filter f xs)
+in_filter {A = A} f a [] x'' q = elim x'' [ ]
 in_filter f a (x ∷ xs) (Memᴰ.head p) q = subst (λ (b : Bool). Memᴰ a (cond b (x ∷ filter f xs) (filter f xs))) (sym (ap f (sym p) ∙ q)) (Memᴰ.head p)
 in_filter f a (x ∷ xs) (Memᴰ.tail m) q = go (f x) (in_filter f a xs m q)
   where
@@ -124,11 +129,13 @@ firsts_append R (x ∷ xs) ys =
     (filter p us, ap (λ (l : List ℕ). x ∷ l) (ap (filter p) e ∙ filter_append p (firsts R xs) us))
 
 pub firsts_in : (R : ℕ → ℕ → Bool) (a : ℕ) (xs : List ℕ) → Memᴰ a (firsts R xs) → Memᴰ a xs
+firsts_in R a [] x' = elim x' [ ]
 firsts_in R a (x ∷ xs) (Memᴰ.head p) = Memᴰ.head p
 firsts_in R a (x ∷ xs) (Memᴰ.tail m) = Memᴰ.tail (firsts_in R a xs (filter_in (λ y. not (R x y)) a (firsts R xs) m).0)
 
 pub firsts_cover : (R : ℕ → ℕ → Bool) → ((x : ℕ) → R x x ≡ true) → ((x y z : ℕ) → R x y ≡ true → R y z ≡ true → R x z ≡ true)
     → (a : ℕ) (xs : List ℕ) → Memᴰ a xs → (c : ℕ) × Memᴰ c (firsts R xs) × (R c a ≡ true)
+firsts_cover R r t a [] x' = elim x' [ ]
 firsts_cover R r t a (x ∷ xs) (Memᴰ.head p) = (x, Memᴰ.head refl, subst (λ (v : ℕ). R x v ≡ true) (sym p) (r x))
 firsts_cover R r t a (x ∷ xs) (Memᴰ.tail m) =
     let (c, n, q) = firsts_cover R r t a xs m in
@@ -201,6 +208,7 @@ nth_in here = Memᴰ.head refl
 nth_in (there n) = Memᴰ.tail (nth_in n)
 
 pub in_nth : (r i : ℕ) (xs : List ℕ) → Memᴰ r xs → (k : ℕ) × Nth r i xs k
+in_nth r i [] x' = elim x' [ ]
 in_nth r i (x ∷ xs) (Memᴰ.head p) = (i, subst (λ (v : ℕ). Nth r i (v ∷ xs) i) p here)
 in_nth r i (x ∷ xs) (Memᴰ.tail m) = let (k, n) = in_nth r (suc i) xs m in (k, there n)
 
@@ -227,6 +235,7 @@ pairwise_nth R p here here l t = omega arith
 pairwise_nth R {r} {s} p (here {xs = xs}) (there n) l t = contradict (of (λ y. not (R r y)) xs p.0 (nth_in n)) (ap not t)
   where
     of : (P : ℕ → Bool) {s : ℕ} (xs : List ℕ) → All (λ y. P y ≡ true) xs → Memᴰ s xs → P s ≡ true
+    of P [] a x24 = elim x24 [ ]
     of P (x ∷ xs) a (Memᴰ.head q) = ap P q ∙ a.0
     of P (x ∷ xs) a (Memᴰ.tail m) = of P xs a.1 m
 pairwise_nth R p (there m) here l t = let (a, b) = nth_low m in omega arith
@@ -236,6 +245,7 @@ pairwise_nth R p (there m) (there n) l t = pairwise_nth R p.1 m n l t
 pub mem_append : {A : Type 0} {a : A} (xs ys : List A) → Memᴰ a xs ⊎ Memᴰ a ys → Memᴰ a (xs ++ ys)
 mem_append (x ∷ xs) ys (inl (Memᴰ.head p)) = Memᴰ.head p
 mem_append (x ∷ xs) ys (inl (Memᴰ.tail m)) = Memᴰ.tail (mem_append xs ys (inl m))
+mem_append {A = A} {a = a} [] ys (inl x'') = elim x'' [ ]
 mem_append [] ys (inr m) = m
 mem_append (x ∷ xs) ys (inr m) = Memᴰ.tail (mem_append xs ys (inr m))
 
@@ -270,6 +280,7 @@ range_mem z i (suc n) a b = on_bool (eqb z i) (λ t. Memᴰ.head (eqb-true z i t
     (range_mem z (suc i) n (omega arith) (omega arith))
 
 pub position_nth : (f : ℕ → Bool) (i c : ℕ) (xs : List ℕ) → Memᴰ c xs → f c ≡ true → (s : ℕ) × Nth s i xs (i + position f xs) × (f s ≡ true)
+position_nth f i c [] m p = elim m [ ]
 position_nth f i c (x ∷ xs) m p = go (f x) refl m (λ n. position_nth f (suc i) c xs n p)
   where
     go : (b : Bool) → f x ≡ b → Memᴰ c (x ∷ xs) → (Memᴰ c xs → (s : ℕ) × Nth s (suc i) xs (suc i + position f xs) × (f s ≡ true)) → (s : ℕ)
@@ -283,6 +294,7 @@ position_nth f i c (x ∷ xs) m p = go (f x) refl m (λ n. position_nth f (suc i
 
 -- what stands behind an entry that passes does not matter
 pub position_append : (f : ℕ → Bool) (c : ℕ) (xs ys : List ℕ) → Memᴰ c xs → f c ≡ true → position f (xs ++ ys) ≡ position f xs
+position_append f c [] ys m p = elim m [ ]
 position_append f c (x ∷ xs) ys m p = go (f x) refl m (λ n. position_append f c xs ys n p)
   where
     go : (b : Bool) → f x ≡ b → Memᴰ c (x ∷ xs) → (Memᴰ c xs → position f (xs ++ ys) ≡ position f xs)
@@ -341,6 +353,7 @@ ordered_firsts P R (x ∷ xs) o = (
 )
 
 all_at : (P : ℕ → Type 0) (a : ℕ) (xs : List ℕ) → All P xs → Memᴰ a xs → P a
+all_at P a [] o x'' = elim x'' [ ]
 all_at P a (x ∷ xs) o (Memᴰ.head p) = subst P (sym p) o.0
 all_at P a (x ∷ xs) o (Memᴰ.tail m) = all_at P a xs o.1 m
 
@@ -351,6 +364,7 @@ all_give P (x ∷ xs) f = (f x (Memᴰ.head refl), all_give P xs (λ a m. f a (M
 -- the first of a's group stands before a
 pub firsts_before : (P : ℕ → ℕ → Type 0) (R : ℕ → ℕ → Bool) → ((x : ℕ) → R x x ≡ true) → ((x y z : ℕ) → R x y ≡ true → R y z ≡ true → R x z ≡ true)
     → (a : ℕ) (xs : List ℕ) → Ordered P xs → Memᴰ a xs → (c : ℕ) × Memᴰ c (firsts R xs) × (R c a ≡ true) × ((c ≡ a) ⊎ P c a)
+firsts_before P R r t a [] o x'' = elim x'' [ ]
 firsts_before P R r t a (x ∷ xs) o (Memᴰ.head p) = (x, Memᴰ.head refl, subst (λ (v : ℕ). R x v ≡ true) (sym p) (r x), inl (sym p))
 firsts_before P R r t a (x ∷ xs) o (Memᴰ.tail m) =
     let (c, n, q, b) = firsts_before P R r t a xs o.1 m in
@@ -376,6 +390,7 @@ ordered_map P Q [] f o = tt
 ordered_map P Q (x ∷ xs) f o = (all_give (Q x) xs (λ a m. f x a (all_at (P x) a xs o.0 m)), ordered_map P Q xs f o.1)
 
 pub map_same : (σ σ' : ℕ → ℕ) (S : List ℕ) → map σ S ≡ map σ' S → (a : ℕ) → Memᴰ a S → σ a ≡ σ' a
+map_same σ σ' [] e a x'' = elim x'' [ ]
 map_same σ σ' (x ∷ S) e a (Memᴰ.head p) = ap σ p ∙ hd ∙ ap σ' (sym p)
   where
     hd : σ x ≡ σ' x
@@ -386,5 +401,6 @@ map_same σ σ' (x ∷ S) e a (Memᴰ.tail m) = map_same σ σ' S tl a m
     tl = cc
 
 pub mem_member : (a : ℕ) (S : List ℕ) → Memᴰ a S → member S a ≡ true
+mem_member a [] x' = elim x' [ ]
 mem_member a (x ∷ S) (Memᴰ.head p) = ap (λ b. b || member S a) (eq-eqb a x p)
 mem_member a (x ∷ S) (Memᴰ.tail m) = ap (λ b. eqb a x || b) (mem_member a S m) ∙ or-true (eqb a x)

@@ -4,7 +4,7 @@
 -- Assumes nothing.
 use Prim.Native.Nat.{◌<◌, suc, zero, ℕ}
 use mathlib.Core.Bool.{Bool, cond, false, not, true}
-use mathlib.Core.List.{List, Memᴰ, [], ◌++◌, ◌∷◌, append_nil, map}
+use mathlib.Core.List.{List, Memᴰ, [], ◌++◌, ◌∷◌, append-nil, map}
 use mathlib.Core.Logic.{◌↔◌}
 use mathlib.Core.Path.{◌∙◌, ◌≡◌, ap, ap₂, refl, subst, sym}
 use lib.Dec.{eqb, ltb}
@@ -41,6 +41,7 @@ get_or_mem (x ∷ S) zero l = Memᴰ.head refl
 get_or_mem (x ∷ S) (suc i) l = Memᴰ.tail (get_or_mem S i (omega arith))
 
 mem_get_or : (S : List ℕ) (a : ℕ) → Memᴰ a S → (i : ℕ) × (i < length S) × (get_or S i 0 ≡ a)
+mem_get_or [] a x' = elim x' [ ]
 mem_get_or (x ∷ S) a (Memᴰ.head p) = (0, omega arith, sym p)
 mem_get_or (x ∷ S) a (Memᴰ.tail m) = let (i, l, e) = mem_get_or S a m in (suc i, omega arith, e)
 
@@ -107,7 +108,7 @@ module _ {R : ℕ → ℕ → Bool} (q : Equivalence R) (S : List ℕ) where
   numbered_order : in_order 0 (numbered R S) ≡ true
   unfolding numbered
   numbered_order = in_order_lem R q.self q.join (group R S) [] S (λ x. true) 0 (λ x c p f. refl)
-      (λ a e. sym (zero-add (position (λ c. R c a) (filter (λ x. true) (firsts R (S ++ [])))) ∙ ap (position (λ c. R c a)) (filter_true (firsts R (S ++ [])) ∙ ap (firsts R) (append_nil S))))
+      (λ a e. sym (zero-add (position (λ c. R c a) (filter (λ x. true) (firsts R (S ++ [])))) ∙ ap (position (λ c. R c a)) (filter_true (firsts R (S ++ [])) ∙ ap (firsts R) (append-nil S))))
       (λ a e. contradict refl e)
 
   -- in a longer list its group has the same number

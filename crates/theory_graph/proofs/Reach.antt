@@ -43,11 +43,13 @@ reach_closed [] x = omega arith
 reach_closed (e ∷ E) x =
     let same : reach (e ∷ E) x e.0 ≡ reach (e ∷ E) x e.1 =
     rw (reach_self E e.0, reach_self E e.1) (first_edge (reach E x e.0) (reach E x e.1) (reach E e.1 e.0) (reach E e.0 e.1)) in
+    let P : NodeSet = when (reach E x e.0) (reach E e.1) in
+    let Q : NodeSet = when (reach E x e.1) (reach E e.0) in
     omega (
       arith,
       crosses_same same,
-      closed_union _ _ E (reach_closed E x)
-          (closed_union _ _ E (closed_when (reach E x e.0) _ E (reach_closed E e.1)) (closed_when (reach E x e.1) _ E (reach_closed E e.0))),
+      closed_union (reach E x) (P ∪ Q) E (reach_closed E x)
+          (closed_union P Q E (closed_when (reach E x e.0) (reach E e.1) E (reach_closed E e.1)) (closed_when (reach E x e.1) (reach E e.0) E (reach_closed E e.0))),
     )
 
 -- joined is decided by reach

@@ -67,6 +67,7 @@ two_active E x y z k =
   where
     which : {a : ℕ} → Memᴰ a (x ∷ y ∷ []) → (a ≡ x) ⊎ (a ≡ y)
     which (Memᴰ.head p) = inl p
+    which {a = a} (mathlib.Core.List.Memᴰ.tail (mathlib.Core.List.Memᴰ.tail x9)) = elim x9 [ ]
     which (Memᴰ.tail (Memᴰ.head p)) = inr p
 
     hit : {a : ℕ} → Memᴰ a (x ∷ y ∷ []) → TwoEdgeConnected E z a → TwoEdgeConnected E z x ⊎ TwoEdgeConnected E z y

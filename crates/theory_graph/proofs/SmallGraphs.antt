@@ -44,6 +44,7 @@ pub record SmallGraph (E : List Edge) (S : List ℕ) (h : ℕ) (H : List Edge) (
   pub linked : (i j : ℕ) → i < j → j < h → Linked E h ρ i j → Memᴰ (i, j) H
 
 pub less_all_in : (e f : Edge) {H : List Edge} → LessAll e H → Memᴰ f H → EdgeLess e f
+less_all_in e f {H = []} a x5 = elim x5 [ ]
 less_all_in e f {H = g ∷ H} a (Memᴰ.head p) = subst (λ (g : Edge). EdgeLess e g) (sym p) a.0
 less_all_in e f {H = g ∷ H} a (Memᴰ.tail m) = less_all_in e f a.1 m
 
