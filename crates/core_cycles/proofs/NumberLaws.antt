@@ -22,7 +22,7 @@ use Rattle.core_words.proofs.FieldLaws.{update_at, update_other, update_same}
 use Rattle.core_words.specs.Fields.{update}
 use Rattle.core_forest.specs.Forest.{edges_below}
 use Rattle.core_cycles.proofs.CountLaws.{seen_fit}
-use Rattle.core_cycles.proofs.OrderLaws.{and_off, and_rotate, append_nil, code_same, code_snoc, count_append, last_either, not_positive, rising_before, single_length, table_cut}
+use Rattle.core_cycles.proofs.OrderLaws.{and_off, and_rotate, append-nil, code_same, code_snoc, count_append, last_either, not_positive, rising_before, single_length, table_cut}
 use Rattle.core_cycles.specs.BlocksIn.{BlocksBy}
 use Rattle.core_cycles.specs.Numbering.{NumbersBy, from_code, last_by, last_code, numbered, shares_by}
 
@@ -177,7 +177,7 @@ module _ {n m k seen i h : ℕ} {to act ord te par top mark members below number
 
   -- a class that does not hold v
   not_held : (c : ℕ) → (B.child v && (rel v && eqb (B.first v) c)) ≡ false → members_in B rel ps c ++ members_in B rel (v ∷ []) c ≡ members_in B rel ps c
-  not_held c e = ap (λ x. members_in B rel ps c ++ cond x (v ∷ []) []) e ∙ append_nil (members_in B rel ps c)
+  not_held c e = ap (λ x. members_in B rel ps c ++ cond x (v ∷ []) []) e ∙ append-nil (members_in B rel ps c)
 
   members_early : (c u : ℕ) → Memᴰ u (members_in B rel ps c) → B.pos u < B.pos v
   members_early c u q = let (j, g, e, x, y, z) = member_place b i c u q in omega (arith, ap B.pos e, place_less b j i g l)

@@ -66,9 +66,9 @@ pub count_append : (f : ℕ → Bool) (xs ys : List ℕ) → count f (xs ++ ys) 
 count_append f [] ys = omega arith
 count_append f (x ∷ xs) ys = omega (arith, count_append f xs ys)
 
-pub append_nil : {A : Type 0} (xs : List A) → xs ++ [] ≡ xs
-append_nil [] = refl
-append_nil (x ∷ xs) = ap (λ l. x ∷ l) (append_nil xs)
+pub append-nil : {A : Type 0} (xs : List A) → xs ++ [] ≡ xs
+append-nil [] = refl
+append-nil (x ∷ xs) = ap (λ l. x ∷ l) (append-nil xs)
 
 -- ---- the last entry
 pub last_in : (u : ℕ) (us : List ℕ) → Memᴰ (last_of u us) (u ∷ us)

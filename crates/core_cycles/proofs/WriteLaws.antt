@@ -21,7 +21,7 @@ use Rattle.core_words.specs.Fields.{ACTIVE, EDGE, MAPPED, NUMBER, ORDER, PARENT,
 use Rattle.core_forest.specs.Forest.{edges_below}
 use Rattle.core_loading.proofs.LoadingLaws.{halves_kept}
 use Rattle.core_cycles.proofs.NumberLaws.{member_place, relevant_seen, source, source_relevant}
-use Rattle.core_cycles.proofs.OrderLaws.{append_nil, count_few, last_in}
+use Rattle.core_cycles.proofs.OrderLaws.{append-nil, count_few, last_in}
 use Rattle.core_cycles.specs.BlocksIn.{BlocksBy, FROM, LAST, MEMBERS}
 use Rattle.core_cycles.specs.Numbering.{NumbersBy, last_code, numbered}
 use Rattle.core_cycles.specs.Writing.{CanMap, CanWriteCycles, CanWriteEdge, CanWriteNode, Mapping, Writing, Written, closing_at, closing_by, edge_if, edges_at, edges_behind, edges_to}
@@ -43,7 +43,7 @@ written_none {n} {m} {e} {a} {b} {w} h z = record {
   nodes = λ j i v l. refl;
   past = λ i l. refl;
   count = let q = ap (λ (l : List Edge). length l) (if_none a b z) in omega (arith, q);
-  edges = sym (append_nil (edges_behind n m e w)) ∙ ap (λ (l : List Edge). edges_behind n m e w ++ l) (sym (if_none a b z));
+  edges = sym (append-nil (edges_behind n m e w)) ∙ ap (λ (l : List Edge). edges_behind n m e w ++ l) (sym (if_none a b z));
 }
 
 pub written_one : {n m e a b : ℕ} {w w₁ w₂ : List ℕ} → CanWriteEdge n m e a b w → ¬ (a ≡ 0) → PutHalf n TO (2 * (m + e)) (a - 1) w w₁ → PutHalf n TO (2 * (m + e) + 1) b w₁ w₂

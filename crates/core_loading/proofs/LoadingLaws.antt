@@ -2,7 +2,7 @@
 -- Assumes nothing.
 use Prim.Native.Nat.{◌%◌, ◌*◌, ◌+◌, ◌-◌, ◌/◌, ◌<◌, ◌≤◌, suc, zero, ℕ}
 use mathlib.Core.Bool.{Bool, ◌||◌, cond, false, not, or-true, true}
-use mathlib.Core.List.{List, Memᴰ, [], ◌++◌, ◌∷◌, append_nil}
+use mathlib.Core.List.{List, Memᴰ, [], ◌++◌, ◌∷◌, append-nil}
 use mathlib.Core.Path.{◌∙◌, ◌≡◌, ap, ap₂, refl, subst, sym}
 use lib.Dec.{eqb}
 use lib.ListN.{get_or, length}
@@ -42,7 +42,7 @@ firsts_again (x ∷ xs) v m =
     let a : eqb v x ≡ true = on_bool (eqb v x) (λ e. e) (λ e. contradict m (ap₂ ◌||◌ e b)) in
     let q : eqb x v ≡ true = eq-eqb x v (sym (eqb-true v x a)) in
     let none : filter p (v ∷ []) ≡ [] = ap (λ (b : Bool). cond (not b) (v ∷ []) []) q in
-    ap (filter p) (firsts_new xs v b) ∙ filter_append p (firsts eqb xs) (v ∷ []) ∙ ap (λ (l : List ℕ). filter p (firsts eqb xs) ++ l) none ∙ append_nil (filter p (firsts eqb xs))))
+    ap (filter p) (firsts_new xs v b) ∙ filter_append p (firsts eqb xs) (v ∷ []) ∙ ap (λ (l : List ℕ). filter p (firsts eqb xs) ++ l) none ∙ append-nil (filter p (firsts eqb xs))))
 
 -- different numbers below n are at most n
 distinct_most : (n : ℕ) (xs : List ℕ) → Pairwise eqb xs → All (λ x. x < n) xs → length xs ≤ n

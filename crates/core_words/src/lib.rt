@@ -1,5 +1,7 @@
 // The words of a graph that is contracted: sixteen for each node, told by the names of fields, then three for each half-edge. They are read, set and cleared
 // here, and what is proved of the crates above is said of these fields. In order: the fields' names, one word, fields of nodes, fields of half-edges, clearing.
+#![tactic(auto)]
+
 ghost use Rattle.std.specs.Prelude.{◌≡◌, [], ◌∷◌, ◌+◌, ◌*◌, ◌<◌, ◌≤◌, get_or, length, replicate};
 ghost use Rattle.theory_graph.specs.Lists.{over};
 ghost use Rattle.core_words.specs.Clearing.{Cleared};

@@ -2,7 +2,7 @@
 -- Assumes nothing.
 use Prim.Native.Nat.{◌%◌, ◌+◌, ◌/◌, ◌<◌, ◌^◌, ◌≤◌, suc, zero, ℕ}
 use mathlib.Core.Bool.{Bool, false, true}
-use mathlib.Core.List.{List, [], ◌++◌, ◌∷◌, append_assoc, append_nil}
+use mathlib.Core.List.{List, [], ◌++◌, ◌∷◌, append_assoc, append-nil}
 use mathlib.Core.Path.{◌∙◌, ◌≡◌, ap, ap₂, refl, subst, sym}
 use lib.Dec.{ltb}
 use lib.ListN.{get_or, length, length-append, set, take}
@@ -113,7 +113,7 @@ module _ (n : ℕ) (x answers : List ℕ) where
 
   pub lines_query : (i : ℕ) → is_query (kind_of n (get_or x i 0)) ≡ true → lines i 1 ≡ query_line i (get_or answers i 0)
   unfolding query_lines
-  lines_query i h = ap (λ (b : Bool). inFront i b []) h ∙ append_nil (query_line i (get_or answers i 0))
+  lines_query i h = ap (λ (b : Bool). inFront i b []) h ∙ append-nil (query_line i (get_or answers i 0))
 
   pub lines_none : (i : ℕ) → is_query (kind_of n (get_or x i 0)) ≡ false → lines i 1 ≡ []
   unfolding query_lines

@@ -3,7 +3,7 @@
 -- Assumes nothing.
 use Prim.Native.Nat.{◌*◌, ◌+◌, ◌-◌, ◌<◌, ◌≤◌, suc, ℕ}
 use mathlib.Core.Bool.{Bool, cond, false, true}
-use mathlib.Core.List.{List, [], ◌++◌, ◌∷◌, append_assoc, append_nil}
+use mathlib.Core.List.{List, [], ◌++◌, ◌∷◌, append_assoc, append-nil}
 use mathlib.Core.Path.{◌∙◌, ◌≡◌, ap, ap₂, refl, sym}
 use lib.Dec.{eqb}
 use lib.ListN.{drop, get_or, length, length-drop, length-take, take}
@@ -84,13 +84,13 @@ module _ {s n : ℕ} {f : ℕ → Bool} {E : ℕ → Entry} {i m : ℕ} {v : Lis
   pub added_none : AddedBy s n f E i i m v v m
   added_none =
       let z : i - i ≡ 0 = omega arith in
-      record { long = refl; edged = edged_none s n m v there; more = sym (ap (λ (k : ℕ). edges_in n m (drop s v) ++ pick_events f E i k) z ∙ append_nil (edges_in n m (drop s v))); most = omega arith }
+      record { long = refl; edged = edged_none s n m v there; more = sym (ap (λ (k : ℕ). edges_in n m (drop s v) ++ pick_events f E i k) z ∙ append-nil (edges_in n m (drop s v))); most = omega arith }
 
   pub added_skip : f i ≡ false → AddedBy s n f E i (i + 1) m v v m
   added_skip e = record {
     long = refl;
     edged = edged_none s n m v there;
-    more = sym (ap (λ (G : Named). edges_in n m (drop s v) ++ G) (one_number f E i false e) ∙ append_nil (edges_in n m (drop s v)));
+    more = sym (ap (λ (G : Named). edges_in n m (drop s v) ++ G) (one_number f E i false e) ∙ append-nil (edges_in n m (drop s v)));
     most = omega arith;
   }
 

@@ -129,11 +129,11 @@ take_whole s w = take_all (length w - s) (drop s w) (rw length-drop (omega arith
 pub drop_back : (s : ℕ) (w z : List ℕ) → s ≤ length w → drop s (put_mid s (length w - s) w z) ≡ z
 drop_back s w z l =
     drop_at (take s w) (z ++ drop (length w - s) (drop s w)) s (length-take-le s w l)
-    ∙ ap (λ k. z ++ k) (drop_of_length-le (drop s w) {i = length w - s} (rw length-drop (omega arith))) ∙ append_nil z
+    ∙ ap (λ k. z ++ k) (drop_of_length-le (drop s w) {i = length w - s} (rw length-drop (omega arith))) ∙ append-nil z
   where
-    append_nil : (z : List ℕ) → z ++ [] ≡ z
-    append_nil [] = refl
-    append_nil (x ∷ z) = ap (λ l. x ∷ l) (append_nil z)
+    append-nil : (z : List ℕ) → z ++ [] ≡ z
+    append-nil [] = refl
+    append-nil (x ∷ z) = ap (λ l. x ∷ l) (append-nil z)
 
 pub mid_take : (i k j : ℕ) (l : List ℕ) → i + k ≤ j → j ≤ length l → take k (drop i (take j l)) ≡ take k (drop i l)
 mid_take i k j l h b = mid_drop i k (take j l) (rw length-take (omega arith)) ∙ ap (drop i) (take-take (i + k) j l h) ∙ sym (mid_drop i k l (omega arith))

@@ -14,7 +14,6 @@ use Rattle.theory_graph.proofs.Uniqueness.{edges_same, places_same}
 use Rattle.theory_graph.specs.Cut.{TwoEdgeConnected}
 use Rattle.theory_graph.specs.Graph.{Edge}
 use Rattle.theory_graph.specs.Lists.{any}
-use Rattle.theory_graph.specs.Route.{back}
 use Rattle.theory_graph.specs.SmallGraph.{Canonical, Idle}
 
 module _ (E : List Edge) (S : List ℕ) (h : ℕ) (H : List Edge) (ρ σ : ℕ → ℕ) (g : SmallGraph E S h H ρ σ) (c : Canonical E S h ρ σ) (H' : List Edge) (ρ' σ' : ℕ → ℕ)

@@ -12,7 +12,7 @@ use native.Mathlib.Omega.{arith}
 use borrow.Author.Tests.{eq-eqb, eqb-false, eqb-true, ne_eqb, not-true}
 use Rattle.theory_graph.proofs.ActiveLists.{in_firsts}
 use Rattle.theory_graph.proofs.Booleans.{on_bool}
-use Rattle.theory_graph.proofs.Lists.{filter_in, firsts_cover, mem_append}
+use Rattle.theory_graph.proofs.Lists.{filter_in, mem_append}
 use Rattle.theory_graph.specs.Lists.{Distinct, filter, firsts}
 use Rattle.theory_graph.specs.SmallGraph.{different}
 

@@ -23,7 +23,6 @@ use Rattle.theory_graph.proofs.SmallGraphs.{Linked, OnePerClass}
 use Rattle.theory_graph.specs.Contraction.{kept, linked, third}
 use Rattle.theory_graph.specs.Cut.{Connected, CutOff, TwoEdgeConnected, ◌∩◌, crosses, cut, ∁}
 use Rattle.theory_graph.specs.Graph.{Edge, NodeSet, induced, joined, two_edge}
-use Rattle.theory_graph.specs.Route.{stay}
 
 -- ---- edges on both sides of a set
 two_sides : (R U : NodeSet) (E : List Edge) → cut U (induced R E) + cut U (induced (∁ R) E) ≤ cut U E

@@ -14,7 +14,6 @@ use Rattle.theory_graph.proofs.Lists.{Nth, filter_both, here, mem_append, nth_lo
 use Rattle.theory_graph.specs.Contraction.{links, links_from}
 use Rattle.theory_graph.specs.Graph.{Edge}
 use Rattle.theory_graph.specs.Lists.{filter, firsts, position}
-use Rattle.theory_graph.specs.Route.{next}
 use Rattle.theory_graph.specs.SmallGraph.{Ascends, EdgeLess, LessAll, in_order}
 
 links_from_out : (L : ℕ → Bool) (i j : ℕ) (ss : List ℕ) (e : Edge) → Memᴰ e (links_from L i j ss) → (e.0 ≡ i) × ((s : ℕ) × Nth s j ss e.1 × (L s ≡ true))

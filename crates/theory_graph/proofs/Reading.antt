@@ -21,7 +21,6 @@ use Rattle.theory_graph.proofs.SmallGraphs.{SmallGraph}
 use Rattle.theory_graph.proofs.Transfer.{separated_same}
 use Rattle.theory_graph.specs.Cut.{Connected, Separated, TwoEdgeConnected}
 use Rattle.theory_graph.specs.Graph.{Edge}
-use Rattle.theory_graph.specs.Route.{back}
 use Rattle.theory_graph.specs.SmallGraph.{no_edge, read_off}
 
 -- ---- the answer of two active nodes, read off

@@ -16,10 +16,8 @@ use Rattle.theory_graph.proofs.Ends.{ends_in_mem}
 use Rattle.theory_graph.proofs.Kept.{Kept, kept_median}
 use Rattle.theory_graph.proofs.Medians.{Median, between_class, between_sym, cut_one_piece, median, median_between, median_swap23}
 use Rattle.theory_graph.proofs.Separation.{cuts_uncrossed, insep_cut, insep_sym, insep_trans, same_side}
-use Rattle.theory_graph.specs.Contraction.{kept, linked, third}
 use Rattle.theory_graph.specs.Cut.{Between, Connected, TwoEdgeConnected, cut, ∁}
 use Rattle.theory_graph.specs.Graph.{Edge, NodeSet}
-use Rattle.theory_graph.specs.Lists.{all}
 use Rattle.theory_graph.specs.SmallGraph.{Ascends, EdgeLess, LessAll, ◌∘◌, ends_in, in_order}
 
 -- i and j are joined, and no third node lies between

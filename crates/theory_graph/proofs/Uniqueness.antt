@@ -13,7 +13,7 @@ use Rattle.theory_graph.proofs.Booleans.{and_elim, contradict, on_bool, or_elim}
 use Rattle.theory_graph.proofs.Bound.{Apart, apart_filter, kept_bound, limit, limit_is}
 use Rattle.theory_graph.proofs.CutOffs.{cut_off, cut_off_complete, cut_off_sound, on_two_edge}
 use Rattle.theory_graph.proofs.Kept.{Kept}
-use Rattle.theory_graph.proofs.Lists.{All, filter_all, filter_in, filter_length, firsts_cover, table_all, table_in, table_length, table_mem, there}
+use Rattle.theory_graph.proofs.Lists.{All, filter_all, filter_in, filter_length, firsts_cover, table_all, table_in, table_length, table_mem}
 use Rattle.theory_graph.proofs.Separation.{insep_sym, insep_trans, same_side, two_edge_connected}
 use Rattle.theory_graph.proofs.SmallGraphs.{SmallGraph, less_all_in}
 use Rattle.theory_graph.specs.Cut.{Between, Separated, TwoEdgeConnected}

@@ -7,7 +7,7 @@ use mathlib.Core.List.{List, Memᴰ, [], ◌∷◌, map}
 use Rattle.theory_graph.specs.Contraction.{kept, linked}
 use Rattle.theory_graph.specs.Cut.{TwoEdgeConnected, cut}
 use Rattle.theory_graph.specs.Graph.{Edge, NodeSet, two_edge}
-use Rattle.theory_graph.specs.Lists.{all, firsts}
+use Rattle.theory_graph.specs.Lists.{firsts}
 
 -- ---- words
 -- by first end, then by second

@@ -1,1 +1,3 @@
+#![tactic(auto)]
+
 // Graphs, cuts and contractions: definitions in specs/, laws in proofs/. No code.

@@ -1,0 +1,13 @@
+-- `grow_tree` meets its contract. The loop's invariant: the search of the tree of r goes on, with `done` nodes finished.
+use Prim.Native.Nat.{◌-◌}
+use mathlib.Core.Path.{◌≡◌}
+use native.Mathlib.Omega.{arith}
+use Rattle.core_forest.proofs.SearchLaws.{growing_still, grown_less, grown_none, grown_then}
+use Rattle.core_forest.specs.Search.{Grown}
+use Rattle.core_forest.proofs.grow_tree.Given as goal
+
+abbrev pub invariant-loop-done : goal.invariant-loop-done
+invariant-loop-done l = Grown l.n l.m l.initial.work l.work l.done l.seen l.r
+
+abbrev pub decreases-loop-done : goal.decreases-loop-done
+decreases-loop-done l = l.n - l.done

@@ -1,0 +1,10 @@
+-- `spanning_forest` meets its contract. The loop's invariant: the first j active nodes are seen.
+use Prim.Native.Nat.{◌-◌, ◌≤◌}
+use mathlib.Core.Path.{◌≡◌}
+use native.Mathlib.Omega.{arith}
+use Rattle.core_forest.proofs.SearchLaws.{forest_of, keeps_none, keeps_then}
+use Rattle.core_forest.specs.Search.{BetweenTrees, SearchKeeps}
+use Rattle.core_forest.proofs.spanning_forest.Given as goal
+
+abbrev pub invariant-loop-j : goal.invariant-loop-j
+invariant-loop-j l = (l.j ≤ l.k) × SearchKeeps l.n l.initial.work l.work × BetweenTrees l.n l.m l.k l.work l.seen l.j
