@@ -10,7 +10,7 @@ use mathlib.Core.Path.{◌∙◌, ◌≡◌, ap, ap₂, refl, subst, sym}
 use lib.Dec.{eqb, leb}
 use native.Mathlib.Omega.{arith}
 use borrow.Author.Tests.{eqb-false, eqb-true, leb-false, leb-true, ne_eqb, not-true}
-use Rattle.theory_graph.proofs.Booleans.{and_elim, contradict, on_bool, or_elim}
+use Rattle.theory_graph.proofs.Booleans.{contradict, on_bool, or_elim}
 use Rattle.theory_graph.proofs.Definitions.{joined_from, joined_to}
 use Rattle.theory_graph.proofs.Lists.{mem_member, member_mem, tests_each}
 use Rattle.theory_graph.proofs.Reach.{reach, reach_connected, reach_separated}
