@@ -1,3 +1,5 @@
+-- Past the last pair no fault is left.
+-- Assumes nothing.
 use Rattle.std.proofs.Common.{arith, sym, ◌∙◌}
 use Rattle.call_sizes.proofs.RefusalLaws.{below_past}
 use Rattle.call_sizes.proofs.below_fault.Goals as goal

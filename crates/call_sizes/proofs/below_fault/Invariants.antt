@@ -1,8 +1,9 @@
+-- The loop's invariant: no first number of the first i pairs is below its second.
+-- Assumes nothing.
 use Rattle.std.proofs.Common.{◌≡◌, ◌≤◌, length, ◌-◌, ◌*◌, ◌/◌, drop}
 use Rattle.call_sizes.specs.Refusal.{below_rows, by_two, first_fault}
 use Rattle.call_sizes.proofs.below_fault.Given as goal
 
--- no first number of the first i pairs is below its second
 abbrev pub invariant-loop-i : goal.invariant-loop-i
 invariant-loop-i l = record {
   in_range : l.i ≤ length l.numbers / 2;

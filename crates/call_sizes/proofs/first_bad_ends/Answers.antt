@@ -1,3 +1,5 @@
+-- One segment or edge more.
+-- Assumes nothing.
 use Rattle.std.proofs.Common.{arith, ◌∙◌}
 use Rattle.call_sizes.proofs.RefusalLaws.{good_ends, seek_more}
 use Rattle.call_sizes.specs.Refusal.{bad_ends}

@@ -1,8 +1,9 @@
+-- The loop's invariant: no segment or edge before s has a bad end.
+-- Assumes nothing.
 use Rattle.std.proofs.Common.{◌-◌, ◌≡◌, ◌≤◌}
 use Rattle.call_sizes.specs.Refusal.{bad_ends, seek}
 use Rattle.call_sizes.proofs.first_bad_ends.Given as goal
 
--- no segment or edge before s has a bad end
 abbrev pub invariant-loop-s : goal.invariant-loop-s
 invariant-loop-s l = record {
   in_range : l.s ≤ l.m;

@@ -1,3 +1,5 @@
+-- One segment more.
+-- Assumes nothing.
 use Rattle.std.proofs.Common.{arith, get_or, ◌∙◌}
 use borrow.Author.Tests.{le-ltb}
 use Rattle.call_sizes.proofs.RefusalLaws.{seek_more}

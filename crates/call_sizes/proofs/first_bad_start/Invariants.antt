@@ -1,8 +1,9 @@
+-- The loop's invariant: no segment before s has a starting entry above 1.
+-- Assumes nothing.
 use Rattle.std.proofs.Common.{◌-◌, ◌≡◌, ◌≤◌}
 use Rattle.call_sizes.specs.Refusal.{bad_start, seek}
 use Rattle.call_sizes.proofs.first_bad_start.Given as goal
 
--- no segment before s has a starting entry above 1
 abbrev pub invariant-loop-s : goal.invariant-loop-s
 invariant-loop-s l = record {
   in_range : l.s ≤ l.m;
