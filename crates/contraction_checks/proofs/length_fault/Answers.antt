@@ -1,0 +1,6 @@
+-- `length_fault` meets its contract.
+use borrow.Author.Rules.{rules}
+use Rattle.contraction_checks.proofs.length_fault.Goals as goal
+
+pub returns : goal.returns
+returns c = rw (← c.required.ensures) c.below_fault.ensures
