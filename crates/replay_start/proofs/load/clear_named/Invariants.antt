@@ -1,0 +1,12 @@
+-- Event by event.
+use Prim.Native.Nat.{◌-◌, ◌≤◌}
+use native.Mathlib.Omega.{arith}
+use Rattle.replay_start.proofs.StartLaws.{clear_need, clearing_all, clearing_more, clearing_none}
+use Rattle.replay_start.specs.Start.{Cleared}
+use Rattle.replay_start.proofs.load.clear_named.Given as goal
+
+abbrev pub invariant-loop-i : goal.invariant-loop-i
+invariant-loop-i l = (l.i ≤ l.t) × Cleared l.from 0 l.i l.counts l.initial.work l.work
+
+abbrev pub decreases-loop-i : goal.decreases-loop-i
+decreases-loop-i l = l.t - l.i
