@@ -1,4 +1,6 @@
 // The reader's call on the answer table.
+#![tactic(auto)]
+
 ghost use Rattle.std.specs.Prelude.{◌≡◌};
 ghost use Rattle.call_answers.specs.Reader.{first_or_none};
 

@@ -50,6 +50,7 @@ module _ (n x : ℕ) where
       → ((ltb x n ≡ true) × (Query ≡ j)) ⊎ (((eqb x 65535 ≡ true) × (Opens ≡ j)) ⊎ ((eqb x 65534 ≡ true) × (Closes ≡ j)))
   row_given (r, Memᴰ.head p, h, k) = inl (ap (holds n x) (sym p) ∙ h, ap (λ (r : TableRow). r.kind) (sym p) ∙ k)
   row_given (r, Memᴰ.tail (Memᴰ.head p), h, k) = inr (inl (ap (holds n x) (sym p) ∙ h, ap (λ (r : TableRow). r.kind) (sym p) ∙ k))
+  row_given {j = j} (r, Memᴰ.tail (Memᴰ.tail (Memᴰ.tail x16)), h, k) = elim x16 [ ]
   row_given (r, Memᴰ.tail (Memᴰ.tail (Memᴰ.head p)), h, k) = inr (inr (ap (holds n x) (sym p) ∙ h, ap (λ (r : TableRow). r.kind) (sym p) ∙ k))
 
   given_some : {j : Kind} → Gives n x j → ¬ (j ≡ None)

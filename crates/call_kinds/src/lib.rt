@@ -1,4 +1,6 @@
 // The kind of an event, by document 01's table of events (document 02, No. 6). Nothing else in the product decides a kind.
+#![tactic(auto)]
+
 ghost use Rattle.std.specs.Prelude.{◌≡◌, ◌≤◌};
 ghost use Rattle.call_kinds.specs.Kinds.{KindByTable, is_query, kind_number, kind_of};
 
@@ -30,6 +32,7 @@ pub fn kind_of(x: u16, n: usize) -> Kind
 }
 
 // Internal: whether an event with this X is a query.
+#[tactic(auto, unfolding(crate::specs::Kinds::is_query))]
 pub fn is_query(x: u16, n: usize) -> bool
     ensures { result ≡ is_query (kind_of n x) }
 {
@@ -43,6 +46,7 @@ pub fn is_query(x: u16, n: usize) -> bool
 }
 
 // Internal: the number of a kind where it leaves the language.
+#[tactic(auto, unfolding(crate::specs::Kinds::kind_number))]
 pub fn kind_number(kind: Kind) -> u32
     ensures { result ≡ kind_number kind }
 {

@@ -1,4 +1,6 @@
 // The open segments as a set of 8,192 bits, handed on by value. A number past the last segment is in no set: to open or close it changes nothing.
+#![tactic(auto)]
+
 ghost use Rattle.std.specs.Prelude.{◌≡◌, ◌<◌, ◌≤◌, ◌&&◌, eqb, ltb, get_or, length, set};
 ghost use Rattle.theory_graph.specs.Lists.{sum};
 ghost use Rattle.call_open_set.specs.OpenSet.{digits, bits, is_open};

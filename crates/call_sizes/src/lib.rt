@@ -1,5 +1,7 @@
 // The sizes of a replay or a contraction, with their limits and their check; and what refusals share: a fault with its place, the lengths of tables, the
 // search for a bad end and for a bad starting entry.
+#![tactic(auto)]
+
 ghost use Rattle.std.specs.Prelude.{◌≡◌, ◌≤◌, length};
 ghost use Rattle.call_sizes.specs.Refusal.{bad_ends, bad_start, below_rows, by_two, first_fault, seek};
 ghost use Rattle.call_sizes.specs.Sizes.{sizes_outcome, check_sizes, size_faults};

@@ -31,6 +31,7 @@ table_distinct f i (suc r) h = (
 )
   where
     later : (a s v : ℕ) → Memᴰ v (table f a s) → ((y : ℕ) → a ≤ y → y < a + s → ¬ (v ≡ f y)) → ⊥
+    later a zero v x3 n = elim x3 [ ]
     later a (suc s) v (Memᴰ.head e) n = n a (omega arith) (omega arith) e
     later a (suc s) v (Memᴰ.tail q) n = later (suc a) s v q (λ y l g. n y (omega (arith, l)) (omega (arith, g)))
 

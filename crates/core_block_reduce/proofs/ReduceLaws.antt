@@ -32,7 +32,7 @@ use Rattle.core_forest.specs.Forest.{ForestAt, edges_below}
 use Rattle.core_forest.specs.Search.{BetweenTrees, SearchKeeps, search_fields}
 use Rattle.core_blocks.proofs.SearchedForest.{below_edge, edge_below}
 use Rattle.core_blocks.specs.Classes.{BlocksMerged}
-use Rattle.core_cycles.proofs.CycleLaws.{active_low, active_node, count_own, covers_written, edges_most, ends_low, node_of, numbers_are, own_distinct, own_listed, written_only}
+use Rattle.core_cycles.proofs.CycleLaws.{active_low, count_own, covers_written, edges_most, ends_low, node_of, numbers_are, own_distinct, own_listed, written_only}
 use Rattle.core_cycles.proofs.NumberingLaws.{counting_done}
 use Rattle.core_cycles.specs.BlocksIn.{CanCount, Counting, LAST}
 use Rattle.core_cycles.specs.Numbering.{CanNumber, Numbering, numbered}

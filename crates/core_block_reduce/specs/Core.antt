@@ -7,7 +7,7 @@ use Rattle.theory_graph.specs.Graph.{Edge}
 use Rattle.theory_graph.specs.SmallGraph.{different}
 use Rattle.theory_names.specs.Names.{plain}
 use Rattle.theory_junctions.specs.ReducedGraph.{IsReducedGraph}
-use Rattle.core_words.specs.Fields.{ACTIVE, MAPPED, TO, half, node}
+use Rattle.core_words.specs.Fields.{ACTIVE, MAPPED, node}
 use Rattle.core_cycles.specs.Writing as Writing
 use Rattle.core_reduce.specs.Core.{Loaded, active_in, edges_in}
 

@@ -1,3 +1,5 @@
+#![tactic(auto)]
+
 ghost use Rattle.core_block_reduce.specs.Core.{BlocksReduced, CanReduce};
 
 use core_reduce::Counts;

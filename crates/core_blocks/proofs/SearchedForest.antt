@@ -30,6 +30,7 @@ below_edge to (suc m) e l =
     (λ t. let n : ¬ (e ≡ m) = eqb-false e m t in Memᴰ.tail (below_edge to m e (omega arith)))
 
 pub edge_below : (to : ℕ → ℕ) (m p q : ℕ) → Memᴰ (p, q) (edges_below to m) → (e : ℕ) × (e < m) × (p ≡ to (2 * e)) × (q ≡ to (2 * e + 1))
+edge_below to zero p q x' = elim x' [ ]
 edge_below to (suc m) p q (Memᴰ.head i) = (m, omega arith, ap (λ e. e.0) i, ap (λ e. e.1) i)
 edge_below to (suc m) p q (Memᴰ.tail k) = let (e, l, a, b) = edge_below to m p q k in (e, omega arith, a, b)
 
@@ -100,6 +101,7 @@ module _ (n m : ℕ) (to pos par te root : ℕ → ℕ) (F : Base.Forest n m to 
     order_rises i (suc j) l = (λ w m. later w m, order_rises (suc i) j (omega arith))
       where
         from : (i j : ℕ) (w : ℕ) → Memᴰ w (table ord i j) → (h : ℕ) × (i ≤ h) × (h < i + j) × (w ≡ ord h)
+        from i zero w x'' = elim x'' [ ]
         from i (suc j) w (Memᴰ.head e) = (i, omega arith, omega arith, e)
         from i (suc j) w (Memᴰ.tail m) = let (h, a, b, e) = from (suc i) j w m in (h, omega arith, omega arith, e)
 

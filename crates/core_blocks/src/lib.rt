@@ -1,3 +1,5 @@
+#![tactic(auto)]
+
 ghost use Rattle.std.specs.Prelude.{◌≡◌, ◌+◌, ◌*◌, ◌<◌, ◌≤◌, length};
 ghost use Rattle.core_components.specs.Components.{CanMergeComponents};
 ghost use Rattle.core_blocks.specs.Classes.{BlocksMerged, CanMerge, CanMergeClass, CanMergeEdge, CanMergePath, ClassMerged, EdgesMerged, PathMerged};

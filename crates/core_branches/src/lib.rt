@@ -1,5 +1,7 @@
 // The pass that finds the kept classes: those of active nodes are numbered first, then those with two branches below them to active nodes. Last, the way up
 // from each kept class to the nearest one above, with the smallest name along it.
+#![tactic(auto)]
+
 ghost use Rattle.std.specs.Prelude.{◌≡◌, ◌+◌, min};
 ghost use Rattle.core_branches.specs.BranchCounts.{CanReport, Report, CanCount, Counting};
 ghost use Rattle.core_branches.specs.Numbers.{CanAssign, Assigned, CanNumber, ActiveStep, CanNumberActives, NumberingActives};

@@ -1,5 +1,7 @@
 // The pass that finds the classes, the 2-edge-connected components: for each edge that is no tree edge the classes on the tree path between its ends are
 // merged, by union with path halving. A class is told by its top, its node that comes first in the order.
+#![tactic(auto)]
+
 ghost use Rattle.std.specs.Prelude.{◌≡◌, ◌+◌, ◌*◌, ◌<◌, ◌≤◌, length};
 ghost use Rattle.core_words.specs.Fields.{ROOT, TOP, Put, node};
 ghost use Rattle.core_components.specs.Tops.{CanFind, Found, CanMergeUp, MergedUpAt, CanMergePath, SeenTop, SameTree, MergedPath};

@@ -116,6 +116,7 @@ module _ {n m k seen h : ℕ} {to act ord te par top mark members below number l
       (λ t. let ne = eqb-false i s t in mem_append (H s) (at (ord s)) (inl (up_in s i e (omega (arith, l, ne)) q)))
 
   in_up : (s : ℕ) (e : Edge) → Memᴰ e (H s) → (i : ℕ) × (i < s) × Memᴰ e (at (ord i))
+  in_up zero e q = elim q [ ]
   in_up (suc s) e q = go (edge_append (H s) (at (ord s)) q) (in_up s e)
     where
       go : Memᴰ e (H s) ⊎ Memᴰ e (at (ord s)) → (Memᴰ e (H s) → (i : ℕ) × (i < s) × Memᴰ e (at (ord i))) → (i : ℕ) × (i < suc s) × Memᴰ e (at (ord i))

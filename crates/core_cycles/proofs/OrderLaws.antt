@@ -59,6 +59,7 @@ count_few f (x ∷ xs) = omega (arith, count_few f xs, one (f x))
 
 -- what comes before v
 pub rising_before : (pos : ℕ → ℕ) (ps : List ℕ) (v : ℕ) (ds : List ℕ) → Rising pos (ps ++ v ∷ ds) → (w : ℕ) → Memᴰ w ps → pos w < pos v
+rising_before pos [] v ds r w x'' = elim x'' [ ]
 rising_before pos (p ∷ ps) v ds r w (Memᴰ.head e) = omega (arith, ap pos e, r.0 v (mem_append ps (v ∷ ds) (inr (Memᴰ.head refl))))
 rising_before pos (p ∷ ps) v ds r w (Memᴰ.tail m) = rising_before pos ps v ds r.1 w m
 

@@ -1,3 +1,5 @@
+#![tactic(auto)]
+
 ghost use Rattle.std.specs.Prelude.{◌≡◌, ◌+◌, ◌*◌, ◌<◌, ◌≤◌, length};
 ghost use Rattle.core_words.specs.Fields.{TOP, node};
 ghost use Rattle.core_cycles.specs.BlocksIn.{CanCount, CanCountNode, CountedNode, Counting};

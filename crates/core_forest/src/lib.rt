@@ -1,5 +1,7 @@
 // The first passes of the contraction: the adjacency list of each node, then a spanning forest of all that the active nodes reach, breadth first, each tree
 // with an active root. The order of the search is its queue.
+#![tactic(auto)]
+
 ghost use Rattle.std.specs.Prelude.{◌≡◌, ◌+◌, ◌*◌, ◌<◌};
 ghost use Rattle.core_words.specs.Fields.{TO, half};
 ghost use Rattle.core_forest.specs.AdjacencyLists.{origin, AdjacencyLists, CanLink, Linking};

@@ -1,4 +1,6 @@
 // One active node and one edge put into the words that the contraction takes, for the public call and for the replay's step alike.
+#![tactic(auto)]
+
 ghost use Rattle.std.specs.Prelude.{List, ℕ, ◌+◌, ◌*◌, ◌<◌, ◌≤◌, length};
 ghost use Rattle.core_words.specs.Fields.{ACTIVE, MARK, node};
 ghost use Rattle.core_loading.specs.Loading.{Entered, Entering, PutEdge};

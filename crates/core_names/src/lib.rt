@@ -1,4 +1,6 @@
 // The names of the edges out: an edge joins a number and its parent number, and has the smallest name on the way up from the one to the other.
+#![tactic(auto)]
+
 ghost use Rattle.std.specs.Prelude.{◌+◌, ◌*◌, ◌<◌, length};
 ghost use Rattle.core_words.specs.Fields.{ABOVE, node};
 ghost use Rattle.core_names.specs.EdgeNames.{ChildEnd, CanNameEdge, NamedEdge, CanNameEdges, NamingEdges};

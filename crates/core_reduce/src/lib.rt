@@ -21,6 +21,8 @@
 //
 // HEAD, POSITION, LIVE, BRANCH, OTHER and NUMBER start at 0. TO of a half-edge is its far end, NEXT the next at the same node; NAME of the first half-edge of
 // an edge is the edge's name.
+#![tactic(auto)]
+
 mod edge_list;
 
 ghost use Rattle.std.specs.Prelude.{◌≡◌, ◌-◌, ◌*◌, ◌<◌, ◌≤◌, length};

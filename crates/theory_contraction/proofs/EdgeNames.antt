@@ -3,7 +3,7 @@
 -- Assumes nothing.
 use Prim.Native.Nat.{◌<◌, ◌≤◌, ℕ}
 use mathlib.Core.Bool.{true}
-use mathlib.Core.List.{List, Memᴰ, [], ◌∷◌, append_nil, map}
+use mathlib.Core.List.{List, Memᴰ, [], ◌∷◌, append-nil, map}
 use mathlib.Core.Path.{◌∙◌, ◌≡◌, ap, ap₂, refl, subst, sym}
 use lib.ListN.{get_or, length, length-map, replicate, take}
 use native.Mathlib.Omega.{arith}
@@ -79,9 +79,9 @@ module _ (l : Lent) (s : Accepted l) where
   -- nothing is added to either graph
   small_hangs : (x y : ℕ) → Memᴰ x (entries l) → Memᴰ y (entries l) → hangs given x y ≡ hangs named (number_of x) (number_of y)
   small_hangs x y mx my =
-      ap (λ (G : Named). hangs G x y) (sym (append_nil given))
+      ap (λ (G : Named). hangs G x y) (sym (append-nil given))
       ∙ (small_transfer given (entries l) unnamed.nodes named (class_of l) number_of small [] refl x y mx my).1
-      ∙ ap (λ (H : Named). hangs H (number_of x) (number_of y)) (append_nil named)
+      ∙ ap (λ (H : Named). hangs H (number_of x) (number_of y)) (append-nil named)
 
   -- ---- the names out
   names_room : length names ≤ length l.out_names

@@ -22,6 +22,7 @@ keep_cut U true e F k h = omega (arith, crosses_same (k refl))
 keep_cut U false e F k h = h
 
 filter_closed : (D : Edge → Bool) (U : NodeSet) (f : Edge) (E : List Edge) → cut U (filter D E) ≤ 0 → Memᴰ f E → D f ≡ true → U f.0 ≡ U f.1
+filter_closed D U f [] h x3 q = elim x3 [ ]
 filter_closed D U f (e ∷ E) h (Memᴰ.head p) q = subst (λ (g : Edge). U g.0 ≡ U g.1) (sym p) ((cut_keep U (D e) e (filter D E) h).0 (ap D (sym p) ∙ q))
 filter_closed D U f (e ∷ E) h (Memᴰ.tail m) q = filter_closed D U f E (cut_keep U (D e) e (filter D E) h).1 m q
 

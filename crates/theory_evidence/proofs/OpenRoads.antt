@@ -1,7 +1,7 @@
 -- The open roads of a network, by the laws of roads: each open segment has its road among the edges, each edge has an open segment, and no two edges have the
 -- same ends; their ends are junctions.
 -- Assumes nothing.
-use Prim.Native.Nat.{◌+◌, ◌<◌, ◌≤◌, suc, zero, ℕ}
+use Prim.Native.Nat.{◌+◌, ◌<◌, ◌≤◌, ℕ}
 use mathlib.Core.Bool.{Bool, ◌&&◌, cond, false, true}
 use mathlib.Core.List.{List, Memᴰ, [], ◌∷◌}
 use mathlib.Core.Path.{◌∙◌, ◌≡◌, ap, ap₂, refl, subst, sym}
@@ -13,7 +13,7 @@ use Rattle.theory_graph.proofs.Booleans.{and_elim, contradict, on_bool}
 use Rattle.theory_graph.proofs.Lists.{table_length}
 use Rattle.theory_graph.proofs.TableLaws.{table_at}
 use Rattle.theory_graph.specs.Graph.{Edge}
-use Rattle.theory_graph.specs.Lists.{filter, table}
+use Rattle.theory_graph.specs.Lists.{filter}
 use Rattle.theory_timeline.proofs.RoadLaws.{cover_roads, edges_mem, ends_sym, ends_trans, mem_edges, roads_cover, roads_different}
 use Rattle.theory_timeline.specs.Events.{SegmentSet, open_roads}
 use Rattle.theory_timeline.specs.Roads.{Apart, DifferentRoads, same_ends}

@@ -71,6 +71,7 @@ cut_between p q n (e ∷ E) =
     omega (arith, cut_between p q n E, edge_between (eqb e.0 p) (eqb e.1 p) (eqb e.0 q) (eqb e.1 q) (only n e.0) (only n e.1))
 
 edge_counts : (p q : ℕ) (E : List Edge) → Memᴰ (p, q) E → 0 < between p q E
+edge_counts p q [] x' = elim x' [ ]
 edge_counts p q (e ∷ E) (Memᴰ.head h) =
     let t : (eqb e.0 p && eqb e.1 q || eqb e.0 q && eqb e.1 p) ≡ true =
     ap (λ (b : Bool). b || eqb e.0 q && eqb e.1 p) (ap₂ ◌&&◌ (eq-eqb e.0 p (ap (λ (f : Edge). f.0) (sym h))) (eq-eqb e.1 q (ap (λ (f : Edge). f.1) (sym h)))) in
@@ -118,6 +119,7 @@ distinct_pairwise [] p = tt
 distinct_pairwise (x ∷ l) (a, p) = (λ m. apart l a m, distinct_pairwise l p)
   where
     apart : (l : List ℕ) → All (λ y. not (eqb x y) ≡ true) l → Memᴰ x l → ⊥
+    apart [] _ x5 = elim x5 [ ]
     apart (y ∷ l) (h, a) (Memᴰ.head e) = contradict (eq-eqb x y e) (not-true (eqb x y) h)
     apart (y ∷ l) (h, a) (Memᴰ.tail m) = apart l a m
 

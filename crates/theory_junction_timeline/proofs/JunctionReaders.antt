@@ -1,7 +1,7 @@
 -- What a reader of document 02, No. 8, expects: the byte of a query straight from the open segments, with no list of roads in sight; the loss of a junction takes
 -- all open segments that meet it.
 -- Assumes nothing.
-use Prim.Native.Nat.{◌+◌, ◌<◌, ◌≤◌, suc, zero, ℕ}
+use Prim.Native.Nat.{◌+◌, ◌<◌, ◌≤◌, suc, ℕ}
 use mathlib.Core.Bool.{Bool, ◌&&◌, cond, false, not, true}
 use mathlib.Core.List.{List, Memᴰ, [], ◌∷◌}
 use mathlib.Core.Logic.{inl, inr}

@@ -1,5 +1,6 @@
 // The sibling of the replay (document 02, No. 8) over the list of events: definitions in specs/, their laws in proofs/. The graph theory is in theory_junctions.
 // The sibling itself is in the crate call_replay_junctions; its reply's types stand here.
+#![tactic(auto)]
 
 // What an accepted call returns: the queries, and the segments open at the end.
 #[derive(Drop)]

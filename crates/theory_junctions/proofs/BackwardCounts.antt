@@ -30,6 +30,7 @@ count_off f g x (y ∷ xs) n e = omega (arith, ap tick (e y (λ i. n (Memᴰ.hea
 
 -- one entry more passes
 count_more : (f g : ℕ → Bool) (x : ℕ) (xs : List ℕ) → Distinct xs → Memᴰ x xs → f x ≡ false → g x ≡ true → ((y : ℕ) → ¬ (y ≡ x) → f y ≡ g y) → count g xs ≡ count f xs + 1
+count_more f g x [] d x6 a b e = elim x6 [ ]
 count_more f g x (y ∷ xs) d (Memᴰ.head i) a b e =
     omega (arith, ap tick (ap f (sym i) ∙ a), ap tick (ap g (sym i) ∙ b), count_off f g x xs (λ m. d.0 (subst (λ (s : ℕ). Memᴰ s xs) i m)) e)
 count_more f g x (y ∷ xs) d (Memᴰ.tail m) a b e =
@@ -41,6 +42,7 @@ count_find f (x ∷ xs) h =
     on_bool (f x) (λ t. (x, Memᴰ.head refl, t)) λ t. let (c, m, e) = count_find f xs (omega (arith, ap tick t)) in (c, Memᴰ.tail m, e)
 
 count_in : (f : ℕ → Bool) (c : ℕ) (xs : List ℕ) → Memᴰ c xs → f c ≡ true → 0 < count f xs
+count_in f c [] x'' e = elim x'' [ ]
 count_in f c (x ∷ xs) (Memᴰ.head i) e = omega (arith, ap tick (ap f (sym i) ∙ e))
 count_in f c (x ∷ xs) (Memᴰ.tail m) e = omega (arith, count_in f c xs m e)
 

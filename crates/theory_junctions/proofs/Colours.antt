@@ -84,15 +84,18 @@ edge_append {e} (f ∷ E) F (Memᴰ.tail m) = go (edge_append E F m)
     go (inr n) = inr n
 
 pub edge_image : (g : ℕ → ℕ) (p q : ℕ) (F : List Edge) → Memᴰ (p, q) (image g F) → (a b : ℕ) × Memᴰ (a, b) F × (p ≡ g a) × (q ≡ g b)
+edge_image g p q [] x' = elim x' [ ]
 edge_image g p q (f ∷ F) (Memᴰ.head e) = (f.0, f.1, Memᴰ.head refl, ap (λ e. e.0) e, ap (λ e. e.1) e)
 edge_image g p q (f ∷ F) (Memᴰ.tail m) = let (a, b, n, s, t) = edge_image g p q F m in (a, b, Memᴰ.tail n, s, t)
 
 pub image_edge : (g : ℕ → ℕ) (a b : ℕ) (F : List Edge) → Memᴰ (a, b) F → Memᴰ (g a, g b) (image g F)
+image_edge g a b [] x' = elim x' [ ]
 image_edge g a b (f ∷ F) (Memᴰ.head e) = Memᴰ.head (ap₂ (λ s t. (s, t)) (ap (λ e. g e.0) e) (ap (λ e. g e.1) e))
 image_edge g a b (f ∷ F) (Memᴰ.tail m) = Memᴰ.tail (image_edge g a b F m)
 
 -- ---- closed sets of the edges inside P
 pub closed_edge : (P U : NodeSet) (p q : ℕ) (E : List Edge) → cut U (induced P E) ≤ 0 → Memᴰ (p, q) E → P p ≡ true → P q ≡ true → U p ≡ U q
+closed_edge P U p q [] c x4 a b = elim x4 [ ]
 closed_edge P U p q (e ∷ E) c (Memᴰ.head h) a b =
     let f : p ≡ e.0 = ap (λ e. e.0) h in
     let g : q ≡ e.1 = ap (λ e. e.1) h in
@@ -119,6 +122,7 @@ edge_closed P U (e ∷ E) f = go (P e.0) (P e.1) (f e.0 e.1 (Memᴰ.head refl)) 
 
 -- the same for all edges
 pub closed_uncrossed : (U : NodeSet) (E : List Edge) → cut U E ≤ 0 → Uncrossed nothing U E
+closed_uncrossed U [] c p q x4 a b = elim x4 [ ]
 closed_uncrossed U (e ∷ E) c p q (Memᴰ.head h) a b = ap (λ f. U f.0) h ∙ crosses_zero _ _ (omega arith) ∙ ap (λ f. U f.1) (sym h)
 closed_uncrossed U (e ∷ E) c p q (Memᴰ.tail m) a b = closed_uncrossed U E (omega arith) p q m a b
 

@@ -27,10 +27,14 @@ last_mem u [] = Memᴰ.head refl
 last_mem u (w ∷ us) = Memᴰ.tail (last_mem w us)
 
 chain_ends : (t p q : ℕ) (us : List ℕ) → Memᴰ (p, q) (chain t us) → Memᴰ p (t ∷ us) × Memᴰ q us
+chain_ends t p q [] x' = elim x' [ ]
 chain_ends t p q (u ∷ us) (Memᴰ.head e) = (Memᴰ.head (ap (λ e. e.0) e), Memᴰ.head (ap (λ e. e.1) e))
 chain_ends t p q (u ∷ us) (Memᴰ.tail m) = let (a, b) = chain_ends u p q us m in (Memᴰ.tail a, Memᴰ.tail b)
 
 closing_ends : (t p q : ℕ) (us : List ℕ) → Memᴰ (p, q) (closing t us) → Memᴰ p us × (q ≡ t)
+closing_ends t p q [] x' = elim x' [ ]
+closing_ends t p q (u ∷ []) x4 = elim x4 [ ]
+closing_ends t p q (u ∷ (w ∷ us)) (Memᴰ.tail x9) = elim x9 [ ]
 closing_ends t p q (u ∷ w ∷ us) (Memᴰ.head e) = (Memᴰ.tail (subst (λ (v : ℕ). Memᴰ v (w ∷ us)) (sym (ap (λ e. e.0) e)) (last_mem w us)), ap (λ e. e.1) e)
 
 -- both ends of an edge of the cycle are on it
@@ -49,7 +53,9 @@ closing_edge t (u ∷ w ∷ us) l = Memᴰ.head refl
 module _ (z : Loss) (U : NodeSet) where
   -- ---- a chain that loses nothing
   chain_side : (t : ℕ) (us : List ℕ) → Uncrossed z U (chain t us) → ((w : ℕ) → Memᴰ w (t ∷ us) → lost z w ≡ false) → (w : ℕ) → Memᴰ w (t ∷ us) → U w ≡ U t
-  chain_side t us f n w (Memᴰ.head e) = ap U e
+  chain_side t [] f n w (Memᴰ.head e) = ap U e
+  chain_side t [] f n w (Memᴰ.tail m) = elim m [ ]
+  chain_side t (u ∷ us) f n w (Memᴰ.head e) = ap U e
   chain_side t (u ∷ us) f n w (Memᴰ.tail m) =
       chain_side u us (λ p q k. f p q (Memᴰ.tail k)) (λ w k. n w (Memᴰ.tail k)) w m
       ∙ sym (f t u (Memᴰ.head refl) (n t (Memᴰ.head refl)) (n u (Memᴰ.tail (Memᴰ.head refl))))
@@ -60,6 +66,7 @@ module _ (z : Loss) (U : NodeSet) where
 
   after_lost : (t u : ℕ) (us : List ℕ) → Uncrossed z U (chain u us) → ¬ Memᴰ u us → lost z u ≡ true → (w : ℕ) → Memᴰ w us → Held t (u ∷ us) w
   unfolding Held
+  after_lost t u [] f d l w m = elim m [ ]
   after_lost t u (x ∷ us) f d l w m =
       let n : (w : ℕ) → Memᴰ w (x ∷ us) → lost z w ≡ false = λ w m. on_bool (lost z w) (λ b. absurd (d (subst (λ (v : ℕ). Memᴰ v (x ∷ us)) (lost_one z w u b l) m))) (λ b. b) in
       let s = chain_side x us (λ p q k. f p q (Memᴰ.tail k)) n in
@@ -67,6 +74,7 @@ module _ (z : Loss) (U : NodeSet) where
 
   chain_held : (t : ℕ) (us : List ℕ) → Uncrossed z U (chain t us) → Distinct us → lost z t ≡ false → (w : ℕ) → Memᴰ w us → lost z w ≡ false → Held t us w
   unfolding Held
+  chain_held t [] f d lt w m lw = elim m [ ]
   chain_held t (u ∷ us) f d lt w m lw =
       on_bool (lost z u)
       (λ b. go b m)
@@ -101,6 +109,7 @@ module _ (z : Loss) (U : NodeSet) where
     topless lt v w = go us on_chain nt
       where
         go : (us : List ℕ) → Uncrossed z U (chain t us) → ¬ Memᴰ t us → Memᴰ v us → Memᴰ w us → U v ≡ U w
+        go [] f nt m k = elim m [ ]
         go (x ∷ us) f nt m k =
             let n : (w : ℕ) → Memᴰ w (x ∷ us) → lost z w ≡ false = λ w m. on_bool (lost z w) (λ b. absurd (nt (subst (λ (v : ℕ). Memᴰ v (x ∷ us)) (lost_one z w t b lt) m))) (λ b. b) in
             let s = chain_side x us (λ p q k. f p q (Memᴰ.tail k)) n in

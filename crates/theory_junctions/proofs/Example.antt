@@ -115,6 +115,7 @@ search =
     AllAbove v (w ∷ ws) = (v < w) × AllAbove v ws
 
     low : (v : ℕ) (ws : List ℕ) → AllAbove v ws → (w : ℕ) → Memᴰ w ws → v < w
+    low v [] a w x'' = elim x'' [ ]
     low v (x ∷ ws) a w (Memᴰ.head e) = omega (arith, a.0, e)
     low v (x ∷ ws) a w (Memᴰ.tail m) = low v ws a.1 w m
 

@@ -40,6 +40,7 @@ two_all S l x y mx my n =
 
     back : (z : ℕ) → Memᴰ z (x ∷ y ∷ []) → Memᴰ z S
     back z (Memᴰ.head e) = subst (λ (s : ℕ). Memᴰ s S) (sym e) mx
+    back z (Memᴰ.tail (Memᴰ.tail x9)) = elim x9 [ ]
     back z (Memᴰ.tail (Memᴰ.head e)) = subst (λ (s : ℕ). Memᴰ s S) (sym e) my
 
 module _ (E : List Edge) (B : Blocks E) (S order : List ℕ) (T : Search E B (member S) order) where

@@ -61,10 +61,14 @@ chain_at t v [] ys = Memᴰ.head refl
 chain_at t v (x ∷ xs) ys = Memᴰ.tail (chain_at x v xs ys)
 
 chain_cut : (t p q : ℕ) (us : List ℕ) → Memᴰ (p, q) (chain t us) → (xs : List ℕ) × (ys : List ℕ) × (us ≡ xs ++ q ∷ ys) × (p ≡ last_of t xs)
+chain_cut t p q [] x' = elim x' [ ]
 chain_cut t p q (u ∷ us) (Memᴰ.head e) = ([], us, ap (λ s. s ∷ us) (sym (ap (λ e. e.1) e)), ap (λ e. e.0) e)
 chain_cut t p q (u ∷ us) (Memᴰ.tail m) = let (xs, ys, i, j) = chain_cut u p q us m in (u ∷ xs, ys, ap (λ l. u ∷ l) i, j)
 
 closing_cut : (t p q : ℕ) (us : List ℕ) → Memᴰ (p, q) (closing t us) → (2 ≤ length us) × (p ≡ last_of t us) × (q ≡ t)
+closing_cut t p q [] x' = elim x' [ ]
+closing_cut t p q (u ∷ []) x4 = elim x4 [ ]
+closing_cut t p q (u ∷ (w ∷ us)) (Memᴰ.tail x9) = elim x9 [ ]
 closing_cut t p q (u ∷ w ∷ us) (Memᴰ.head e) = (omega arith, ap (λ e. e.0) e, ap (λ e. e.1) e)
 
 module _ (E : List Edge) (B : Blocks E) (K rel : NodeSet) (order : List ℕ) (T : Search E B K order) (W : Relevance E B K rel) where

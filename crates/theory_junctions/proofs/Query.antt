@@ -122,6 +122,7 @@ module _ (E : List Edge) (B : Blocks E) (x y : ℕ) (Q : List ℕ) (cs : List Cl
           omega (arith, two_few, actives_few E B (x ∷ y ∷ []) Q cs L, members_bound K B.par cs L.class_filled L.members_once L.support)
 
   one_same : {r s : ℕ} (l : List ℕ) → length l ≤ 1 → Memᴰ r l → Memᴰ s l → r ≡ s
+  one_same {r = r} {s = s} [] l p q = elim p [ ]
   one_same (a ∷ []) l (Memᴰ.head p) (Memᴰ.head q) = p ∙ sym q
   one_same (a ∷ []) l (Memᴰ.head p) (Memᴰ.tail q) = absurd (elim q [ ])
   one_same (a ∷ []) l (Memᴰ.tail p) q = absurd (elim p [ ])

@@ -69,6 +69,7 @@ adjacent_edge (e ∷ E) x y h =
     more (inr m) = inr (Memᴰ.tail m)
 
 edge_adjacent : (E : List Edge) (p q x y : ℕ) → Memᴰ (p, q) E → (eqb p x && eqb q y || eqb p y && eqb q x) ≡ true → adjacent E x y ≡ true
+edge_adjacent [] p q x y x4 h = elim x4 [ ]
 edge_adjacent (e ∷ E) p q x y (Memᴰ.head i) h = ap (λ b. b || adjacent E x y) (ap (λ e. eqb e.0 x && eqb e.1 y || eqb e.0 y && eqb e.1 x) (sym i) ∙ h)
 edge_adjacent (e ∷ E) p q x y (Memᴰ.tail m) h = go (eqb e.0 x && eqb e.1 y || eqb e.0 y && eqb e.1 x) (edge_adjacent E p q x y m h)
   where

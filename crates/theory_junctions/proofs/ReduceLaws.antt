@@ -84,6 +84,7 @@ backwards_mem u (x ∷ xs) m = go (split_mem (backwards xs) (x ∷ []) m) (backw
     go (inr (Memᴰ.tail n)) ih = absurd (elim n [ ])
 
 pub mem_backwards : (u : ℕ) (xs : List ℕ) → Memᴰ u xs → Memᴰ u (backwards xs)
+mem_backwards u [] x' = elim x' [ ]
 mem_backwards u (x ∷ xs) (Memᴰ.head e) = mem_append (backwards xs) (x ∷ []) (inr (Memᴰ.head e))
 mem_backwards u (x ∷ xs) (Memᴰ.tail m) = mem_append (backwards xs) (x ∷ []) (inl (mem_backwards u xs m))
 
@@ -101,6 +102,7 @@ rising_backwards pos [] r = tt
 rising_backwards pos (x ∷ xs) r = falling_last pos x (backwards xs) (rising_backwards pos xs r.1) (λ w m. r.0 w (backwards_mem w xs m))
 
 pub filled : (u : ℕ) (xs : List ℕ) → Memᴰ u xs → none xs ≡ false
+filled u [] m = elim m [ ]
 filled u (x ∷ xs) m = refl
 
 filled_length : (xs : List ℕ) → none xs ≡ false → 1 ≤ length xs
@@ -154,10 +156,12 @@ module _ (E : List Edge) (B : Blocks E) (K rel : NodeSet) (order : List ℕ) (T 
       (ap₂ ◌&&◌ d (ap₂ ◌&&◌ (eq-eqb (B.first (B.first u)) (B.first u) (B.first_first u c)) (ap not (filled u (members_in B rel order (B.first u)) (are_members u c r)))))
 
   pub class_from : (c : Class) (ns : List ℕ) → Memᴰ c (classes_from B rel order ns) → Memᴰ c.0 ns × (c.1 ≡ members_in B rel order c.0)
+  class_from c [] x' = elim x' [ ]
   class_from c (n ∷ ns) (Memᴰ.head e) = (Memᴰ.head (ap (λ e. e.0) e), ap (λ e. e.1) e ∙ ap (members_in B rel order) (sym (ap (λ e. e.0) e)))
   class_from c (n ∷ ns) (Memᴰ.tail m) = let (a, b) = class_from c ns m in (Memᴰ.tail a, b)
 
   from_class : (n : ℕ) (ns : List ℕ) → Memᴰ n ns → Memᴰ (n, members_in B rel order n) (classes_from B rel order ns)
+  from_class n [] x' = elim x' [ ]
   from_class n (x ∷ ns) (Memᴰ.head e) = Memᴰ.head (ap (λ s. (s, members_in B rel order s)) e)
   from_class n (x ∷ ns) (Memᴰ.tail m) = Memᴰ.tail (from_class n ns m)
 

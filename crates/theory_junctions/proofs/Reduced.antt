@@ -35,6 +35,7 @@ image_length f [] = refl
 image_length f (e ∷ G) = ap suc (image_length f G)
 
 pub member_class : {u : ℕ} (cs : List Class) → Memᴰ u (members_of cs) → (c : Class) × Memᴰ c cs × Memᴰ u c.1
+member_class {u = u} [] m = elim m [ ]
 member_class {u} (c ∷ cs) m = go (split_mem c.1 (members_of cs) m) (member_class cs)
   where
     go : Memᴰ u c.1 ⊎ Memᴰ u (members_of cs) → (Memᴰ u (members_of cs) → (e : Class) × Memᴰ e cs × Memᴰ u e.1) → (e : Class) × Memᴰ e (c ∷ cs) × Memᴰ u e.1
@@ -42,10 +43,12 @@ member_class {u} (c ∷ cs) m = go (split_mem c.1 (members_of cs) m) (member_cla
     go (inr n) ih = let (e, k, o) = ih n in (e, mathlib.Core.List.Memᴰ.tail k, o)
 
 pub class_members : {u : ℕ} (c : Class) (cs : List Class) → Memᴰ c cs → Memᴰ u c.1 → Memᴰ u (members_of cs)
+class_members {u = u} c [] x'' n = elim x'' [ ]
 class_members {u} c (e ∷ cs) (mathlib.Core.List.Memᴰ.head p) n = mem_append e.1 (members_of cs) (inl (subst (λ (s : Class). Memᴰ u s.1) p n))
 class_members c (e ∷ cs) (mathlib.Core.List.Memᴰ.tail m) n = mem_append e.1 (members_of cs) (inr (class_members c cs m n))
 
 class_names : (c : Class) (cs : List Class) → Memᴰ c cs → Memᴰ c.0 (names_of cs)
+class_names c [] x' = elim x' [ ]
 class_names c (e ∷ cs) (mathlib.Core.List.Memᴰ.head p) = mathlib.Core.List.Memᴰ.head (ap (λ e. e.0) p)
 class_names c (e ∷ cs) (mathlib.Core.List.Memᴰ.tail m) = mathlib.Core.List.Memᴰ.tail (class_names c cs m)
 
@@ -55,6 +58,7 @@ lookup [] n = []
 lookup (c ∷ cs) n = cond (eqb c.0 n) c.1 (lookup cs n)
 
 lookup_mem : {u : ℕ} (cs : List Class) (n : ℕ) → Memᴰ u (lookup cs n) → (c : Class) × Memᴰ c cs × (c.0 ≡ n) × Memᴰ u c.1
+lookup_mem {u = u} [] n m = elim m [ ]
 lookup_mem {u} (c ∷ cs) n m = go (eqb c.0 n) refl m (lookup_mem cs n)
   where
     go : (b : Bool) → eqb c.0 n ≡ b → Memᴰ u (cond b c.1 (lookup cs n)) → (Memᴰ u (lookup cs n) → (e : Class) × Memᴰ e cs × (e.0 ≡ n) × Memᴰ u e.1)
@@ -63,6 +67,7 @@ lookup_mem {u} (c ∷ cs) n m = go (eqb c.0 n) refl m (lookup_mem cs n)
     go false e k ih = let (d, a, b, o) = ih k in (d, mathlib.Core.List.Memᴰ.tail a, b, o)
 
 lookup_class : (c : Class) (cs : List Class) → Distinct (names_of cs) → Memᴰ c cs → lookup cs c.0 ≡ c.1
+lookup_class c [] d x'' = elim x'' [ ]
 lookup_class c (e ∷ cs) d (mathlib.Core.List.Memᴰ.head p) = ap (λ b. cond b e.1 (lookup cs c.0)) (eq-eqb e.0 c.0 (ap (λ e. e.0) (sym p))) ∙ ap (λ e. e.1) (sym p)
 lookup_class c (e ∷ cs) d (mathlib.Core.List.Memᴰ.tail m) =
     ap (λ b. cond b e.1 (lookup cs c.0)) (ne_eqb e.0 c.0 (λ i. d.0 (subst (λ (s : ℕ). Memᴰ s (names_of cs)) (sym i) (class_names c cs m)))) ∙ lookup_class c cs d.1 m
@@ -77,10 +82,12 @@ lookup_once (c ∷ cs) n d = go (eqb c.0 n) (distinct_left c.1 (members_of cs) d
 
 -- ---- the edges of the cycles
 cycles_edge : (par : ℕ → ℕ) {e : Edge} (c : Class) (cs : List Class) → Memᴰ c cs → Memᴰ e (cycle (par c.0) c.1) → Memᴰ e (cycles_of par cs)
+cycles_edge par {e = e} c [] x'' n = elim x'' [ ]
 cycles_edge par {e} c (d ∷ cs) (mathlib.Core.List.Memᴰ.head p) n = mem_append (cycle (par d.0) d.1) (cycles_of par cs) (inl (subst (λ (s : Class). Memᴰ e (cycle (par s.0) s.1)) p n))
 cycles_edge par c (d ∷ cs) (mathlib.Core.List.Memᴰ.tail m) n = mem_append (cycle (par d.0) d.1) (cycles_of par cs) (inr (cycles_edge par c cs m n))
 
 edge_cycle : (par : ℕ → ℕ) {e : Edge} (cs : List Class) → Memᴰ e (cycles_of par cs) → (c : Class) × Memᴰ c cs × Memᴰ e (cycle (par c.0) c.1)
+edge_cycle par {e = e} [] m = elim m [ ]
 edge_cycle par {e} (d ∷ cs) m = go (edge_append (cycle (par d.0) d.1) (cycles_of par cs) m) (edge_cycle par cs)
   where
     go : Memᴰ e (cycle (par d.0) d.1) ⊎ Memᴰ e (cycles_of par cs) → (Memᴰ e (cycles_of par cs) → (c : Class) × Memᴰ c cs × Memᴰ e (cycle (par c.0) c.1))
@@ -168,10 +175,12 @@ name_below par [] v = 0
 name_below par (c ∷ cs) v = cond (eqb (par c.0) v) c.0 (name_below par cs v)
 
 pub below_some : (par : ℕ → ℕ) (e : Class) (cs : List Class) (v : ℕ) → Memᴰ e cs → par e.0 ≡ v → 1 ≤ classes_below par cs v
+below_some par e [] v x'' i = elim x'' [ ]
 below_some par e (c ∷ cs) v (mathlib.Core.List.Memᴰ.head p) i = omega (arith, ap tick (eq-eqb (par c.0) v (ap (λ e. par e.0) (sym p) ∙ i)))
 below_some par e (c ∷ cs) v (mathlib.Core.List.Memᴰ.tail m) i = omega (arith, below_some par e cs v m i)
 
 below_one : (par : ℕ → ℕ) (e : Class) (cs : List Class) (v : ℕ) → classes_below par cs v ≤ 1 → Memᴰ e cs → par e.0 ≡ v → e.0 ≡ name_below par cs v
+below_one par e [] v l x3 i = elim x3 [ ]
 below_one par e (c ∷ cs) v l (mathlib.Core.List.Memᴰ.head p) i =
     ap (λ e. e.0) p ∙ sym (ap (λ b. cond b c.0 (name_below par cs v)) (eq-eqb (par c.0) v (ap (λ e. par e.0) (sym p) ∙ i)))
 below_one par e (c ∷ cs) v l (mathlib.Core.List.Memᴰ.tail m) i =
@@ -181,6 +190,7 @@ below_one par e (c ∷ cs) v l (mathlib.Core.List.Memᴰ.tail m) i =
 
 -- ---- the written cycles
 pub own_edge : (K : NodeSet) (par : ℕ → ℕ) (cs : List Class) {e : Edge} (ds : List Class) → Memᴰ e (own_cycles K par cs ds) → (c : Class) × Memᴰ c ds × Memᴰ e (cycle (par c.0) c.1)
+own_edge K par cs {e = e} [] m = elim m [ ]
 own_edge K par cs {e} (d ∷ ds) m = go (any (shares K par cs d) d.1) (edge_append (cond (any (shares K par cs d) d.1) [] (cycle (par d.0) d.1)) (own_cycles K par cs ds) m) (own_edge K par cs ds)
   where
     go : (b : Bool) → Memᴰ e (cond b [] (cycle (par d.0) d.1)) ⊎ Memᴰ e (own_cycles K par cs ds)
@@ -192,18 +202,21 @@ own_edge K par cs {e} (d ∷ ds) m = go (any (shares K par cs d) d.1) (edge_appe
 
 pub edge_own : (K : NodeSet) (par : ℕ → ℕ) (cs : List Class) {e : Edge} (c : Class) (ds : List Class) → Memᴰ c ds → Memᴰ e (cycle (par c.0) c.1) → any (shares K par cs c) c.1 ≡ false
     → Memᴰ e (own_cycles K par cs ds)
+edge_own K par cs {e = e} c [] x3 n f = elim x3 [ ]
 edge_own K par cs {e} c (d ∷ ds) (mathlib.Core.List.Memᴰ.head p) n f =
     mem_append (cond (any (shares K par cs d) d.1) [] (cycle (par d.0) d.1)) (own_cycles K par cs ds)
     (inl (subst (λ (b : Bool). Memᴰ e (cond b [] (cycle (par d.0) d.1))) (sym (ap (λ s. any (shares K par cs s) s.1) (sym p) ∙ f)) (subst (λ (s : Class). Memᴰ e (cycle (par s.0) s.1)) p n)))
 edge_own K par cs c (d ∷ ds) (mathlib.Core.List.Memᴰ.tail m) n f = mem_append (cond (any (shares K par cs d) d.1) [] (cycle (par d.0) d.1)) (own_cycles K par cs ds) (inr (edge_own K par cs c ds m n f))
 
 pub own_member : (K : NodeSet) (par : ℕ → ℕ) (cs : List Class) {u : ℕ} (c : Class) (ds : List Class) → Memᴰ c ds → Memᴰ u c.1 → shares K par cs c u ≡ false → Memᴰ u (own_members K par cs ds)
+own_member K par cs {u = u} c [] x3 n f = elim x3 [ ]
 own_member K par cs {u} c (d ∷ ds) (mathlib.Core.List.Memᴰ.head p) n f =
     mem_append (filter (λ v. not (shares K par cs d v)) d.1) (own_members K par cs ds)
     (inl (in_filter (λ v. not (shares K par cs d v)) u d.1 (subst (λ (s : Class). Memᴰ u s.1) p n) (ap not (ap (λ s. shares K par cs s u) (sym p) ∙ f))))
 own_member K par cs c (d ∷ ds) (mathlib.Core.List.Memᴰ.tail m) n f = mem_append (filter (λ v. not (shares K par cs d v)) d.1) (own_members K par cs ds) (inr (own_member K par cs c ds m n f))
 
 pub member_own : (K : NodeSet) (par : ℕ → ℕ) (cs : List Class) {u : ℕ} (ds : List Class) → Memᴰ u (own_members K par cs ds) → (c : Class) × Memᴰ c ds × Memᴰ u c.1 × (shares K par cs c u ≡ false)
+member_own K par cs {u = u} [] m = elim m [ ]
 member_own K par cs {u} (d ∷ ds) m = go (split_mem (filter (λ v. not (shares K par cs d v)) d.1) (own_members K par cs ds) m) (member_own K par cs ds)
   where
     go : Memᴰ u (filter (λ v. not (shares K par cs d v)) d.1) ⊎ Memᴰ u (own_members K par cs ds)
@@ -242,6 +255,7 @@ module _ (E : List Edge) (B : Blocks E) (K : NodeSet) (Q : List ℕ) (cs : List 
 
   -- a merged junction goes where its top goes, and the others stay
   pub merged_top : (vs : List ℕ) → Falling B.pos vs → (v : ℕ) → Memᴰ v vs → merged_to B vs v ≡ merged_to B vs (top_of B v)
+  merged_top [] f v x'' = elim x'' [ ]
   merged_top (x ∷ vs) f v (mathlib.Core.List.Memᴰ.head p) =
       let t = merged_to B vs (top_of B x) in
       let same : onto t x t ≡ t = on_eq t x (λ e. ap (onto t x) e ∙ onto_there t x) (onto_other t x t) in
@@ -347,6 +361,7 @@ module _ (E : List Edge) (B : Blocks E) (K : NodeSet) (Q : List ℕ) (cs : List 
 
     -- ---- the size
     active_some : (c : Class) (ds : List Class) → Memᴰ c ds → K (B.par c.0) ≡ true → 1 ≤ activeTops K B.par ds
+    active_some c [] x'' a = elim x'' [ ]
     active_some c (d ∷ ds) (mathlib.Core.List.Memᴰ.head p) a = omega (arith, ap tick (ap (λ e. K (B.par e.0)) (sym p) ∙ a))
     active_some c (d ∷ ds) (mathlib.Core.List.Memᴰ.tail m) a = omega (arith, active_some c ds m a)
 

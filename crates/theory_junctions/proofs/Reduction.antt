@@ -27,6 +27,7 @@ head_of [] = 0
 head_of (x ∷ xs) = x
 
 head_mem : {u : ℕ} (xs : List ℕ) → Memᴰ u xs → Memᴰ (head_of xs) xs
+head_mem {u = u} [] m = elim m [ ]
 head_mem (x ∷ xs) m = mathlib.Core.List.Memᴰ.head refl
 
 -- ---- blocks
@@ -241,6 +242,7 @@ module _ (E : List Edge) (B : Blocks E) (K : NodeSet) (H : List Edge) (R : Rings
             only (subst (λ (l : List ℕ). Memᴰ b l) (ap R.ring (sym j) ∙ g.alone) o)
           where
             only : Memᴰ b (v ∷ []) → A
+            only (Memᴰ.tail x13) = elim x13 [ ]
             only (mathlib.Core.List.Memᴰ.head e) = f e
 
         start : Memᴰ (v, b) H ⊎ Memᴰ (b, v) H → A

@@ -10,7 +10,7 @@ use mathlib.Core.Path.{◌∙◌, ◌≡◌, ap, ap₂, refl, subst, sym}
 use lib.Dec.{eqb, leb}
 use native.Mathlib.Omega.{arith}
 use borrow.Author.Tests.{eqb-false, eqb-true, leb-false, leb-true, ne_eqb, not-true}
-use Rattle.theory_graph.proofs.Booleans.{and_elim, contradict, on_bool, or_elim}
+use Rattle.theory_graph.proofs.Booleans.{contradict, on_bool, or_elim}
 use Rattle.theory_graph.proofs.Definitions.{joined_from, joined_to}
 use Rattle.theory_graph.proofs.Lists.{mem_member, member_mem, tests_each}
 use Rattle.theory_graph.proofs.Reach.{reach, reach_connected, reach_separated}
@@ -31,6 +31,7 @@ or_false true b h = contradict refl h
 or_false false b h = (refl, h)
 
 pub edge_ends : {p q : ℕ} (E : List Edge) → Memᴰ (p, q) E → Memᴰ p (ends_of E) × Memᴰ q (ends_of E)
+edge_ends {p = p} {q = q} [] x' = elim x' [ ]
 edge_ends (e ∷ E) (Memᴰ.head h) = (Memᴰ.head (ap (λ e. e.0) h), Memᴰ.tail (Memᴰ.head (ap (λ e. e.1) h)))
 edge_ends (e ∷ E) (Memᴰ.tail m) = let (a, b) = edge_ends E m in (Memᴰ.tail (Memᴰ.tail a), Memᴰ.tail (Memᴰ.tail b))
 

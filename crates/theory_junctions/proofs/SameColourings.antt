@@ -53,6 +53,7 @@ same_labels K L f G g H h i s =
 
 -- ---- edges added between labels
 pub ends_in_edge : (N : NodeSet) (a b : ℕ) (F : List Edge) → ends_in N F ≡ true → Memᴰ (a, b) F → (N a ≡ true) × (N b ≡ true)
+ends_in_edge N a b [] w x'' = elim x'' [ ]
 ends_in_edge N a b (e ∷ F) w (Memᴰ.head h) = and_elim (N e.0) (N e.1 && ends_in N F) w λ p r. and_elim (N e.1) (ends_in N F) r λ q t. (ap (λ e. N e.0) h ∙ p, ap (λ e. N e.1) h ∙ q)
 ends_in_edge N a b (e ∷ F) w (Memᴰ.tail m) = and_elim (N e.0) (N e.1 && ends_in N F) w λ p r. and_elim (N e.1) (ends_in N F) r λ q t. ends_in_edge N a b F t m
 

@@ -83,6 +83,7 @@ abbrev roots_of : List Edge → List ℕ → List ℕ
 roots_of E S = firsts (joined E) S
 
 root_itself : (E : List Edge) (S : List ℕ) (r : ℕ) → Memᴰ r (roots_of E S) → root_of E S r ≡ r
+root_itself E [] r x' = elim x' [ ]
 root_itself E (s ∷ S) r (Memᴰ.head e) = ap (λ b. cond b s (root_of E S r)) (subst (λ (v : ℕ). joined E s v ≡ true) (sym e) (joined_refl E s)) ∙ sym e
 root_itself E (s ∷ S) r (Memᴰ.tail m) =
     let (n, h) = filter_in (λ y. not (joined E s y)) r (roots_of E S) m in
@@ -112,6 +113,7 @@ rest n (Memᴰ.head e) = absurd (n e)
 rest n (Memᴰ.tail m) = m
 
 place_below : (J : List ℕ) (v : ℕ) → Memᴰ v J → place_in J v < length J
+place_below [] v m = elim m [ ]
 place_below (x ∷ J) v m = on_eq v x (λ e. omega (arith, place_first x J v e)) (λ n. omega (arith, place_later x J v n, place_below J v (rest n m)))
 
 -- places rise where the list is read from its end
@@ -141,6 +143,7 @@ place_rises (x ∷ J) d =
     old w m = place_later x J w (λ e. d.0 (subst (λ (v : ℕ). Memᴰ v J) e m))
 
 place_once : (J : List ℕ) (u v : ℕ) → Memᴰ u J → Memᴰ v J → place_in J u ≡ place_in J v → u ≡ v
+place_once [] u v a b e = elim a [ ]
 place_once (x ∷ J) u v a b e =
     on_eq u x
     (λ i. on_eq v x (λ j. i ∙ sym j) (λ j. absurd (omega (arith, e, place_first x J u i, place_later x J v j, place_below J v (rest j b)))))

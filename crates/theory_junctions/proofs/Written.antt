@@ -150,6 +150,7 @@ module _ (E : List Edge) (B : Blocks E) (x y : ℕ) (rel : NodeSet) (order : Lis
     edge_there (e ∷ G) f n = go (f e.0 e.1 (Memᴰ.head refl))
       where
         has : {e : Edge} (M : List Edge) → Memᴰ e M → no_edge M ≡ false
+        has [] m = elim m [ ]
         has (e ∷ M) m = refl
 
         go : Memᴰ (e.0, e.1) X ⊎ Memᴰ (e.1, e.0) X → no_edge X ≡ false

@@ -28,6 +28,8 @@ least_in n (m ∷ ns) =
     (λ t. let l = leb-false n (least (m ∷ ns)) t in Memᴰ.tail (subst (λ (k : ℕ). Memᴰ k (m ∷ ns)) (omega arith) (least_in m ns)))
 
 pub least_low : (ns : List ℕ) {a : ℕ} → Memᴰ a ns → least ns ≤ a
+least_low [] {a = a} x' = elim x' [ ]
+least_low (n ∷ []) {a = a} (Memᴰ.tail k) = elim k [ ]
 least_low (n ∷ []) (Memᴰ.head p) = omega arith
 least_low (n ∷ m ∷ ns) (Memᴰ.head p) = omega arith
 least_low (n ∷ m ∷ ns) (Memᴰ.tail k) = omega (arith, least_low (m ∷ ns) k)

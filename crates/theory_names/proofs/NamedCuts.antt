@@ -35,6 +35,7 @@ plain_in (Memᴰ.head p) = Memᴰ.head (ap (λ (e : Entry). e.0) p)
 plain_in (Memᴰ.tail m) = Memᴰ.tail (plain_in m)
 
 pub in_plain : (G : Named) {e : Edge} → Memᴰ e (plain G) → (n : ℕ) × Memᴰ (e, n) G
+in_plain [] {e = e} x' = elim x' [ ]
 in_plain (f ∷ G) {e} (Memᴰ.head p) = (f.1, Memᴰ.head (ap (λ (g : Edge). (g, f.1)) p))
 in_plain (f ∷ G) (Memᴰ.tail m) = let (n, k) = in_plain G m in (n, Memᴰ.tail k)
 
@@ -115,6 +116,7 @@ entry_leaves U (e ∷ G) h =
 
 -- where just one entry leaves the set, names is its name
 pub names_one : (U : NodeSet) (e : Entry) {G : Named} → cut U (plain G) ≤ 1 → Memᴰ e G → 0 < crossing U e.0 → cut_names U G ≡ e.1
+names_one U e {G = []} c x3 l = elim x3 [ ]
 names_one U e {G = f ∷ G} c (Memᴰ.head p) l =
     let l' : 0 < crossing U f.0 = subst (λ (g : Entry). 0 < crossing U g.0) p l in
     let k : crossing U f.0 ≡ 1 = omega (arith, crosses_le (U f.0.0) (U f.0.1)) in

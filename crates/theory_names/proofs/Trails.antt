@@ -39,6 +39,7 @@ without_more (later w) (Memᴰ.tail m) = Memᴰ.tail (without_more w m)
 
 -- ---- the entries of a trail
 pub trail_in : {G T : Named} {x y : ℕ} → Trail G x y T → {e : Entry} → Memᴰ e T → Memᴰ e G
+trail_in (stay {G = G}) {e = e} x10 = elim x10 [ ]
 trail_in (fore w t) (Memᴰ.head p) = Memᴰ.cast p (without_in w)
 trail_in (fore w t) (Memᴰ.tail m) = without_more w (trail_in t m)
 trail_in (back w t) (Memᴰ.head p) = Memᴰ.cast p (without_in w)
@@ -70,6 +71,7 @@ trail_parts U {x = x} {y = z} (back {T = T} {y = y} w t) c =
 
 -- ---- the entries that join different classes
 entry_filter : (f : Entry → Bool) (e : Entry) (T : Named) → Memᴰ e T → f e ≡ true → Memᴰ e (filter f T)
+entry_filter f e [] m q = elim m [ ]
 entry_filter f e (d ∷ T) m q = go (f d) refl m (λ n. entry_filter f e T n q)
   where
     go : (b : Bool) → f d ≡ b → Memᴰ e (d ∷ T) → (Memᴰ e T → Memᴰ e (filter f T)) → Memᴰ e (cond b (d ∷ filter f T) (filter f T))

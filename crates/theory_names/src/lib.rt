@@ -1,1 +1,2 @@
 // Names on edges: definitions in specs/, laws in proofs/. No code.
+#![tactic(auto)]

@@ -133,6 +133,7 @@ mem_drop (suc n) e [] m = m
 mem_drop (suc n) e (x ∷ l) m = Memᴰ.tail (mem_drop n e l m)
 
 mem_at : (e : Event) (l : List Event) → Memᴰ e l → (i : ℕ) × (i < length l) × (get_or l i (0, 0) ≡ e)
+mem_at e [] x' = elim x' [ ]
 mem_at e (x ∷ l) (Memᴰ.head p) = (0, omega arith, sym p)
 mem_at e (x ∷ l) (Memᴰ.tail m) = let (i, h, q) = mem_at e l m in (suc i, omega arith, q)
 

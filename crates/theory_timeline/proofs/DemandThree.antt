@@ -1,6 +1,6 @@
 -- The proof of demand 3, stated in specs/DemandThree: first one window, then two replays.
 -- Assumes nothing.
-use Prim.Native.Nat.{suc, zero, ℕ}
+use Prim.Native.Nat.{ℕ}
 use mathlib.Core.Bool.{Bool, ◌&&◌, false, true}
 use mathlib.Core.List.{List, Memᴰ, [], ◌++◌, ◌∷◌, map}
 use mathlib.Core.Logic.{◌↔◌}

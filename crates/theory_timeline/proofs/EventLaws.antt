@@ -12,7 +12,6 @@ use borrow.Author.Tests.{eq-eqb, eqb-true}
 use Rattle.call_kinds.proofs.KindLaws.{change_asks_not, query_keeps}
 use Rattle.call_kinds.specs.Kinds.{kind_of}
 use Rattle.theory_graph.proofs.Booleans.{and_elim, contradict, on_bool, or_elim}
-use Rattle.theory_graph.proofs.Lists.{here}
 use Rattle.theory_graph.specs.Graph.{Edge, NodeSet}
 use Rattle.theory_graph.specs.Lists.{any, range}
 use Rattle.theory_graph.specs.SmallGraph.{ends_in}

@@ -56,10 +56,12 @@ unfolding K.is_opening K.is_closing K.kind_of road open_roads network_of W.open_
 roads = refl
 
 fresh : (e : Edge) → Memᴰ e (plain (network (given triangle) (2, 3))) → Apart e ((2, 0) ∷ [])
+fresh e m f (Memᴰ.tail x4) = elim x4 [ ]
 fresh e m f (Memᴰ.head q) = ap (same_ends e) q ∙ of (subst (λ (E : List Edge). Memᴰ e E) roads m)
   where
     of : Memᴰ e ((0, 1) ∷ (1, 2) ∷ []) → same_ends e (2, 0) ≡ false
     of (Memᴰ.head p) = ap (λ e. same_ends e (2, 0)) p
+    of (Memᴰ.tail (Memᴰ.tail x10)) = elim x10 [ ]
     of (Memᴰ.tail (Memᴰ.head p)) = ap (λ e. same_ends e (2, 0)) p
 
 -- the road 2-0, which this network does not have, makes the same answers in the network and in the small graph
@@ -74,6 +76,7 @@ example =
     pair = (Memᴰ.tail (Memᴰ.head refl), Memᴰ.head refl)
 
     among : Among (active (given triangle) (2, 3)) ((2, 0) ∷ [])
+    among e (Memᴰ.tail x4) = elim x4 [ ]
     among e (Memᴰ.head p) = subst (λ (e : Edge). Memᴰ e.0 (active (given triangle) (2, 3)) × Memᴰ e.1 (active (given triangle) (2, 3))) (sym p) pair
 
 -- why a pair is not repeated: two carriageways are one road, whose loss parts its ends; two edges of a small graph with the same ends are two roads

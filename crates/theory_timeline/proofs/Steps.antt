@@ -44,6 +44,7 @@ module _ (g : Timeline) (good : Good g) (w : Window) (n : ℕ) (H : Named) (σ :
   made_bound = subst (λ (k : ℕ). k ≤ most_nodes (different (active g w))) (sym made_nodes) (faithful g good w).nodes
 
 map_low : (σ : ℕ → ℕ) (h : ℕ) (S : List ℕ) → ((a : ℕ) → Memᴰ a S → σ a < h) → (v : ℕ) → Memᴰ v (map σ S) → v < h
+map_low σ h [] f v x'' = elim x'' [ ]
 map_low σ h (x ∷ S) f v (Memᴰ.head p) = subst (λ (v : ℕ). v < h) (sym p) (f x (Memᴰ.head refl))
 map_low σ h (x ∷ S) f v (Memᴰ.tail m) = map_low σ h S (λ a m. f a (Memᴰ.tail m)) v m
 

@@ -2,7 +2,7 @@
 -- In order: seeking; what a tag says; a key between two events; one key alone; in front of the part, behind it, both; lists of words.
 -- Assumes nothing.
 use Prim.Native.Nat.{◌%◌, ◌*◌, ◌+◌, ◌-◌, ◌/◌, ◌<◌, ◌≤◌, suc, zero, ℕ}
-use mathlib.Core.Bool.{Bool, ◌&&◌, ◌||◌, and-false, cond, false, not, or_assoc, or_false, or-true, true}
+use mathlib.Core.Bool.{Bool, ◌&&◌, ◌||◌, and-false, cond, false, not, or_assoc, or-false, or-true, true}
 use mathlib.Core.List.{List, [], ◌++◌, ◌∷◌}
 use mathlib.Core.Logic.{◌⊎◌, inl, inr}
 use mathlib.Core.Path.{◌∙◌, ◌≡◌, ap, ap₂, refl, subst, sym}
@@ -260,7 +260,7 @@ passes o false false b = inr (and-false o, refl)
 named_snoc : (g : Timeline) (a k r : ℕ) → names_in g a (suc k) r ≡ (names_in g a k r || names_key g r (a + k))
 named_snoc g a k r =
     let e : suc k ≡ k + 1 = omega arith in
-    ap (λ (n : ℕ). names_in g a n r) e ∙ any_add (names_key g r) a k 1 ∙ ap (λ (x : Bool). names_in g a k r || x) (or_false (names_key g r (a + k)))
+    ap (λ (n : ℕ). names_in g a n r) e ∙ any_add (names_key g r) a k 1 ∙ ap (λ (x : Bool). names_in g a k r || x) (or-false (names_key g r (a + k)))
 
 module _ (g : Timeline) (w c : Window) (h : Part w c) (fit : w.0 + w.1 ≤ size g) (fine : (i : ℕ) → i < size g → changes_at g i ≡ true → (event g i).1 < length g.segments) where
   abbrev segs : List Edge
@@ -436,7 +436,7 @@ module _ (g : Timeline) (w c : Window) (h : Part w c) (fit : w.0 + w.1 ≤ size 
       let i : ℕ = c.0 + c.1 + k in
       let same : (r : ℕ) → names_key g r i ≡ false → behind (suc k) r ≡ behind k r = λ r n.
       ap (λ (x : Bool). O r && (x && not (names_in g w.0 (c.0 + c.1 - w.0) r)))
-      (named_snoc g (c.0 + c.1) k r ∙ ap (λ (x : Bool). names_in g (c.0 + c.1) k r || x) n ∙ or_false (names_in g (c.0 + c.1) k r)) in
+      (named_snoc g (c.0 + c.1) k r ∙ ap (λ (x : Bool). names_in g (c.0 + c.1) k r || x) n ∙ or-false (names_in g (c.0 + c.1) k r)) in
       let one = one_event φ U i (omega arith) (behind (suc k)) (behind k) (λ q r. same r (names_none g i r q)) (λ r n. same r (names_other g i r n)) (back_own k (omega arith)) in
       omega (arith, ap (weigh φ U) (pick_snoc f (entry_at g) (c.0 + c.1) k), weigh_append φ U (pick_events f (entry_at g) (c.0 + c.1) k) (pick_events f (entry_at g) (c.0 + c.1 + k) 1))
 

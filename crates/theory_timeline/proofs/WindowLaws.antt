@@ -98,6 +98,7 @@ module _ (p : ℕ) (a : Allowed p) where
       same e = subst (λ (v : Window). Win p t v.0 v.1) (sym e) W
 
       one : Memᴰ w ((at, n) ∷ []) → Win p t w.0 w.1
+      one (Memᴰ.tail x7) = elim x7 [ ]
       one (Memᴰ.head e) = same e
 
       more : 2 ≤ n → (Memᴰ w (windows_from p k at (first_part p n)) → Win p t w.0 w.1)
@@ -135,6 +136,7 @@ module _ (p : ℕ) (a : Allowed p) where
       (subst (λ (x : List Window). Memᴰ w x) (large_one k at n l) m))
     where
       one : n < 2 → Memᴰ w ((at, n) ∷ []) → ⊥
+      one l (Memᴰ.tail x7) = elim x7 [ ]
       one l (Memᴰ.head e) = let q : w.1 ≡ n = ap (λ (v : Window). v.1) e in omega arith
 
       more : (F G : List Window) → (Memᴰ w F → Parts p w F) → (Memᴰ w G → Parts p w G) → Memᴰ (at, first_part p n) F → Memᴰ (at + first_part p n, n - first_part p n) G

@@ -5,7 +5,7 @@ use Rattle.std.specs.Prelude.{◌<◌, ℕ, cond, ◌≡◌, get_or}
 use mathlib.Core.List.{Memᴰ}
 use Rattle.theory_graph.specs.SmallGraph.{read_off}
 use Rattle.theory_names.specs.NamedSmallGraph.{read_name}
-use Rattle.theory_timeline.specs.Replay.{Lent, Outcome, byte, given}
+use Rattle.theory_timeline.specs.Replay.{Lent, Outcome, given}
 use Rattle.theory_timeline.specs.Windows.{asks_at, small, small_named, windows}
 
 -- each event has a window of its own, and an accepted replay's byte of it is 3, or read off that window's small graph; its name is 65,535, or read off it too

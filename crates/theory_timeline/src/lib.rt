@@ -1,5 +1,6 @@
 // The list of events over a network: definitions in specs/, their laws and demand 3 in proofs/. The replay itself is in the crate call_replay; its reply's
 // types stand here, for demand 3 speaks of them. The kinds of events are in call_kinds.
+#![tactic(auto)]
 
 // What an accepted replay returns: the queries, the segments open at the end, and kept.
 #[derive(Drop)]

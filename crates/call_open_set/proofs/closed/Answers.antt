@@ -1,5 +1,4 @@
 -- `closed` meets its contract: past the last segment nothing changes, else the bit of s is 0 and all others are as they were.
-use borrow.Author.Rules.{rules}
 use Rattle.call_open_set.proofs.OpenSetLaws.{set_at_segment, set_past}
 use Rattle.call_open_set.proofs.closed.Goals as goal
 

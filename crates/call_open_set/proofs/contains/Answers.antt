@@ -1,5 +1,4 @@
 -- `contains` meets its contract: a segment is in the set where its bit is 1.
-use borrow.Author.Rules.{rules}
 use Rattle.call_open_set.proofs.OpenSetLaws.{bit_open, bit_past}
 use Rattle.call_open_set.proofs.contains.Goals as goal
 

@@ -1,4 +1,4 @@
-use Prim.Native.Nat.{◌*◌, ◌+◌, ◌-◌, ◌<◌, ◌≤◌, suc}
+use Prim.Native.Nat.{◌+◌, ◌<◌, suc}
 use mathlib.Core.Path.{◌≡◌}
 use lib.Count.{ones, ones-le}
 use lib.ListN.{drop, get_or, length}
@@ -6,7 +6,6 @@ use lib.Seq.{drop-cons}
 use native.Mathlib.Numerals.{add-one}
 use native.Mathlib.Omega.{arith}
 use Rattle.theory_graph.specs.Lists.{sum}
-use Rattle.theory_graph.specs.Route.{step}
 use Rattle.call_open_set.proofs.OpenSetLaws.{none_left, sum_bits, word_fits}
 use Rattle.call_open_set.specs.OpenSet.{bits}
 use Rattle.call_open_set.proofs.count.Goals as goal

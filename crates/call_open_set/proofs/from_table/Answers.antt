@@ -1,14 +1,13 @@
-use Prim.Native.Nat.{◌-◌, ◌<◌, ◌≤◌, ℕ}
+use Prim.Native.Nat.{◌<◌, ℕ}
 use mathlib.Core.Bool.{◌&&◌}
-use mathlib.Core.Logic.{⊎_elim}
 use mathlib.Core.Path.{◌∙◌, ◌≡◌, ap, fun_ext}
 use lib.Dec.{eqb, ltb}
 use lib.ListN.{get_or}
 use native.Mathlib.Omega.{arith}
-use borrow.Author.Rules.{rules}
-use Rattle.call_open_set.proofs.OpenSetLaws.{Filled, filled_closed, filled_none, filled_open, set_at_segment}
+use Rattle.call_open_set.proofs.OpenSetLaws.{filled_closed, filled_none, filled_open, set_at_segment}
 use Rattle.call_open_set.specs.OpenSet.{bits}
 use Rattle.call_open_set.proofs.from_table.Goals as goal
+use Rattle.call_open_set.proofs.from_table.Goals.{then-start-s-eq1, else-start-s-eq1}
 
 pub loop-s-init : goal.loop-s-init
 loop-s-init c = (omega arith, filled_none _)
@@ -17,13 +16,11 @@ pub loop-s-preserved : goal.loop-s-preserved
 loop-s-preserved c =
     let s = c.loop-s.s in
     let (l, p) = c.loop-s.invariant in
-    let few : s < 8192 = omega arith in (
-      omega arith,
-      ⊎_elim
-          (λ w. filled_open p few (omega (arith, w.0.taken)) _ (ap bits w.2 ∙ set_at_segment c.loop-s.held s _ 1 p.words few w.1.ensures))
-          (λ w. rw w.1 (filled_closed p (λ z. omega (arith, w.0.left))))
-          c.if-start-s-eq1.branch,
-    )
+    let few : s < 8192 = omega arith in
+    elim c.if-start-s-eq1.branch [
+      | then-start-s-eq1 w ↦ (omega arith, filled_open p few w.if-start-s-eq1.true _ (ap bits w.held-is ∙ set_at_segment c.loop-s.held s _ 1 p.words few w.with_bit.ensures))
+      | else-start-s-eq1 w ↦ (omega arith, rw w.held-is (filled_closed p w.if-start-s-eq1.false))
+    ]
 
 pub returns : goal.returns
 returns c =

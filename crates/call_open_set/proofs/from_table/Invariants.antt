@@ -1,14 +1,6 @@
 -- `from_table` meets its contract. The loop's invariant: of the segments before s those are in the set whose entry is 1, and no other is.
-use Prim.Native.Nat.{◌-◌, ◌<◌, ◌≤◌, ℕ}
-use mathlib.Core.Bool.{◌&&◌}
-use mathlib.Core.Logic.{⊎_elim}
-use mathlib.Core.Path.{◌∙◌, ◌≡◌, ap, fun_ext}
-use lib.Dec.{eqb, ltb}
-use lib.ListN.{get_or}
-use native.Mathlib.Omega.{arith}
-use borrow.Author.Rules.{rules}
-use Rattle.call_open_set.proofs.OpenSetLaws.{Filled, filled_closed, filled_none, filled_open, set_at_segment}
-use Rattle.call_open_set.specs.OpenSet.{bits}
+use Prim.Native.Nat.{◌-◌, ◌≤◌}
+use Rattle.call_open_set.proofs.OpenSetLaws.{Filled}
 use Rattle.call_open_set.proofs.from_table.Given as goal
 
 abbrev pub invariant-loop-s : goal.invariant-loop-s

@@ -1,7 +1,6 @@
 -- `with_bit` meets its contract: of the word's digits only that of b changes, to 1.
 use mathlib.Core.Path.{◌∙◌, ap}
 use lib.Bits.{bit_or}
-use borrow.Author.Rules.{rules}
 use Rattle.call_open_set.proofs.OpenSetLaws.{one_bit, or_digit}
 use Rattle.call_open_set.specs.OpenSet.{digits}
 use Rattle.call_open_set.proofs.with_bit.Goals as goal

@@ -1,5 +1,4 @@
 -- `without_bit` meets its contract: of the word's digits only that of b changes, to 0.
-use borrow.Author.Rules.{rules}
 use Rattle.call_open_set.proofs.OpenSetLaws.{off_digit, one_bit}
 use Rattle.call_open_set.proofs.without_bit.Goals as goal
 

@@ -1,5 +1,4 @@
 -- `append_node` meets its contract.
-use borrow.Author.Rules.{rules}
 use Rattle.core_forest.proofs.SearchLaws.{appended}
 use Rattle.core_forest.proofs.append_node.Goals as goal
 

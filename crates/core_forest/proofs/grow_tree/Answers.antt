@@ -1,8 +1,6 @@
-use Prim.Native.Nat.{◌-◌}
 use mathlib.Core.Path.{◌≡◌}
 use native.Mathlib.Omega.{arith}
 use Rattle.core_forest.proofs.SearchLaws.{growing_still, grown_less, grown_none, grown_then}
-use Rattle.core_forest.specs.Search.{Grown}
 use Rattle.core_forest.proofs.grow_tree.Goals as goal
 
 pub loop-done-init : goal.loop-done-init

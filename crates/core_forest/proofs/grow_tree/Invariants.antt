@@ -1,8 +1,5 @@
 -- `grow_tree` meets its contract. The loop's invariant: the search of the tree of r goes on, with `done` nodes finished.
 use Prim.Native.Nat.{◌-◌}
-use mathlib.Core.Path.{◌≡◌}
-use native.Mathlib.Omega.{arith}
-use Rattle.core_forest.proofs.SearchLaws.{growing_still, grown_less, grown_none, grown_then}
 use Rattle.core_forest.specs.Search.{Grown}
 use Rattle.core_forest.proofs.grow_tree.Given as goal
 

@@ -1,7 +1,6 @@
-use Prim.Native.Nat.{◌*◌, ◌-◌, ◌≤◌}
+use Prim.Native.Nat.{◌*◌}
 use mathlib.Core.Path.{◌≡◌}
 use native.Mathlib.Omega.{arith}
-use borrow.Author.Rules.{rules}
 use Rattle.core_forest.proofs.AdjacencyLaws.{all_linked, edge_linked, even_leaves, linking_none, linking_self, odd_leaves}
 use Rattle.core_forest.specs.AdjacencyLists.{Linking}
 use Rattle.core_forest.proofs.link_edges.Goals as goal

@@ -1,6 +1,5 @@
 -- `link_half` meets its contract.
 use native.Mathlib.Omega.{arith}
-use borrow.Author.Rules.{rules}
 use Rattle.core_forest.proofs.AdjacencyLaws.{half_linked, v_fits}
 use Rattle.core_forest.proofs.link_half.Goals as goal
 

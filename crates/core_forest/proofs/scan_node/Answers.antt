@@ -1,7 +1,6 @@
 use mathlib.Core.Path.{refl}
 use native.Mathlib.Omega.{arith}
-use borrow.Author.Rules.{rules}
-use Rattle.core_forest.proofs.SearchLaws.{ScanLoop, scan_can, scan_done, scan_more, scan_none, seen_less}
+use Rattle.core_forest.proofs.SearchLaws.{scan_can, scan_done, scan_more, scan_none, seen_less}
 use Rattle.core_forest.proofs.scan_node.Goals as goal
 
 pub get-v-requires : goal.get-v-requires

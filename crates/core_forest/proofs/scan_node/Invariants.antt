@@ -1,8 +1,5 @@
 -- `scan_node` meets its contract. The loop's invariant: the half-edges of v from `cur` on have been followed, and `cur` is the next in v's list.
-use mathlib.Core.Path.{refl}
-use native.Mathlib.Omega.{arith}
-use borrow.Author.Rules.{rules}
-use Rattle.core_forest.proofs.SearchLaws.{ScanLoop, scan_can, scan_done, scan_more, scan_none, seen_less}
+use Rattle.core_forest.proofs.SearchLaws.{ScanLoop}
 use Rattle.core_forest.proofs.scan_node.Given as goal
 
 abbrev pub invariant-loop-cur : goal.invariant-loop-cur

@@ -1,8 +1,6 @@
-use Prim.Native.Nat.{◌-◌, ◌≤◌}
 use mathlib.Core.Path.{◌≡◌}
 use native.Mathlib.Omega.{arith}
 use Rattle.core_forest.proofs.SearchLaws.{forest_of, keeps_none, keeps_then}
-use Rattle.core_forest.specs.Search.{BetweenTrees, SearchKeeps}
 use Rattle.core_forest.proofs.spanning_forest.Goals as goal
 
 pub loop-j-init : goal.loop-j-init

@@ -1,8 +1,5 @@
 -- `spanning_forest` meets its contract. The loop's invariant: the first j active nodes are seen.
-use Prim.Native.Nat.{◌-◌, ◌≤◌}
-use mathlib.Core.Path.{◌≡◌}
-use native.Mathlib.Omega.{arith}
-use Rattle.core_forest.proofs.SearchLaws.{forest_of, keeps_none, keeps_then}
+use Prim.Native.Nat.{◌≤◌}
 use Rattle.core_forest.specs.Search.{BetweenTrees, SearchKeeps}
 use Rattle.core_forest.proofs.spanning_forest.Given as goal
 

@@ -1,7 +1,6 @@
 -- `start_tree` meets its contract.
 use mathlib.Core.Path.{refl}
 use native.Mathlib.Omega.{arith}
-use borrow.Author.Rules.{rules}
 use Rattle.core_forest.proofs.SearchLaws.{r_fits, start_done, start_grows, start_new, start_seen}
 use Rattle.core_forest.proofs.start_tree.Goals as goal
 

@@ -1,7 +1,6 @@
 -- `visit_half` meets its contract.
 use mathlib.Core.Path.{refl}
 use native.Mathlib.Omega.{arith}
-use borrow.Author.Rules.{rules}
 use Rattle.core_forest.proofs.SearchLaws.{visit_added, visit_new, visit_seen, x_fits}
 use Rattle.core_forest.proofs.visit_half.Goals as goal
 

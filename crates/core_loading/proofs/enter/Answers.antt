@@ -1,7 +1,6 @@
 -- `enter` meets its contract.
 use mathlib.Core.Path.{◌∙◌, ◌≡◌, sym}
 use native.Mathlib.Omega.{arith}
-use borrow.Author.Rules.{rules}
 use Rattle.core_loading.proofs.LoadingLaws.{entering_again, entering_new, entering_room}
 use Rattle.core_words.specs.Fields.{MARK, node}
 use Rattle.core_loading.proofs.enter.Goals as goal

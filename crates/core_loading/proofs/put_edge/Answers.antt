@@ -1,5 +1,4 @@
 -- `put_edge` meets its contract: two half-edges, and the name at the first.
-use borrow.Author.Rules.{rules}
 use Rattle.core_loading.proofs.LoadingLaws.{put_edge_lem}
 use Rattle.core_loading.proofs.put_edge.Goals as goal
 

@@ -1,0 +1,7 @@
+-- `merge_edges` meets its contract. The loop's invariant: the first e edges are merged.
+use Prim.Native.Nat.{◌≤◌}
+use Rattle.core_components.specs.Merging.{EdgesMerged}
+use Rattle.core_components.proofs.merge_edges.Given as goal
+
+abbrev pub invariant-loop-e : goal.invariant-loop-e
+invariant-loop-e l = (l.e ≤ l.m) × EdgesMerged l.n l.m l.initial.work l.e l.work
