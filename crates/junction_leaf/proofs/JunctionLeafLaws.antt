@@ -45,6 +45,7 @@ adjacent_more (d ∷ G) e x y = ap (λ (b : Bool). hits d x y || b) (adjacent_mo
     go false b c = refl
 
 adjacent_in : (G : List Edge) (e : Edge) (x y : ℕ) → Memᴰ e G → hits e x y ≡ true → adjacent G x y ≡ true
+adjacent_in [] e x y x4 h = elim x4 [ ]
 adjacent_in (d ∷ G) e x y (Memᴰ.head p) h = ap (λ (b : Bool). b || adjacent G x y) (ap (λ (d : Edge). hits d x y) (sym p) ∙ h)
 adjacent_in (d ∷ G) e x y (Memᴰ.tail m) h = go (hits d x y) (adjacent_in G e x y m h)
   where

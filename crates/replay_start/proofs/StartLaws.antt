@@ -1,7 +1,7 @@
 -- The pieces of the load: the counts of the roads that events name cleared one after another, the roads loaded one after another, and which they are then.
 -- Assumes nothing.
 use Prim.Native.Nat.{◌*◌, ◌+◌, ◌-◌, ◌<◌, ◌≤◌, suc, zero, ℕ}
-use mathlib.Core.Bool.{Bool, ◌&&◌, ◌||◌, cond, false, or_false, true}
+use mathlib.Core.Bool.{Bool, ◌&&◌, ◌||◌, cond, false, or-false, true}
 use mathlib.Core.List.{List, [], ◌∷◌}
 use mathlib.Core.Path.{◌∙◌, ◌≡◌, ap, ap₂, refl, subst, sym}
 use lib.Dec.{eqb, ltb}
@@ -27,7 +27,7 @@ use Rattle.theory_timeline.specs.Tags.{key_of, pick_events}
 -- ---- one event's key
 module _ (from i : ℕ) (w : List ℕ) (s : ℕ) where
   named_one : named_by from i (i + 1) w s ≡ names_tag (tags_from from w) s i
-  named_one = let z : i + 1 - i ≡ 1 = omega arith in ap (λ (k : ℕ). any (names_tag (tags_from from w) s) (range i k)) z ∙ or_false (names_tag (tags_from from w) s i)
+  named_one = let z : i + 1 - i ≡ 1 = omega arith in ap (λ (k : ℕ). any (names_tag (tags_from from w) s) (range i k)) z ∙ or-false (names_tag (tags_from from w) s i)
 
 pub clear_none : {from i counts : ℕ} {w : List ℕ} → tags_from from w i ≡ 0 → Cleared from i (i + 1) counts w w
 clear_none {from} {i} {counts} {w} z = record {

@@ -26,9 +26,9 @@ all_fails : (f : ℕ → Bool) (xs : List ℕ) → all f xs ≡ false → (a : �
 all_fails f [] h = contradict refl h
 all_fails f (x ∷ xs) h = on_bool (f x) (λ t. all_fails f xs (sym (ap (λ b. b && all f xs) t) ∙ h)) (λ t. (x, t))
 
-or_false : (a b : Bool) → (a || b) ≡ false → (a ≡ false) × (b ≡ false)
-or_false true b h = contradict refl h
-or_false false b h = (refl, h)
+or-false : (a b : Bool) → (a || b) ≡ false → (a ≡ false) × (b ≡ false)
+or-false true b h = contradict refl h
+or-false false b h = (refl, h)
 
 pub edge_ends : {p q : ℕ} (E : List Edge) → Memᴰ (p, q) E → Memᴰ p (ends_of E) × Memᴰ q (ends_of E)
 edge_ends {p = p} {q = q} [] x' = elim x' [ ]
@@ -90,8 +90,8 @@ pub not_biconnected : (E : List Edge) (x y : ℕ) → biconnected E x y ≡ fals
 unfolding biconnected
 not_biconnected E x y h =
     let (c, f) = all_fails (λ c. eqb c x || (eqb c y || joined (losing c E) x y)) (ends_of E) h in
-    let (a, r) = or_false _ _ f in
-    let (b, s) = or_false _ _ r in
+    let (a, r) = or-false _ _ f in
+    let (b, s) = or-false _ _ r in
     (c, eqb-false c x a, eqb-false c y b, s)
 
 -- ---- the cases of the reply
