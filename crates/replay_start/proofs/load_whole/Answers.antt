@@ -1,7 +1,6 @@
 -- The pieces follow one another: the named roads cleared, the active nodes, the roads.
 use native.Mathlib.Omega.{arith}
 use Rattle.replay_start.proofs.WholeLaws.{enter_need, roads_need, whole_loaded}
-use borrow.Author.Rules.{rules}
 use Rattle.replay_start.proofs.load_whole.Goals as goal
 
 pub enter_places-k-requires : goal.enter_places-k-requires

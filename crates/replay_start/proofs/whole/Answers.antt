@@ -2,7 +2,6 @@
 use mathlib.Core.Path.{refl}
 use native.Mathlib.Omega.{arith}
 use Rattle.replay_start.proofs.WholeLaws.{whole_made, whole_need}
-use borrow.Author.Rules.{rules}
 use Rattle.replay_start.proofs.whole.Goals as goal
 
 pub load_whole-l-requires : goal.load_whole-l-requires

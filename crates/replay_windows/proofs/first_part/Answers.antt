@@ -1,7 +1,6 @@
 -- The share of a window, at least one event.
 use native.Mathlib.Nat.{mul-le-mul_left}
 use native.Mathlib.Omega.{arith}
-use borrow.Author.Rules.{rules}
 use Rattle.replay_windows.proofs.first_part.Goals as goal
 
 pub overflow_mul-f : goal.overflow_mul-f

@@ -1,7 +1,6 @@
 -- The byte and the name, and then the tables with them.
 use native.Mathlib.Omega.{arith}
 use mathlib.Core.Path.{◌∙◌, sym}
-use borrow.Author.Rules.{rules}
 use Rattle.replay_windows.proofs.DescentLaws.{name_need, one_done}
 use Rattle.replay_windows.proofs.one.Goals as goal
 

@@ -1,8 +1,6 @@
 -- The event's tag tells its key.
-use Prim.Native.Nat.{◌*◌, ◌+◌}
 use native.Mathlib.Omega.{arith}
-use borrow.Author.Rules.{rules}
-use Rattle.replay_start.proofs.StartLaws.{clear_none, clear_put}
+use Rattle.replay_start.proofs.StartLaws.{clear_put}
 use Rattle.replay_start.proofs.load.clear_event.Goals as goal
 
 pub overflow_add-work : goal.overflow_add-work

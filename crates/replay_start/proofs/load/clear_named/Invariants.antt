@@ -1,7 +1,5 @@
 -- Event by event.
 use Prim.Native.Nat.{◌-◌, ◌≤◌}
-use native.Mathlib.Omega.{arith}
-use Rattle.replay_start.proofs.StartLaws.{clear_need, clearing_all, clearing_more, clearing_none}
 use Rattle.replay_start.specs.Start.{Cleared}
 use Rattle.replay_start.proofs.load.clear_named.Given as goal
 

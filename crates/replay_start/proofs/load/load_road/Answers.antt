@@ -1,6 +1,5 @@
 -- Without a count, or loaded.
 use native.Mathlib.Omega.{arith}
-use borrow.Author.Rules.{rules}
 use Rattle.replay_start.proofs.StartLaws.{load_need, load_none, load_put}
 use Rattle.replay_start.proofs.load.load_road.Goals as goal
 

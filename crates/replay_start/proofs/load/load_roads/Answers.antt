@@ -1,9 +1,5 @@
-use Prim.Native.Nat.{◌-◌, ◌≤◌}
-use lib.ListN.{length}
 use native.Mathlib.Omega.{arith}
 use Rattle.replay_start.proofs.StartLaws.{loading_all, loading_more, loading_none, loading_ready}
-use Rattle.replay_start.specs.Start.{fixed, segment}
-use Rattle.replay_step.specs.Load.{AddedBy}
 use Rattle.replay_start.proofs.load.load_roads.Goals as goal
 
 pub loop-j-init : goal.loop-j-init

@@ -1,8 +1,6 @@
 -- Road by road.
 use Prim.Native.Nat.{◌-◌, ◌≤◌}
 use lib.ListN.{length}
-use native.Mathlib.Omega.{arith}
-use Rattle.replay_start.proofs.StartLaws.{loading_all, loading_more, loading_none, loading_ready}
 use Rattle.replay_start.specs.Start.{fixed, segment}
 use Rattle.replay_step.specs.Load.{AddedBy}
 use Rattle.replay_start.proofs.load.load_roads.Given as goal
