@@ -3,7 +3,6 @@ use Prim.Native.Nat.{◌*◌, ◌+◌}
 use mathlib.Core.Path.{sym}
 use lib.Seq.{length-take-le}
 use native.Mathlib.Omega.{arith}
-use borrow.Author.Rules.{rules}
 use Rattle.program_printing.proofs.TextLaws.{wrote_as}
 use Rattle.program_response.proofs.ResponseLaws.{part_length, replied, table_is}
 use Rattle.program_response.proofs.response.replay_input.Goals as goal
@@ -47,7 +46,7 @@ returns c =
     let r = c.requires.0 in
     let m = c.args.m in
     let t = c.args.t in
-    let tables = c.replay-reply.new.names.1.1.1.1.1.1.1.1 in
+    let tables = c.replay-reply.new in
     let a = table_is i r 4 m _ _ c.fill.ensures (omega (arith, r.few_segments)) (omega arith) in
     let b = table_is i r (4 + m) m _ _ c.fill-2.ensures (omega (arith, r.few_segments)) (omega arith) in
     let s = table_is i r (4 + 2 * m) m _ _ c.fill-3.ensures (omega (arith, r.few_segments)) (omega arith) in
@@ -56,5 +55,5 @@ returns c =
     let lx = part_length c.fill-4.ensures (omega (arith, r.few_events)) in
     let reply = c.replay-reply.result in
     let (print, left) =
-    replied i r c.args.p c.args.work.now a b s x y reply tables.0 tables.1.0 tables.1.1.0 c.replay-reply.ensures.as_defined lx in
-    ((wrote_as print (c.put_reply.ensures.0 tables.1.0 tables.1.1.0), c.put_reply.ensures.1), left)
+    replied i r c.args.p c.args.work.now a b s x y reply tables.answers tables.names tables.work c.replay-reply.ensures.as_defined lx in
+    record { wrote = (wrote_as print (c.put_reply.ensures.0 tables.names tables.work), c.put_reply.ensures.1); work_after = left }
