@@ -1,5 +1,5 @@
 //! Links the archive `libcall_exports.a`. It stands in the folder that the variable `LUMZHASEL_ARCHIVE_DIR` names, or in
-//! target/staticlib at the repository's top, where `rt staticlib call_exports` writes it. Where it is in neither, the
+//! target/staticlib at the repository's top, where `bindings/archive` writes it. Where it is in neither, the
 //! package says so as an error of its own when it is built, and its documentation can be made all the same.
 
 use std::env;

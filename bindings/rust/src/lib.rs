@@ -140,7 +140,7 @@
 //!
 //! What each call returns and leaves in its tables is proved, for all inputs, in the crate
 //! `call_exports` of the repository, of which this package links the archive: run
-//! `rt staticlib call_exports` at the repository's top first, or name the archive's folder in the
+//! `bindings/archive` at the repository's top first, or name the archive's folder in the
 //! variable `LUMZHASEL_ARCHIVE_DIR`. The package itself is not proved. It hands slices on as pointers
 //! and lengths, in one module, and names the refusals.
 //!
@@ -156,7 +156,7 @@
 
 #[cfg(all(archive_missing, not(doc)))]
 compile_error!(
-    "the archive libcall_exports.a is not there: run `rt staticlib call_exports` at the repository's top, or name its \
+    "the archive libcall_exports.a is not there: run `bindings/archive` at the repository's top, or name its \
      folder in the variable LUMZHASEL_ARCHIVE_DIR"
 );
 
