@@ -1,4 +1,6 @@
 // Document 02, No. 4: a number to read over the telephone, of the first t bytes of an answer table.
+#![tactic(auto)]
+
 ghost use Rattle.std.specs.Prelude.{◌≡◌};
 ghost use Rattle.call_check_number.specs.CheckNumber.{check_number, check_number_outcome, number_of_first, with_byte};
 

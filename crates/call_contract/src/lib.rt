@@ -1,4 +1,6 @@
 // The contraction as a public call: the checks in document 01's order, the graph loaded into words, its contraction, and the reply's tables filled.
+#![tactic(auto)]
+
 ghost use Rattle.std.specs.Prelude.{◌≡◌};
 ghost use Rattle.theory_contraction.specs.Contraction.{Faultless, done, contraction, lent};
 ghost use Rattle.call_contract.specs.Reply.{outcome};

@@ -1,4 +1,6 @@
 // The faults of an input, in document 01's order: sizes, lengths, ends of edges, active entries.
+#![tactic(auto)]
+
 ghost use Rattle.std.specs.Prelude.{◌≡◌, ◌≤◌, length};
 ghost use Rattle.call_sizes.specs.Refusal.{first_fault, seek};
 ghost use Rattle.theory_contraction.specs.Contraction.{required, bad_entry, short_tables, fault, lent};

@@ -1,4 +1,6 @@
 // The lent 16-bit tables put into the words that the contraction takes, and its result read back into them.
+#![tactic(auto)]
+
 ghost use Rattle.std.specs.Prelude.{◌≡◌, ℕ, ◌+◌, ◌*◌, ◌<◌, ◌≤◌, length, get_or, take};
 ghost use Rattle.core_words.specs.Fields.{MAPPED, MARK, node};
 ghost use Rattle.contraction_tables.specs.Transfer.{Entries, Edges, Loadable, Prepared, CanNumber, TreesNumbered};

@@ -1,4 +1,6 @@
 // The sibling's byte of a window of one event, out of the event's tag, its two nodes and the edges of the window's reduced graph.
+#![tactic(auto)]
+
 ghost use Rattle.std.specs.Prelude.{◌&&◌, ◌≡◌, ◌≤◌, eqb, length};
 ghost use Rattle.theory_junctions.specs.Reply.{adjacent};
 ghost use Rattle.junction_leaf.specs.JunctionLeaf.{byte_at, hits, leaf_graph};

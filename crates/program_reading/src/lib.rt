@@ -1,4 +1,6 @@
 // The input: 16-bit little-endian numbers, the sizes and the share first.
+#![tactic(auto)]
+
 ghost use Rattle.std.specs.Prelude.{◌≡◌, ◌+◌, ◌*◌, ◌<◌, ◌≤◌, length, get_or};
 ghost use Rattle.theory_timeline.specs.Program.{words16};
 ghost use Rattle.program_reading.specs.Reading.{header_outcome, check_input, Filled};

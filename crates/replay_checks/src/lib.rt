@@ -1,4 +1,6 @@
 // The checks of a replay, in document 01's order. They read the tables only.
+#![tactic(auto)]
+
 ghost use Rattle.std.specs.Prelude.{cond, ◌≡◌, ◌≤◌, ltb, length};
 ghost use Rattle.theory_graph.specs.Lists.{pairs};
 ghost use Rattle.call_open_set.specs.OpenSet.{is_open};

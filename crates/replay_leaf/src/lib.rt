@@ -1,4 +1,6 @@
 // The byte and the name of a window of one event, out of the event's tag and of the counts and the one edge of the window's small graph.
+#![tactic(auto)]
+
 ghost use Rattle.std.specs.Prelude.{◌≡◌, ◌<◌};
 ghost use Rattle.replay_leaf.specs.Leaf.{byte_by, name_by};
 

@@ -1,5 +1,7 @@
 // The roads of a network: for each segment the name of its road, and for each road how many of its segments are open at the start. A road is found by its
 // lower and its higher end: the segments are threaded by their lower ends, and along each thread the first segment of each higher end is kept.
+#![tactic(auto)]
+
 ghost use Rattle.std.specs.Prelude.{◌≡◌, ◌+◌, ◌*◌, ◌<◌, ◌≤◌, length, get_or, set};
 ghost use Rattle.theory_graph.specs.Lists.{pairs};
 ghost use Rattle.replay_roads.specs.Counting.{CanCount, Counting, RoadTables, RoadsCounted, counted};

@@ -1,5 +1,7 @@
 // The step: the small graph of a part of a window, out of the window's own. Its two acts, what is loaded and the area made of it, serve for the whole list
 // too (replay_start).
+#![tactic(auto)]
+
 pub mod area;
 mod beside;
 pub mod load;
@@ -8,7 +10,7 @@ ghost use Rattle.replay_step.specs.Area.{StepReady, Stepped};
 ghost use Rattle.replay_step.specs.Load.{LoadReady, PartLoaded};
 
 // Internal: a window of a list by its first event and its number of events, with the nodes and the edges of the graph in its area.
-#[derive(Drop)]
+#[derive(Clone, Copy)]
 pub struct Window {
     pub at: usize,
     pub events: usize,
@@ -18,7 +20,7 @@ pub struct Window {
 
 // Internal: a part whose area is to be made: its first event and its number of events; where its places and the words of its events stand; where its area
 // begins, and behind it the words of the graph that is loaded.
-#[derive(Drop)]
+#[derive(Clone, Copy)]
 pub struct Part {
     pub at: usize,
     pub events: usize,
@@ -29,7 +31,7 @@ pub struct Part {
 }
 
 // Internal: a graph that is loaded behind a part's area: its nodes, its edges, and how many different active nodes it has.
-#[derive(Drop)]
+#[derive(Clone, Copy)]
 pub struct Graph {
     pub nodes: usize,
     pub edges: usize,

@@ -1,12 +1,9 @@
-use Prim.Native.Nat.{◌-◌, ◌≤◌}
-use mathlib.Core.Path.{◌∙◌, ◌≡◌, sym}
+use mathlib.Core.Path.{◌∙◌, sym}
 use lib.ListN.{get_or}
 use native.Mathlib.Omega.{arith}
-use borrow.Author.Rules.{rules}
 use borrow.Author.Tests.{le-leb, lt-leb}
 use Rattle.call_sizes.proofs.RefusalLaws.{seek_here, seek_more, seek_past, seek_start}
 use Rattle.theory_contraction.specs.Contraction.{bad_entry}
-use Rattle.call_sizes.specs.Refusal.{seek}
 use Rattle.contraction_checks.proofs.first_bad_entry.Goals as goal
 
 pub loop-i-init : goal.loop-i-init

@@ -1,11 +1,6 @@
 -- `first_bad_entry` meets its contract. The loop's invariant: no entry before i is bad.
 use Prim.Native.Nat.{◌-◌, ◌≤◌}
-use mathlib.Core.Path.{◌∙◌, ◌≡◌, sym}
-use lib.ListN.{get_or}
-use native.Mathlib.Omega.{arith}
-use borrow.Author.Rules.{rules}
-use borrow.Author.Tests.{le-leb, lt-leb}
-use Rattle.call_sizes.proofs.RefusalLaws.{seek_here, seek_more, seek_past, seek_start}
+use mathlib.Core.Path.{◌≡◌}
 use Rattle.theory_contraction.specs.Contraction.{bad_entry}
 use Rattle.call_sizes.specs.Refusal.{seek}
 use Rattle.contraction_checks.proofs.first_bad_entry.Given as goal

@@ -1,5 +1,4 @@
 -- `length_fault` meets its contract.
-use borrow.Author.Rules.{rules}
 use Rattle.contraction_checks.proofs.length_fault.Goals as goal
 
 pub returns : goal.returns

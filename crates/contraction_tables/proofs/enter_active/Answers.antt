@@ -1,12 +1,10 @@
-use Prim.Native.Nat.{◌-◌, ◌≤◌, ℕ}
+use Prim.Native.Nat.{ℕ}
 use mathlib.Core.Path.{◌∙◌, ◌≡◌, ap}
 use lib.ListN.{take}
 use lib.Seq.{take-suc}
 use native.Mathlib.Numerals.{add-one}
 use native.Mathlib.Omega.{arith}
-use borrow.Author.Rules.{rules}
 use Rattle.contraction_tables.proofs.TransferLaws.{entries_more, entries_none}
-use Rattle.contraction_tables.specs.Transfer.{Entries}
 use Rattle.contraction_tables.proofs.enter_active.Goals as goal
 
 pub loop-i-init : goal.loop-i-init

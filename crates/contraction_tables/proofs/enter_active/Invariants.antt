@@ -1,12 +1,6 @@
 -- `enter_active` meets its contract. The loop's invariant: the first i entries are entered.
-use Prim.Native.Nat.{◌-◌, ◌≤◌, ℕ}
-use mathlib.Core.Path.{◌∙◌, ◌≡◌, ap}
+use Prim.Native.Nat.{◌≤◌}
 use lib.ListN.{take}
-use lib.Seq.{take-suc}
-use native.Mathlib.Numerals.{add-one}
-use native.Mathlib.Omega.{arith}
-use borrow.Author.Rules.{rules}
-use Rattle.contraction_tables.proofs.TransferLaws.{entries_more, entries_none}
 use Rattle.contraction_tables.specs.Transfer.{Entries}
 use Rattle.contraction_tables.proofs.enter_active.Given as goal
 

@@ -1,9 +1,7 @@
-use Prim.Native.Nat.{◌-◌, ◌≤◌}
-use mathlib.Core.Path.{◌≡◌, refl}
+use mathlib.Core.Path.{refl}
 use native.Mathlib.Omega.{arith}
 use borrow.Author.Rules.{rules}
 use Rattle.theory_graph.proofs.TableLaws.{written_all, written_length, written_more}
-use Rattle.theory_graph.specs.Lists.{over, table}
 use Rattle.core_words.specs.Fields.{node}
 use Rattle.contraction_tables.proofs.fill_ends.Goals as goal
 

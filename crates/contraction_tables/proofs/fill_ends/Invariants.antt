@@ -1,9 +1,6 @@
 -- `fill_ends` meets its contract. The loop's invariant: the first i ends are written.
-use Prim.Native.Nat.{◌-◌, ◌≤◌}
-use mathlib.Core.Path.{◌≡◌, refl}
-use native.Mathlib.Omega.{arith}
-use borrow.Author.Rules.{rules}
-use Rattle.theory_graph.proofs.TableLaws.{written_all, written_length, written_more}
+use Prim.Native.Nat.{◌≤◌}
+use mathlib.Core.Path.{◌≡◌}
 use Rattle.theory_graph.specs.Lists.{over, table}
 use Rattle.core_words.specs.Fields.{node}
 use Rattle.contraction_tables.proofs.fill_ends.Given as goal

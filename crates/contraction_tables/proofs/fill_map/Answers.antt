@@ -1,10 +1,8 @@
-use Prim.Native.Nat.{◌-◌, ◌≤◌}
-use mathlib.Core.Path.{◌≡◌, refl}
+use mathlib.Core.Path.{refl}
 use lib.ListN.{get_or}
 use native.Mathlib.Omega.{arith}
 use borrow.Author.Rules.{rules}
 use Rattle.theory_graph.proofs.TableLaws.{written_all, written_length, written_more}
-use Rattle.theory_graph.specs.Lists.{over, table}
 use Rattle.core_words.specs.Fields.{MAPPED, node}
 use Rattle.contraction_tables.proofs.fill_map.Goals as goal
 

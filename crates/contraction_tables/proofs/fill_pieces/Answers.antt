@@ -1,6 +1,5 @@
 -- `fill_pieces` meets its contract.
 use native.Mathlib.Omega.{arith}
-use borrow.Author.Rules.{rules}
 use Rattle.contraction_tables.proofs.TreeLaws.{can_number, cleared_numbered}
 use Rattle.core_loading.proofs.LoadingLaws.{cleared_unmarked}
 use Rattle.contraction_tables.proofs.fill_pieces.Goals as goal

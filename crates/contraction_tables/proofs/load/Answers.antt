@@ -1,6 +1,5 @@
 -- `load` meets its contract.
 use native.Mathlib.Omega.{arith}
-use borrow.Author.Rules.{rules}
 use Rattle.core_loading.proofs.LoadingLaws.{cleared_unmarked}
 use Rattle.contraction_tables.proofs.TransferLaws.{prepared}
 use Rattle.contraction_tables.proofs.load.Goals as goal

@@ -1,7 +1,6 @@
-use Prim.Native.Nat.{◌-◌}
 use native.Mathlib.Omega.{arith}
 use borrow.Author.Rules.{rules}
-use Rattle.contraction_tables.proofs.TreeLaws.{Numbering, mark_fits, numbering_more, numbering_none, pieces_same, root_is, trees_numbered}
+use Rattle.contraction_tables.proofs.TreeLaws.{mark_fits, numbering_more, numbering_none, pieces_same, root_is, trees_numbered}
 use Rattle.contraction_tables.proofs.number_trees.Goals as goal
 
 pub loop-j-init : goal.loop-j-init

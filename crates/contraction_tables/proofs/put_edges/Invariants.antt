@@ -1,9 +1,5 @@
 -- `put_edges` meets its contract. The loop's invariant: the first s edges are stored, with their names.
-use Prim.Native.Nat.{◌-◌, ◌≤◌}
-use mathlib.Core.Path.{◌≡◌}
-use native.Mathlib.Omega.{arith}
-use borrow.Author.Rules.{rules}
-use Rattle.contraction_tables.proofs.TransferLaws.{edges_more, edges_none}
+use Prim.Native.Nat.{◌≤◌}
 use Rattle.contraction_tables.specs.Transfer.{Edges}
 use Rattle.contraction_tables.proofs.put_edges.Given as goal
 

@@ -2,7 +2,6 @@
 use mathlib.Core.Path.{◌∙◌, sym}
 use native.Mathlib.Omega.{arith}
 use Rattle.junction_leaf.proofs.JunctionLeafLaws.{byte_3, byte_equal, byte_near, byte_one, byte_zero}
-use borrow.Author.Rules.{rules}
 use Rattle.junction_leaf.proofs.byte_of.Goals as goal
 
 pub returns-then-work-ne0 : goal.returns-then-work-ne0

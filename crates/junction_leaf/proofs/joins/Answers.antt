@@ -1,11 +1,8 @@
-use Prim.Native.Nat.{◌-◌, ◌≤◌}
-use mathlib.Core.Bool.{false}
 use mathlib.Core.Path.{◌∙◌, ◌≡◌, ap, refl, sym}
 use native.Mathlib.Omega.{arith}
 use Rattle.theory_junctions.specs.Reply.{adjacent}
 use Rattle.junction_leaf.proofs.JunctionLeafLaws.{joins_none, joins_some}
 use Rattle.junction_leaf.specs.JunctionLeaf.{leaf_graph}
-use borrow.Author.Rules.{rules}
 use Rattle.junction_leaf.proofs.joins.Goals as goal
 
 pub loop-j-init : goal.loop-j-init

@@ -1,12 +1,9 @@
 -- No edge before j joins the two.
 use Prim.Native.Nat.{◌-◌, ◌≤◌}
 use mathlib.Core.Bool.{false}
-use mathlib.Core.Path.{◌∙◌, ◌≡◌, ap, refl, sym}
-use native.Mathlib.Omega.{arith}
+use mathlib.Core.Path.{◌≡◌}
 use Rattle.theory_junctions.specs.Reply.{adjacent}
-use Rattle.junction_leaf.proofs.JunctionLeafLaws.{joins_none, joins_some}
 use Rattle.junction_leaf.specs.JunctionLeaf.{leaf_graph}
-use borrow.Author.Rules.{rules}
 use Rattle.junction_leaf.proofs.joins.Given as goal
 
 abbrev pub invariant-loop-j : goal.invariant-loop-j

@@ -1,6 +1,5 @@
 -- One way round, or the other.
 use Rattle.junction_leaf.proofs.JunctionLeafLaws.{meets_back, meets_fore}
-use borrow.Author.Rules.{rules}
 use Rattle.junction_leaf.proofs.meets.Goals as goal
 
 pub returns-then-fore : goal.returns-then-fore

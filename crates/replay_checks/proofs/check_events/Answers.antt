@@ -1,11 +1,10 @@
-use Prim.Native.Nat.{◌-◌}
-use mathlib.Core.Logic.{inl, inr, ⊎_elim}
+use mathlib.Core.Logic.{inl, inr}
 use mathlib.Core.Path.{◌∙◌, ap, sym}
 use native.Mathlib.Omega.{arith}
-use borrow.Author.Rules.{rules}
-use Rattle.call_open_set.specs.OpenSet.{bits, is_open}
-use Rattle.replay_checks.proofs.CheckLaws.{Passing, changed, event_fits, event_passes, event_refused, events_pass, passing_none}
+use Rattle.call_open_set.specs.OpenSet.{bits}
+use Rattle.replay_checks.proofs.CheckLaws.{changed, event_fits, event_passes, event_refused, events_pass, passing_none}
 use Rattle.replay_checks.proofs.check_events.Goals as goal
+use Rattle.replay_checks.proofs.check_events.Goals.{in-Query, in-Opens, in-Closes, in-None}
 
 pub loop-i-init : goal.loop-i-init
 loop-i-init c =
@@ -23,14 +22,15 @@ pub loop-i-preserved : goal.loop-i-preserved
 loop-i-preserved c =
     let fault = c.event_fault-code in
     let fits = event_fits c.loop-i.invariant (omega arith) c.requires fault.result fault.ensures (omega arith) in
-    let kind = sym c.kind_of.ensures.0 in
-    let (long, is) = changed fits c.in-Query.held (⊎_elim
-    (λ w. inl (kind ∙ w.1.given.1, w.2))
-    (⊎_elim (λ w. inr (inl (kind ∙ w.1.given.1, ap bits w.3 ∙ w.2.ensures)))
-    (⊎_elim (λ w. inr (inr (inl (kind ∙ w.1.given.1, ap bits w.3 ∙ w.2.ensures))))
-    (λ w. inr (inr (inr (kind ∙ w.1.given.1))))))
-    c.in-Query.branch) in
-    event_passes c.loop-i.invariant (omega arith) c.requires fault.result fault.ensures (omega arith) c.in-Query.held long is
+    let kind = sym c.kind_of.ensures.value in
+    let held = c.match-kind_of.held in
+    let (long, is) = changed fits held (elim c.match-kind_of.branch [
+      | in-Query w ↦ inl (kind ∙ w.in-Query.is, w.held-is)
+      | in-Opens w ↦ inr (inl (kind ∙ w.in-Opens.is, ap bits w.held-is ∙ w.opened-held.ensures))
+      | in-Closes w ↦ inr (inr (inl (kind ∙ w.in-Closes.is, ap bits w.held-is ∙ w.closed-held.ensures)))
+      | in-None w ↦ inr (inr (inr (kind ∙ w.in-None.is)))
+    ]) in
+    event_passes c.loop-i.invariant (omega arith) c.requires fault.result fault.ensures (omega arith) held long is
 
 pub returns : goal.returns
 returns c =

@@ -1,11 +1,7 @@
 -- Events without a fault so far, with the set open before the next one.
 use Prim.Native.Nat.{◌-◌}
-use mathlib.Core.Logic.{inl, inr, ⊎_elim}
-use mathlib.Core.Path.{◌∙◌, ap, sym}
-use native.Mathlib.Omega.{arith}
-use borrow.Author.Rules.{rules}
-use Rattle.call_open_set.specs.OpenSet.{bits, is_open}
-use Rattle.replay_checks.proofs.CheckLaws.{Passing, changed, event_fits, event_passes, event_refused, events_pass, passing_none}
+use Rattle.call_open_set.specs.OpenSet.{is_open}
+use Rattle.replay_checks.proofs.CheckLaws.{Passing}
 use Rattle.replay_checks.proofs.check_events.Given as goal
 
 abbrev pub invariant-loop-i : goal.invariant-loop-i

@@ -1,7 +1,6 @@
 -- The ends, the starting table, the events.
 use native.Mathlib.Omega.{arith}
 use Rattle.replay_checks.proofs.CheckLaws.{ends_refused, list_passed, start_refused}
-use borrow.Author.Rules.{rules}
 use Rattle.replay_checks.proofs.check_list.Goals as goal
 
 pub returns-then-s-m : goal.returns-then-s-m

@@ -1,6 +1,5 @@
 -- `segment_fault` meets its contract: a return for each case of the definition.
 use mathlib.Core.Path.{◌∙◌, sym}
-use borrow.Author.Rules.{rules}
 use borrow.Author.Tests.{le-ltb, lt-ltb}
 use Rattle.replay_checks.proofs.segment_fault.Goals as goal
 

@@ -1,5 +1,4 @@
 -- The names, and then the counts, which are cleared first.
-use borrow.Author.Rules.{rules}
 use Rattle.replay_roads.proofs.CountingLaws.{count_start, roads_counted}
 use Rattle.replay_roads.proofs.count_roads.Goals as goal
 

@@ -1,6 +1,5 @@
 -- Open or closed.
 use native.Mathlib.Omega.{arith}
-use borrow.Author.Rules.{rules}
 use Rattle.replay_roads.proofs.CountingLaws.{count_found, name_found, segment_closed, segment_counted}
 use Rattle.replay_roads.proofs.count_segment.Goals as goal
 

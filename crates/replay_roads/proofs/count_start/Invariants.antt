@@ -1,7 +1,4 @@
 -- Segment by segment.
-use Prim.Native.Nat.{◌-◌}
-use native.Mathlib.Omega.{arith}
-use Rattle.replay_roads.proofs.CountingLaws.{can_count, counting_at, counting_more}
 use Rattle.replay_roads.specs.Counting.{Counting}
 use Rattle.replay_roads.proofs.count_start.Given as goal
 

@@ -1,6 +1,5 @@
 -- The first end is the lower one, or the second.
 use native.Mathlib.Omega.{arith}
-use borrow.Author.Rules.{rules}
 use Rattle.replay_roads.proofs.RoadWordLaws.{ends_back, ends_fore}
 use Rattle.replay_roads.proofs.ends_of.Goals as goal
 

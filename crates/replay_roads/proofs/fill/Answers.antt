@@ -1,7 +1,5 @@
-use Prim.Native.Nat.{◌-◌, ◌≤◌}
 use native.Mathlib.Omega.{arith}
 use Rattle.replay_roads.proofs.RunLaws.{filled_all, filled_more, filled_none}
-use Rattle.replay_roads.specs.Runs.{Filled}
 use Rattle.replay_roads.proofs.fill.Goals as goal
 
 pub loop-i-init : goal.loop-i-init

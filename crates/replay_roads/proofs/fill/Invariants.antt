@@ -1,7 +1,5 @@
 -- Word by word.
-use Prim.Native.Nat.{◌-◌, ◌≤◌}
-use native.Mathlib.Omega.{arith}
-use Rattle.replay_roads.proofs.RunLaws.{filled_all, filled_more, filled_none}
+use Prim.Native.Nat.{◌≤◌}
 use Rattle.replay_roads.specs.Runs.{Filled}
 use Rattle.replay_roads.proofs.fill.Given as goal
 

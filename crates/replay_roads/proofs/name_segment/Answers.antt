@@ -1,9 +1,8 @@
 -- By the one that is kept, or by itself.
-use mathlib.Core.Logic.{⊎_elim}
 use native.Mathlib.Omega.{arith}
-use borrow.Author.Rules.{rules}
 use Rattle.replay_roads.proofs.RoadWordLaws.{name_fits, name_found, name_new}
 use Rattle.replay_roads.proofs.name_segment.Goals as goal
+use Rattle.replay_roads.proofs.name_segment.Goals.{then-f-m+else-u-v, else-f-m}
 
 pub overflow_add-q-3 : goal.overflow_add-q-3
 overflow_add-q-3 c =
@@ -30,5 +29,5 @@ put-requires-3 c =
 pub returns : goal.returns
 returns c =
     name_new c.requires.0 c.requires.1 c.requires.2 c.ends_of-ends.ensures.1 c.word-f.ensures.0
-    (λ k z. ⊎_elim (λ w. omega (arith, w.2.left, w.1.ensures.0)) (λ w. omega (arith, w.left)) c.if-f-m.branch)
+    (λ k z. elim c.if-f-m.branch [ then-f-m+else-u-v w ↦ omega (arith, w.if-u-v.false, w.ends_of-first.ensures.0) | else-f-m w ↦ omega (arith, w.if-f-m.false) ])
     c.put-2.ensures c.put-3.ensures

@@ -1,10 +1,7 @@
-use Prim.Native.Nat.{◌≤◌}
-use mathlib.Core.Path.{◌≡◌, refl}
-use lib.ListN.{length}
+use mathlib.Core.Path.{refl}
 use native.Mathlib.Omega.{arith}
 use borrow.Author.Rules.{rules}
 use Rattle.replay_roads.proofs.RoadWordLaws.{threaded_at}
-use Rattle.replay_roads.specs.Naming.{RoadWords}
 use Rattle.replay_roads.proofs.thread.Goals as goal
 
 pub loop-s-init : goal.loop-s-init

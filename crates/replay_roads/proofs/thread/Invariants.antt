@@ -1,10 +1,7 @@
 -- Segment by segment, backwards.
 use Prim.Native.Nat.{◌≤◌}
-use mathlib.Core.Path.{◌≡◌, refl}
+use mathlib.Core.Path.{◌≡◌}
 use lib.ListN.{length}
-use native.Mathlib.Omega.{arith}
-use borrow.Author.Rules.{rules}
-use Rattle.replay_roads.proofs.RoadWordLaws.{threaded_at}
 use Rattle.replay_roads.specs.Naming.{RoadWords}
 use Rattle.replay_roads.proofs.thread.Given as goal
 

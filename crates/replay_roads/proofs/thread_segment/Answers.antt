@@ -1,6 +1,5 @@
 -- The link, then the head.
 use native.Mathlib.Omega.{arith}
-use borrow.Author.Rules.{rules}
 use Rattle.replay_roads.proofs.RoadWordLaws.{thread_fits, thread_more}
 use Rattle.replay_roads.proofs.thread_segment.Goals as goal
 

@@ -1,9 +1,7 @@
-use Prim.Native.Nat.{◌-◌}
-use mathlib.Core.Path.{◌≡◌, refl}
-use lib.ListN.{length}
+use mathlib.Core.Path.{refl}
 use native.Mathlib.Omega.{arith}
 use borrow.Author.Rules.{rules}
-use Rattle.replay_roads.proofs.RoadWordLaws.{Along, along_end, along_more, along_start}
+use Rattle.replay_roads.proofs.RoadWordLaws.{along_end, along_more, along_start}
 use Rattle.replay_roads.proofs.walk.Goals as goal
 
 pub word-s-requires : goal.word-s-requires

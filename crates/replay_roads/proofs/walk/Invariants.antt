@@ -1,10 +1,8 @@
 -- Along the thread.
 use Prim.Native.Nat.{◌-◌}
-use mathlib.Core.Path.{◌≡◌, refl}
+use mathlib.Core.Path.{◌≡◌}
 use lib.ListN.{length}
-use native.Mathlib.Omega.{arith}
-use borrow.Author.Rules.{rules}
-use Rattle.replay_roads.proofs.RoadWordLaws.{Along, along_end, along_more, along_start}
+use Rattle.replay_roads.proofs.RoadWordLaws.{Along}
 use Rattle.replay_roads.proofs.walk.Given as goal
 
 abbrev pub invariant-loop-s : goal.invariant-loop-s

@@ -1,10 +1,7 @@
-use Prim.Native.Nat.{◌-◌, ◌≤◌}
-use mathlib.Core.Path.{◌≡◌, refl}
-use lib.ListN.{length}
+use mathlib.Core.Path.{refl}
 use native.Mathlib.Omega.{arith}
 use borrow.Author.Rules.{rules}
 use Rattle.replay_roads.proofs.RoadWordLaws.{walked_at}
-use Rattle.replay_roads.specs.Naming.{RoadWords}
 use Rattle.replay_roads.proofs.walk_all.Goals as goal
 
 pub loop-v-init : goal.loop-v-init

@@ -1,10 +1,7 @@
 -- Junction by junction.
-use Prim.Native.Nat.{◌-◌, ◌≤◌}
-use mathlib.Core.Path.{◌≡◌, refl}
+use Prim.Native.Nat.{◌≤◌}
+use mathlib.Core.Path.{◌≡◌}
 use lib.ListN.{length}
-use native.Mathlib.Omega.{arith}
-use borrow.Author.Rules.{rules}
-use Rattle.replay_roads.proofs.RoadWordLaws.{walked_at}
 use Rattle.replay_roads.specs.Naming.{RoadWords}
 use Rattle.replay_roads.proofs.walk_all.Given as goal
 
