@@ -14,6 +14,7 @@ import sys
 DRY = "--dry" in sys.argv
 TOKEN = re.compile(r"[^\s(){}\[\],;.«»`\"]+")
 DECL = re.compile(r"^(?:(?:pub|unfoldable|abbrev|opaque) )*([^\s:(){}]+(?: [^\s:(){}]+)*?) : ")
+INNER = re.compile(r"^\s+(?:(?:where|pub|abbrev|unfoldable) )*([^\s:(){}|λ=]+(?: [^\s:(){}|λ=]+)*) : ")
 FIELD = re.compile(r"^\s+(?:pub )?([^\s:(){}|λ]+) : ")
 # Spellings that the rule does not give: a statement's type in camel case, and a lemma that would have its function's name gets `_lem`.
 FIXED = {
@@ -21,6 +22,8 @@ FIXED = {
     "Demand-3-of-calls": "Demand3OfCalls",
     "Junction-demand": "JunctionDemandHolds",
 }
+# Names that a library of the kit has too.
+LIBRARY = {"append-nil", "or-false", "and-true"}
 LEMMAS = "in_order read_off hands_on count_at first_part names-of entry-at junction-done is-act edge-if put-edge active-in events-fault area-edges most-junctions reduced-graph ends-in kind-with node-of names-tag same-road read-reply"
 for lemma in LEMMAS.split(" "):
     FIXED[lemma] = lemma.replace("-", "_") + "_lem"
@@ -81,12 +84,13 @@ def collected():
                 if m:
                     names.setdefault(m[1], path)
             else:
-                m = re.match(r"^\s+(?:where |pub )?([^\s:(){}|λ]+) : ", line)
+                m = INNER.match(line)
                 if m:
-                    names.setdefault(m[1], path)
+                    for name in m[1].split(" "):
+                        names.setdefault(name, path)
     out = {}
     for name, path in names.items():
-        if not re.match(r"[a-zA-Z]", name) or name.startswith("μ"):
+        if not re.match(r"[a-zA-Z]", name) or name.startswith("μ") or name in LIBRARY:
             continue
         new = respelled(name)
         if new != name or name in FIXED:

@@ -99,11 +99,11 @@ module _ (l : Lent) (s : Accepted l) where
     pub map_fits : (i : ℕ) → i < l.k → (get_or l.active i 0 < l.n) × (node MAPPED w₂ (get_or l.active i 0) < 65536)
     map_fits i j = (s.entries i j, omega (arith, number_at (get_or l.active i 0) (entries_at l s i j), (graph.place (get_or l.active i 0) (entries_at l s i j)).0, r.less, s.within.nodes))
 
-    abbrev edgeOut : ℕ → Entry
-    edgeOut i = ((node LOWER w₂ i, node UPPER w₂ i), node NAMED w₂ i)
+    abbrev edge_out : ℕ → Entry
+    edge_out i = ((node LOWER w₂ i, node UPPER w₂ i), node NAMED w₂ i)
 
-    out_at : (i : ℕ) → i < e → Memᴰ (edgeOut i) (edges_out e w₂)
-    out_at i j = table_in edgeOut 0 e i (omega arith) (omega arith)
+    out_at : (i : ℕ) → i < e → Memᴰ (edge_out i) (edges_out e w₂)
+    out_at i j = table_in edge_out 0 e i (omega arith) (omega arith)
 
     pub ends_fit : (i : ℕ) → i < e → (node LOWER w₂ i < 65536) × (node UPPER w₂ i < 65536)
     ends_fit i j =
@@ -111,10 +111,10 @@ module _ (l : Lent) (s : Accepted l) where
         (omega (arith, q.0, q.1, r.less, s.within.nodes), omega (arith, q.1, r.less, s.within.nodes))
 
     pub names_fit : (i : ℕ) → i < e → node NAMED w₂ i < 65536
-    names_fit i j = omega (arith, named_small_sixteen (named_edges l) (entries l) h (edges_out e w₂) r.ρ r.σ small given_sixteen (edgeOut i) (out_at i j))
+    names_fit i j = omega (arith, named_small_sixteen (named_edges l) (entries l) h (edges_out e w₂) r.ρ r.σ small given_sixteen (edge_out i) (out_at i j))
 
     plain_out : plain (edges_out e w₂) ≡ table (λ j. (node LOWER w₂ j, node UPPER w₂ j)) 0 e
-    plain_out = table_map (λ (x : Entry). x.0) edgeOut 0 e
+    plain_out = table_map (λ (x : Entry). x.0) edge_out 0 e
 
     edges_length : length (plain (edges_out e w₂)) ≡ e
     edges_length = ap length plain_out ∙ table_length (λ j. (node LOWER w₂ j, node UPPER w₂ j)) 0 e
@@ -158,7 +158,7 @@ module _ (l : Lent) (s : Accepted l) where
     result_to = sym (table_map (λ (x : Edge). x.1) (λ j. (node LOWER w₂ j, node UPPER w₂ j)) 0 e) ∙ ap (map (λ (x : Edge). x.1)) (sym plain_out ∙ result_edges)
 
     result_names : table (node NAMED w₂) 0 e ≡ map (λ (x : Entry). x.1) named
-    result_names = sym (table_map (λ (x : Entry). x.1) edgeOut 0 e) ∙ ap (map (λ (x : Entry). x.1)) the_one.2
+    result_names = sym (table_map (λ (x : Entry). x.1) edge_out 0 e) ∙ ap (map (λ (x : Entry). x.1)) the_one.2
 
     -- ---- the pieces: one root just where joined
     root_joined : (a b : ℕ) → Memᴰ a (entries l) → Memᴰ b (entries l) → joined (edges l) a b ≡ eqb (node ROOT w₂ a) (node ROOT w₂ b)

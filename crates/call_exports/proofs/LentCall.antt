@@ -91,8 +91,8 @@ module _ (ks : List FieldKind) (ν : Sym) (D : Type 0) (to : (κs : Lfts 1) → 
   Callee = record { signature = record { lifetimes = 1; outlives = []; params = slots ks; result = plain (λ _. row N) }; kept = all yes (slots ks) }
 
   -- the struct's last values from the fields'
-  abbrev left-of : (κs : Lfts 1) (d : D) → Lasts Callee κs (to κs d) → Lasts Caller κs (d, tt)
-  left-of κs d zs = (under_last (to κs) (exits_of yes (rows κs ks)) d (together κs (slots ks) (to κs d) zs), tt)
+  abbrev left_of : (κs : Lfts 1) (d : D) → Lasts Callee κs (to κs d) → Lasts Caller κs (d, tt)
+  left_of κs d zs = (under_last (to κs) (exits_of yes (rows κs ks)) d (together κs (slots ks) (to κs d) zs), tt)
 
   -- the code
   abbrev function : Lfts 1 → Name → Fn
@@ -113,10 +113,10 @@ module _ (ks : List FieldKind) (ν : Sym) (D : Type 0) (to : (κs : Lfts 1) → 
       pub ghosts : (κs : Lfts 1) (d : D) → (c κs (d, tt)).ghost → (c' κs (to κs d)).ghost
       pub asks : (κs : Lfts 1) (d : D) (g : (c κs (d, tt)).ghost) → ent 𝓤 ((c κs (d, tt)).requires g) ((c' κs (to κs d)).requires (ghosts κs d g))
       pub says : (κs : Lfts 1) (d : D) (g : (c κs (d, tt)).ghost) (r : N.D) (zs : Lasts Callee κs (to κs d))
-          → ent 𝓤 ((c' κs (to κs d)).ensures (ghosts κs d g) r (at_exit Callee κs (to κs d) zs)) ((c κs (d, tt)).ensures g r (at_exit Caller κs (d, tt) (left-of κs d zs)))
+          → ent 𝓤 ((c' κs (to κs d)).ensures (ghosts κs d g) r (at_exit Callee κs (to κs d) zs)) ((c κs (d, tt)).ensures g r (at_exit Caller κs (d, tt) (left_of κs d zs)))
 
     module _ (gives : Gives) where
-      lasts_say : (κs : Lfts 1) (d : D) (zs : Lasts Callee κs (to κs d)) → ent 𝓤 (sem 𝓛 (lasts Callee κs (to κs d) zs)) (sem 𝓛 (lasts Caller κs (d, tt) (left-of κs d zs)))
+      lasts_say : (κs : Lfts 1) (d : D) (zs : Lasts Callee κs (to κs d)) → ent 𝓤 (sem 𝓛 (lasts Callee κs (to κs d) zs)) (sem 𝓛 (lasts Caller κs (d, tt) (left_of κs d zs)))
       lasts_say κs d zs =
           let e : Exit (Denots (rows κs ks)) = exits_of yes (rows κs ks) in
           let w : Last e (to κs d) = together κs (slots ks) (to κs d) zs in
@@ -154,9 +154,9 @@ module _ (ks : List FieldKind) (ν : Sym) (D : Type 0) (to : (κs : Lfts 1) → 
             -- [the reply; the last values; the ensures; the token]
             peeks ! (row N) (Is (row N)) (shows 𝓛 (row N)) r (u ∷ []) (λ is. at_once ! $ check ! ((LL.lawful N L 𝓛).typed r (u ∷ []) is).0 $ updating ! $ at_once ! $
             show ! (λ (r' : N.D). sep 𝓤 (Back 𝓛 Caller.signature our.0 u r') (ensured 𝓛 Caller c κs (d, tt) g r')) r $ move ! (3 ∷ 0 ∷ []) $ join ! $ frame ! $
-            show ! (λ (ws : Lasts Caller κs (d, tt)). sep 𝓤 (sem 𝓛 (lasts Caller κs (d, tt) ws)) ((c κs (d, tt)).ensures g r (at_exit Caller κs (d, tt) ws))) (left-of κs d zs) $
-            use1 𝓛 (‵ (lasts Caller κs (d, tt) (left-of κs d zs))) (lasts_say κs d zs) $ move ! (1 ∷ []) $
-            use1 𝓛 (raw ((c κs (d, tt)).ensures g r (at_exit Caller κs (d, tt) (left-of κs d zs)))) (gives.says κs d g r zs) $ move ! (1 ∷ 0 ∷ []) $ done !)))
+            show ! (λ (ws : Lasts Caller κs (d, tt)). sep 𝓤 (sem 𝓛 (lasts Caller κs (d, tt) ws)) ((c κs (d, tt)).ensures g r (at_exit Caller κs (d, tt) ws))) (left_of κs d zs) $
+            use1 𝓛 (‵ (lasts Caller κs (d, tt) (left_of κs d zs))) (lasts_say κs d zs) $ move ! (1 ∷ []) $
+            use1 𝓛 (raw ((c κs (d, tt)).ensures g r (at_exit Caller κs (d, tt) (left_of κs d zs)))) (gives.says κs d g r zs) $ move ! (1 ∷ 0 ∷ []) $ done !)))
 
         -- ---- the run, from the machine value that the struct has
         at_value : Is (Struct (shape κs)) x (mach ∷ []) → (C : Calls 𝓤 H) (Λ : Loops 𝓤 H) → FmC 𝓤 H 𝓛.laws C → (f : Name) → Triple 𝓤 (C f) its → (F : Fn) → function κs f ≡ F

@@ -1,4 +1,6 @@
 // The public call `replay`: the checks, then the recursion over the windows of the whole list.
+#![tactic(auto)]
+
 mod checks;
 mod list;
 
@@ -25,7 +27,7 @@ pub fn replay(
     names: &mut [u16],
     work: &mut [u32],
 ) -> ReplayReply
-    ensures work_after { outcome result answers.new names.new work.new ≡ replay
+    ensures as_defined { outcome result answers.new names.new work.new ≡ replay
         (lent n m t a.now b.now start.now x.now y.now
         answers.old names.old work.old) p }
     ensures keeps_demand3 { KeepsDemand3 (lent n m t a.now b.now start.now x.now y.now

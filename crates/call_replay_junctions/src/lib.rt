@@ -25,7 +25,7 @@ pub fn replay_junctions(
     answers: &mut [u8],
     work: &mut [u32],
 ) -> JunctionReply
-    ensures work_after { junction_outcome result answers.new work.new ≡ replay_junctions
+    ensures as_defined { junction_outcome result answers.new work.new ≡ replay_junctions
         (junction_lent n m t a.now b.now start.now x.now y.now answers.old work.old) p }
     ensures keeps_junction_demand { KeepsJunctionDemand
         (junction_lent n m t a.now b.now start.now x.now y.now answers.old work.old) p

@@ -1,5 +1,7 @@
 // The replies of the small calls as C takes them: numbers, and structs of numbers. The exported calls of these hand on to the functions here. They stand apart
 // from the archive, so that a wrong version of one is tried in a crate that takes seconds.
+#![tactic(auto)]
+
 ghost use Rattle.std.specs.Prelude.{◌≡◌, length, take};
 ghost use Rattle.call_answers.specs.Reader.{first_or_none};
 ghost use Rattle.call_check_number.specs.CheckNumber.{number_of_first};

@@ -11,7 +11,7 @@ use borrow.Author.Tests.{lt-ltb, ltb-true}
 use Rattle.theory_graph.proofs.Booleans.{and_elim, bool_iff}
 use Rattle.theory_graph.proofs.Lists.{mem_member, member_mem, table_in, table_mem}
 use Rattle.theory_graph.specs.Lists.{member, table}
-use Rattle.theory_junctions.proofs.PathMergingLaws.{merged-blocks, paths_all}
+use Rattle.theory_junctions.proofs.PathMergingLaws.{merged_blocks, paths_all}
 use Rattle.theory_junctions.proofs.ReduceLaws.{relevance}
 use Rattle.theory_junctions.specs.Blocks.{Blocks}
 use Rattle.theory_junctions.specs.PathMerging.{Forest, PathsMerged}
@@ -20,7 +20,7 @@ use Rattle.core_forest.proofs.SearchLaws.{seen_less}
 use Rattle.core_forest.specs.Forest.{ForestAt, HasParent, Root, edges_below}
 use Rattle.core_forest.specs.Search.{BetweenTrees}
 use Rattle.core_words.specs.Fields.{ACTIVE, EDGE, MARK, ORDER, PARENT, POSITION, ROOT, TO, TOP, half, node}
-use Rattle.core_blocks.proofs.SearchedForest.{on_seen, searched, searched-forest, seen_is}
+use Rattle.core_blocks.proofs.SearchedForest.{on_seen, searched, searched_forest, seen_is}
 use Rattle.core_blocks.specs.Classes.{BlocksMerged, firsts_below}
 use Rattle.core_blocks.specs.SearchSets.{seen_by}
 use Rattle.core_cycles.specs.BlocksIn.{BlocksAt, BlocksBy}
@@ -43,14 +43,14 @@ module _ {n m k seen : ℕ} {w : List ℕ} (g : BetweenTrees n m k w seen k) (f 
   S = table (node ACTIVE w) 0 k
 
   forest : Forest (edges_below to m)
-  forest = searched-forest n m to pos par te (node ROOT w) f
+  forest = searched_forest n m to pos par te (node ROOT w) f
 
-  merged : PathsMerged (edges_below to m) (searched-forest n m to pos par te (node ROOT w) f) (edges_below to m) (firsts_below n w m)
-  unfolding searched-forest
-  merged = paths_all (edges_below to m) (searched-forest n m to pos par te (node ROOT w) f) (edges_below to m) (λ p q i. i)
+  merged : PathsMerged (edges_below to m) (searched_forest n m to pos par te (node ROOT w) f) (edges_below to m) (firsts_below n w m)
+  unfolding searched_forest
+  merged = paths_all (edges_below to m) (searched_forest n m to pos par te (node ROOT w) f) (edges_below to m) (λ p q i. i)
 
   unfoldable blocks : Blocks (edges_below to m)
-  blocks = merged-blocks (edges_below to m) (searched-forest n m to pos par te (node ROOT w) f) (firsts_below n w m) merged
+  blocks = merged_blocks (edges_below to m) (searched_forest n m to pos par te (node ROOT w) f) (firsts_below n w m) merged
 
   search : Search (edges_below to m) blocks (member S) (table (node ORDER w) 0 seen)
   unfolding blocks
@@ -60,19 +60,19 @@ module _ {n m k seen : ℕ} {w : List ℕ} (g : BetweenTrees n m k w seen k) (f 
   seen_place i l = let (a, e) = g.search.place i l in seen_is n m to pos par te (node ROOT w) f (node ORDER w i) a (omega (arith, e))
 
   child_is : (i : ℕ) → i < seen → blocks.child (node ORDER w i) ≡ not (eqb (te (node ORDER w i)) 0)
-  unfolding blocks merged-blocks searched-forest
+  unfolding blocks merged_blocks searched_forest
   child_is i l = ap (λ x. x && not (eqb (te (node ORDER w i)) 0)) (seen_place i l)
 
   child_fit : (v : ℕ) → blocks.child v ≡ true → v < n
-  unfolding blocks merged-blocks searched-forest
+  unfolding blocks merged_blocks searched_forest
   child_fit v c = and_elim (seen_by n pos v) (not (eqb (te v) 0)) c λ s t. on_seen n m to pos par te (node ROOT w) f v s λ a b. a
 
   parent_is : (v : ℕ) → blocks.par v ≡ par v
-  unfolding blocks merged-blocks searched-forest
+  unfolding blocks merged_blocks searched_forest
   parent_is v = refl
 
   first_is : (v : ℕ) → blocks.first v ≡ firsts_below n w m v
-  unfolding blocks merged-blocks searched-forest
+  unfolding blocks merged_blocks searched_forest
   first_is v = refl
 
   parent_fit : (i : ℕ) → i < seen → par (node ORDER w i) < n

@@ -18,7 +18,7 @@ use Rattle.core_components.specs.Components.{CanMergeComponents}
 use Rattle.core_components.specs.Tops.{CanCompress, CanFind, Compressed, Found, OnlyTops, OwnTops}
 use Rattle.core_blocks.proofs.ClassLaws.{found_first}
 use Rattle.core_blocks.proofs.PathLaws.{child_parent, later_child}
-use Rattle.core_blocks.proofs.SearchedForest.{below_edge, edge_below, on_seen, searched-forest, seen_is}
+use Rattle.core_blocks.proofs.SearchedForest.{below_edge, edge_below, on_seen, searched_forest, seen_is}
 use Rattle.core_blocks.specs.Classes.{BlocksMerged, CanMerge, CanMergeEdge, CanMergePath, EdgesMerged, InTreeOf, InTrees, InTreesAt, IsChild, Leads, PathMerged, firsts_below}
 use Rattle.core_blocks.specs.SearchSets.{child_by, seen_by}
 
@@ -30,8 +30,8 @@ module _ (n m : ℕ) (to pos par te root : ℕ → ℕ) (F : Forest n m to pos p
   child_is : (u : ℕ) → child_by n pos te u ≡ true → IsChild n pos te u
   child_is u c = and_elim (seen_by n pos u) (not (eqb (te u) 0)) c λ s t. on_seen n m to pos par te root F u s λ l p. (l, p, eqb-false (te u) 0 (not-true (eqb (te u) 0) t))
 
-  partition_trees : (first : ℕ → ℕ) → Partition (edges_below to m) (searched-forest n m to pos par te root F) first → InTrees n pos te root first
-  unfolding searched-forest
+  partition_trees : (first : ℕ → ℕ) → Partition (edges_below to m) (searched_forest n m to pos par te root F) first → InTrees n pos te root first
+  unfolding searched_forest
   partition_trees first P = record {
     child = λ u c. child_is (first u) (P.first_child u (is_child u c));
     tree = λ u c. P.first_tree u (is_child u c);
@@ -44,8 +44,8 @@ module _ (n m : ℕ) (to pos par te root : ℕ → ℕ) (F : Forest n m to pos p
       subst (λ (u : ℕ). Memᴰ (u, q) (edges_below to m)) (sym x) (subst (λ (u : ℕ). Memᴰ (to (2 * e), u) (edges_below to m)) (sym y) (below_edge to m e (omega arith)))
 
   pub after_trees : (i : ℕ) → i ≤ m → InTrees n pos te root (first_after (seen_by n pos) par pos (edges_below to i))
-  unfolding searched-forest
-  after_trees i l = partition_trees (first_after (seen_by n pos) par pos (edges_below to i)) (paths_all (edges_below to m) (searched-forest n m to pos par te root F) (edges_below to i) (fewer_edges i l)).partition
+  unfolding searched_forest
+  after_trees i l = partition_trees (first_after (seen_by n pos) par pos (edges_below to i)) (paths_all (edges_below to m) (searched_forest n m to pos par te root F) (edges_below to i) (fewer_edges i l)).partition
 
 -- ---- one edge more, over functions
 module _ (n : ℕ) (to pos par : ℕ → ℕ) (e : ℕ) where
@@ -69,26 +69,26 @@ module _ (n : ℕ) (to pos par : ℕ → ℕ) (e : ℕ) where
   unfolding first_after
   seen_next s = ap (λ t. pick t (λ u. merge_path par pos first x y) (λ u. first)) s
 
-  abbrev from-x : ℕ → ℕ
-  from-x = merge_on par pos (suc (pos x + pos y)) first (par (first x)) y (first x)
+  abbrev from_x : ℕ → ℕ
+  from_x = merge_on par pos (suc (pos x + pos y)) first (par (first x)) y (first x)
 
-  abbrev from-y : ℕ → ℕ
-  from-y = merge_on par pos (suc (pos x + pos y)) first x (par (first y)) (first y)
+  abbrev from_y : ℕ → ℕ
+  from_y = merge_on par pos (suc (pos x + pos y)) first x (par (first y)) (first y)
 
   abbrev below : Unit {0} → ℕ → ℕ
-  below u = pick (ltb (pos y) (pos x)) (λ u. from-x) (λ u. from-y)
+  below u = pick (ltb (pos y) (pos x)) (λ u. from_x) (λ u. from_y)
 
   loop_path : x ≡ y → merge_path par pos first x y ≡ first
   unfolding merge_path
   loop_path i = ap (λ t. pick t (λ u. first) below) (eq-eqb x y i)
 
-  left_path : ¬ (x ≡ y) → pos y < pos x → merge_path par pos first x y ≡ from-x
+  left_path : ¬ (x ≡ y) → pos y < pos x → merge_path par pos first x y ≡ from_x
   unfolding merge_path
-  left_path ne l = ap (λ t. pick t (λ u. first) below) (ne_eqb x y ne) ∙ ap (λ t. pick t (λ u. from-x) (λ u. from-y)) (lt-ltb (pos y) (pos x) l)
+  left_path ne l = ap (λ t. pick t (λ u. first) below) (ne_eqb x y ne) ∙ ap (λ t. pick t (λ u. from_x) (λ u. from_y)) (lt-ltb (pos y) (pos x) l)
 
-  right_path : ¬ (x ≡ y) → pos x ≤ pos y → merge_path par pos first x y ≡ from-y
+  right_path : ¬ (x ≡ y) → pos x ≤ pos y → merge_path par pos first x y ≡ from_y
   unfolding merge_path
-  right_path ne l = ap (λ t. pick t (λ u. first) below) (ne_eqb x y ne) ∙ ap (λ t. pick t (λ u. from-x) (λ u. from-y)) (le-ltb (pos y) (pos x) l)
+  right_path ne l = ap (λ t. pick t (λ u. first) below) (ne_eqb x y ne) ∙ ap (λ t. pick t (λ u. from_x) (λ u. from_y)) (le-ltb (pos y) (pos x) l)
 
 -- ---- one edge, at the words
 module _ {n m e : ℕ} {w : List ℕ} (c : CanMergeEdge n m e w) where

@@ -16,7 +16,7 @@ use Rattle.theory_graph.proofs.Booleans.{and_elim, bool_iff, on_bool}
 use Rattle.theory_graph.proofs.Lists.{mem_member, member_mem, table_in, table_mem}
 use Rattle.theory_graph.specs.Graph.{Edge}
 use Rattle.theory_graph.specs.Lists.{member, table}
-use Rattle.theory_junctions.proofs.PathMergingLaws.{merged-blocks}
+use Rattle.theory_junctions.proofs.PathMergingLaws.{merged_blocks}
 use Rattle.theory_junctions.specs.PathMerging.{Forest, PathsMerged}
 use Rattle.theory_junctions.specs.Reduce.{Rising, Search}
 use Rattle.core_blocks.specs.SearchSets.{child_by, first_of, seen_by}
@@ -72,8 +72,8 @@ module _ (n m : ℕ) (to pos par te root : ℕ → ℕ) (F : Base.Forest n m to 
       (λ s. on_seen (to (2 * e + 1)) s λ a b. seen_is (to (2 * e)) (F.ends (2 * e) (omega arith)) (F.back e l b))
 
   -- ---- the forest
-  unfoldable pub searched-forest : Forest E
-  searched-forest =
+  unfoldable pub searched_forest : Forest E
+  searched_forest =
       record {
         seen = seen_by n pos;
         child = child_by n pos te;
@@ -110,8 +110,8 @@ module _ (n m : ℕ) (to pos par te root : ℕ → ℕ) (F : Base.Forest n m to 
             let (h, a, b, e) = from (suc i) j w m in
             omega (arith, (S.place i (omega arith)).1, (S.place h (omega arith)).1, ap pos e)
 
-    pub searched : (first : ℕ → ℕ) (C : PathsMerged E searched-forest E first) → Search E (merged-blocks E searched-forest first C) (member (first_of act k)) (first_of ord seen)
-    unfolding merged-blocks searched-forest
+    pub searched : (first : ℕ → ℕ) (C : PathsMerged E searched_forest E first) → Search E (merged_blocks E searched_forest first C) (member (first_of act k)) (first_of ord seen)
+    unfolding merged_blocks searched_forest
     searched first C =
         record {
           rises = order_rises 0 seen (omega arith);

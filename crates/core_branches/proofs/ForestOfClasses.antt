@@ -81,35 +81,35 @@ module _ {n m : ℕ} {to pos par te root t : ℕ → ℕ} (f : Forest n m to pos
   has_parent v s r = let (p, q) = seen_in n pos v s in ⊎_elim (λ k. absurd (root_not n pos te v s r k.none)) (λ k. k) (f.kind v p q)
 
   -- at or below v
-  unfoldable pub atOrBelow : ℕ → NodeSet
-  atOrBelow v u = eqb u v || descendants f v u
+  unfoldable pub at_or_below : ℕ → NodeSet
+  at_or_below v u = eqb u v || descendants f v u
 
-  at_or_below_descendants : (v u : ℕ) → 0 < pos v → atOrBelow v u ≡ descendants f v u
-  unfolding atOrBelow descendants
+  at_or_below_descendants : (v u : ℕ) → 0 < pos v → at_or_below v u ≡ descendants f v u
+  unfolding at_or_below descendants
   at_or_below_descendants v u s = on_bool (eqb u v)
       (λ q. ap (λ b. b || descendants f v u) q ∙ sym (ap (descendants f v) (eqb-true u v q) ∙ ancestor_self f v (pos v) s))
       (λ q. ap (λ b. b || descendants f v u) q)
 
-  pub at_or_below_self : (v : ℕ) → atOrBelow v v ≡ true
-  unfolding atOrBelow
+  pub at_or_below_self : (v : ℕ) → at_or_below v v ≡ true
+  unfolding at_or_below
   at_or_below_self v = ap (λ b. b || descendants f v v) (eq-eqb v v refl)
 
-  at_or_below_other : (v u : ℕ) → ¬ (u ≡ v) → atOrBelow v u ≡ descendants f v u
-  unfolding atOrBelow
+  at_or_below_other : (v u : ℕ) → ¬ (u ≡ v) → at_or_below v u ≡ descendants f v u
+  unfolding at_or_below
   at_or_below_other v u ne = ap (λ b. b || descendants f v u) (ne_eqb u v ne)
 
   ancestor_of_root : (v x k : ℕ) → par x ≡ x → 0 < k → ancestor_within par v k x ≡ true → x ≡ v
   ancestor_of_root v x zero e p h = absurd (omega arith)
   ancestor_of_root v x (suc k) e p h = eqb-true x v (sym (ancestor_root f v k x e) ∙ h)
 
-  pub at_or_below_root : (v x : ℕ) → is_root n pos te x ≡ true → atOrBelow v x ≡ true → x ≡ v
+  pub at_or_below_root : (v x : ℕ) → is_root n pos te x ≡ true → at_or_below v x ≡ true → x ≡ v
   unfolding descendants
   at_or_below_root v x r h =
       let (p, q, e) = root_in n pos te x r in
       on_bool (eqb x v) (λ y. eqb-true x v y) λ y.
       ⊎_elim (λ k. ancestor_of_root v x (pos x) k.self q (sym (at_or_below_other v x (eqb-false x v y)) ∙ h)) (λ k. absurd (omega (arith, k.is))) (f.kind x p q)
 
-  pub at_or_below_parent : (v x : ℕ) → is_seen n pos x ≡ true → is_root n pos te x ≡ false → ¬ (x ≡ v) → atOrBelow v x ≡ atOrBelow v (par x)
+  pub at_or_below_parent : (v x : ℕ) → is_seen n pos x ≡ true → is_root n pos te x ≡ false → ¬ (x ≡ v) → at_or_below v x ≡ at_or_below v (par x)
   at_or_below_parent v x s r ne =
       let (p, q) = seen_in n pos x s in
       let k = has_parent x s r in
@@ -117,7 +117,7 @@ module _ {n m : ℕ} {to pos par te root t : ℕ → ℕ} (f : Forest n m to pos
       (λ y. let e : par x ≡ v = eqb-true (par x) v y in sym (at_or_below_descendants v (par x) (subst (λ (w : ℕ). 0 < pos w) e k.seen)))
       (λ y. sym (at_or_below_other v (par x) (eqb-false (par x) v y)))
 
-  pub at_or_below_fun : (v : ℕ) → 0 < pos v → atOrBelow v ≡ descendants f v
+  pub at_or_below_fun : (v : ℕ) → 0 < pos v → at_or_below v ≡ descendants f v
   at_or_below_fun v s = fun_ext (λ u. at_or_below_descendants v u s)
 
   -- below a root is its tree
@@ -149,14 +149,14 @@ module _ {n m : ℕ} {to pos par te root t : ℕ → ℕ} (f : Forest n m to pos
       descendants_unseen f v (to (2 * e)) (omega arith) ∙ sym (descendants_unseen f v (to (2 * e + 1)) y))
 
   module _ (S : List ℕ) (active : (a : ℕ) → Memᴰ a S → (a < n) × (0 < pos a)) (rooted : (r : ℕ) → r < n → 0 < pos r → te r ≡ 0 → Memᴰ r S) where
-    unfoldable pub classForest : ClassForest (edges_below to m) S
-    classForest = record {
+    unfoldable pub class_forest : ClassForest (edges_below to m) S
+    class_forest = record {
       seen = is_seen n pos;
       root = is_root n pos te;
       par = par;
       top = t;
       pos = pos;
-      below = atOrBelow;
+      below = at_or_below;
       active = λ a i. let (p, q) = active a i in seen_is n pos a p q;
       root_active = λ r h. let (p, q, e) = root_in n pos te r h in rooted r p q e;
       par_seen = λ v s r. let k = has_parent v s r in seen_is n pos (par v) k.fit k.seen;
@@ -178,26 +178,26 @@ module _ {n m : ℕ} {to pos par te root t : ℕ → ℕ} (f : Forest n m to pos
         adj_of v e l (inr (p, q)) = adjacent_sym
             (subst (λ (x : ℕ). Adjacent x v (edges_below to m)) p (subst (λ (y : ℕ). Adjacent (to (2 * e)) y (edges_below to m)) q (edge_adjacent to m e l)))
 
-    pub child_class : (x c : ℕ) → Child n pos par te t x c → ChildClass (edges_below to m) S classForest x c
-    unfolding classForest
+    pub child_class : (x c : ℕ) → Child n pos par te t x c → ChildClass (edges_below to m) S class_forest x c
+    unfolding class_forest
     child_class x c k = record { on = seen_is n pos c k.fit k.seen; is_top = k.is_top; no_root = root_no n pos te c k.has_edge; under = k.under }
 
-    pub class_child : (x c : ℕ) → ChildClass (edges_below to m) S classForest x c → Child n pos par te t x c
-    unfolding classForest
+    pub class_child : (x c : ℕ) → ChildClass (edges_below to m) S class_forest x c → Child n pos par te t x c
+    unfolding class_forest
     class_child x c k = let (p, q) = seen_in n pos c k.on in record { fit = p; seen = q; is_top = k.is_top; has_edge = root_not n pos te c k.on k.no_root; under = k.under }
 
     -- a child is below
-    child_below : (x c : ℕ) → Child n pos par te t x c → atOrBelow x c ≡ true
-    unfolding classForest
+    child_below : (x c : ℕ) → Child n pos par te t x c → at_or_below x c ≡ true
+    unfolding class_forest
     child_below x c k =
-        let T = classForest in
+        let T = class_forest in
         let h = child_class x c k in
         let sp = T.par_seen c h.on h.no_root in
         let (p, q) = seen_in n pos (par c) sp in
         let ix : t x ≡ x = ap t (sym k.under) ∙ g.flat (par c) p ∙ k.under in
         let sx : is_seen n pos x ≡ true = subst (λ (v : ℕ). is_seen n pos v ≡ true) k.under (T.top_seen (par c) sp) in
         let far : ¬ (c ≡ x) = λ e. omega (arith, ap pos (e ∙ sym k.under), over (par c) p, T.par_pos c h.on h.no_root) in
-        T.below_parent x c h.on h.no_root far ∙ below_class (edges_below to m) S T x (par c) sx ix sp ∙ ap (atOrBelow x) k.under ∙ at_or_below_self x
+        T.below_parent x c h.on h.no_root far ∙ below_class (edges_below to m) S T x (par c) sx ix sp ∙ ap (at_or_below x) k.under ∙ at_or_below_self x
       where
         over : (v : ℕ) → v < n → pos (t v) ≤ pos v
         over v l = on_bool (eqb (t v) v) (λ e. omega (arith, ap pos (eqb-true (t v) v e))) (λ e. omega (arith, g.tops.up v l (eqb-false (t v) v e)))
@@ -208,39 +208,39 @@ module _ {n m : ℕ} {to pos par te root t : ℕ → ℕ} (f : Forest n m to pos
         (w : Branches n pos par te t live₀ live child other 0) where
       -- x is one more than an active node at or below c
       unfoldable Holds : ℕ → ℕ → Bool
-      Holds c x = not (eqb x 0) && (act (x - 1) && atOrBelow c (x - 1))
+      Holds c x = not (eqb x 0) && (act (x - 1) && at_or_below c (x - 1))
 
-      holds_in : (c x : ℕ) → Holds c x ≡ true → (act (x - 1) ≡ true) × (atOrBelow c (x - 1) ≡ true)
+      holds_in : (c x : ℕ) → Holds c x ≡ true → (act (x - 1) ≡ true) × (at_or_below c (x - 1) ≡ true)
       unfolding Holds
-      holds_in c x h = and_elim (not (eqb x 0)) (act (x - 1) && atOrBelow c (x - 1)) h λ _ r. and_elim (act (x - 1)) (atOrBelow c (x - 1)) r λ p q. (p, q)
+      holds_in c x h = and_elim (not (eqb x 0)) (act (x - 1) && at_or_below c (x - 1)) h λ _ r. and_elim (act (x - 1)) (at_or_below c (x - 1)) r λ p q. (p, q)
 
-      holds_is : (c x : ℕ) → ¬ (x ≡ 0) → act (x - 1) ≡ true → atOrBelow c (x - 1) ≡ true → Holds c x ≡ true
+      holds_is : (c x : ℕ) → ¬ (x ≡ 0) → act (x - 1) ≡ true → at_or_below c (x - 1) ≡ true → Holds c x ≡ true
       unfolding Holds
       holds_is c x z p q = ap₂ (λ r s. not r && s) (ne_eqb x 0 z) (ap₂ ◌&&◌ p q)
 
       holds_some : (c x : ℕ) → Holds c x ≡ true → ¬ (x ≡ 0)
       unfolding Holds
-      holds_some c x h z = contradict h (ap (λ r. not r && (act (x - 1) && atOrBelow c (x - 1))) (eq-eqb x 0 z))
+      holds_some c x h z = contradict h (ap (λ r. not r && (act (x - 1) && at_or_below c (x - 1))) (eq-eqb x 0 z))
 
       holds_up : (x c y : ℕ) → Child n pos par te t x c → Holds c y ≡ true → Holds x y ≡ true
-      unfolding classForest
+      unfolding class_forest
       holds_up x c y k h =
           let (p, q) = holds_in c y h in
-          let s = classForest.active (y - 1) (act-in (y - 1) p) in
-          holds_is x y (holds_some c y h) p (below_trans (edges_below to m) S classForest (suc (pos (y - 1))) x c (y - 1) (omega arith) s (child_below x c k) q)
+          let s = class_forest.active (y - 1) (act-in (y - 1) p) in
+          holds_is x y (holds_some c y h) p (below_trans (edges_below to m) S class_forest (suc (pos (y - 1))) x c (y - 1) (omega arith) s (child_below x c k) q)
 
       holds_first : (c : ℕ) → c < n → ¬ (live₀ c ≡ 0) → Holds c (live₀ c) ≡ true
-      unfolding classForest
+      unfolding class_forest
       holds_first c l z =
-          let T = classForest in
+          let T = class_forest in
           let (i, e) = begins c l z in
           let s = T.active (live₀ c - 1) i in
           let sc : is_seen n pos c ≡ true = subst (λ (v : ℕ). is_seen n pos v ≡ true) e (T.top_seen (live₀ c - 1) s) in
           let tc : t c ≡ c = ap t (sym e) ∙ T.top_top (live₀ c - 1) s ∙ e in
-          holds_is c (live₀ c) z (in_act (live₀ c - 1) i) (below_class (edges_below to m) S T c (live₀ c - 1) sc tc s ∙ ap (atOrBelow c) e ∙ at_or_below_self c)
+          holds_is c (live₀ c) z (in_act (live₀ c - 1) i) (below_class (edges_below to m) S T c (live₀ c - 1) sc tc s ∙ ap (at_or_below c) e ∙ at_or_below_self c)
 
-      pub witnesses : Witnesses (edges_below to m) S classForest live child other
-      unfolding classForest
+      pub witnesses : Witnesses (edges_below to m) S class_forest live child other
+      unfolding class_forest
       witnesses = record {
         still = λ a i. w.still (t a) (actives-live a i);
         wit = λ c s z. let (p, q) = holds_in c (live c) (w.witness Holds holds_up holds_first c (seen_in n pos c s).0 z) in (live c - 1, act-in (live c - 1) p, q);

@@ -8,7 +8,7 @@ use mathlib.Core.Path.{◌∙◌, ◌≡◌, ap, ap₂, refl, subst, sym}
 use lib.Dec.{eqb, ltb}
 use native.Mathlib.Omega.{arith}
 use borrow.Author.Tests.{eqb-false, eqb-true, lt-ltb, ltb-false, ltb-true}
-use Rattle.core_branches.proofs.ForestOfClasses.{classForest, is_seen, root_is, root_no, seen_closed, seen_in, seen_is, witnesses}
+use Rattle.core_branches.proofs.ForestOfClasses.{class_forest, is_seen, root_is, root_no, seen_closed, seen_in, seen_is, witnesses}
 use Rattle.core_branches.proofs.KeptClasses.{Nearest, Numbered, Witnesses, kept_other, nearest_above, nearest_passes, nearest_self, numbered_forest, other_kept}
 use Rattle.core_branches.specs.BranchCounts.{Branches}
 use Rattle.core_branches.proofs.WayLaws.{NearestNumbers, ParentNumbers}
@@ -82,7 +82,7 @@ module _ {n m k h₀ h : ℕ} {to pos par te root top mark act nr₀ rep₀ live
   rooted r l p z = let (j, b, e) = root_place f marks marked r l p z in subst (λ (v : ℕ). Memᴰ v S) e (in_act j b)
 
   abbrev T : ClassForest E S
-  T = classForest f g S active rooted
+  T = class_forest f g S active rooted
 
   is_act : NodeSet
   is_act v = ltb v n && ltb 0 (mark v)
@@ -102,7 +102,7 @@ module _ {n m k h₀ h : ℕ} {to pos par te root top mark act nr₀ rep₀ live
   act_nr a i = let (j, l, e) = is_act_lem a i in subst (λ (v : ℕ). ¬ (nr₀ (top v) ≡ 0)) (sym e) (A.done j l)
 
   kept_nr : (z : ℕ) → z < n → 0 < pos z → top z ≡ z → Kept E S z → ¬ (nr z ≡ 0)
-  unfolding classForest
+  unfolding class_forest
   kept_nr z l p t q = on_bool (eqb (nr₀ z) 0)
       (λ e.
       let o = kept_other E S T witnesses_of z (seen_is n pos z l p) t (λ a i x. act_nr a i (ap nr₀ x ∙ eqb-true (nr₀ z) 0 e)) q in
@@ -119,7 +119,7 @@ module _ {n m k h₀ h : ℕ} {to pos par te root top mark act nr₀ rep₀ live
       (λ q. ((R.numbers.place i l).0, let ne = (R.late i (omega (arith, ltb-false i h₀ q)) l).1 in omega arith))
 
   rep_kept : (i : ℕ) → i < h → Kept E S (top (rep i))
-  unfolding classForest
+  unfolding class_forest
   rep_kept i l =
       let (p, q) = rep_on i l in
       let s = seen_is n pos (rep i) p q in
@@ -132,7 +132,7 @@ module _ {n m k h₀ h : ℕ} {to pos par te root top mark act nr₀ rep₀ live
   NearAt y = ¬ (near y ≡ 0) × (near y - 1 < h) × Nearest E S T y (top (rep (near y - 1)))
 
   near_own : (y : ℕ) → y < n → 0 < pos y → top y ≡ y → ¬ (nr y ≡ 0) → NearAt y
-  unfolding classForest NearAt
+  unfolding class_forest NearAt
   near_own y l p t ne =
       let s = seen_is n pos y l p in
       let (b, q) = R.numbers.place_of y l ne in
@@ -142,7 +142,7 @@ module _ {n m k h₀ h : ℕ} {to pos par te root top mark act nr₀ rep₀ live
       rw (e, q) (ne, c, nearest_self E S T y (record { on = s; is_top = t; kept = k' }))
 
   near_next : (y : ℕ) → y < n → 0 < pos y → top y ≡ y → nr y ≡ 0 → ((x : ℕ) → pos x < pos y → x < n → 0 < pos x → top x ≡ x → NearAt x) → NearAt y
-  unfolding classForest NearAt
+  unfolding class_forest NearAt
   near_next y l p t z ih =
       let s = seen_is n pos y l p in
       let nk : ¬ Kept E S y = λ q. kept_nr y l p t q z in
@@ -165,7 +165,7 @@ module _ {n m k h₀ h : ℕ} {to pos par te root top mark act nr₀ rep₀ live
   near_is (suc j) y b l p t = near_step y l p t (λ x q. near_is j x (omega arith))
 
   numbered : Numbered E S T h rep (λ v. nr (top v) - 1) up
-  unfolding classForest NearAt
+  unfolding class_forest NearAt
   numbered = record {
     on = λ i l. let (p, q) = rep_on i l in seen_is n pos (rep i) p q;
     kept = rep_kept;
@@ -214,7 +214,7 @@ module _ {n m k h₀ h : ℕ} {to pos par te root top mark act nr₀ rep₀ live
           (g.seen (par (top (rep i))) lp pp) (g.flat (par (top (rep i))) lp)
 
   pub small_forest : SmallForest E S h rep (λ v. nr (top v) - 1) up
-  unfolding classForest
+  unfolding class_forest
   small_forest = numbered_forest E S T (seen_closed f g) numbered
 
   -- numbers without an active node come from the second loop

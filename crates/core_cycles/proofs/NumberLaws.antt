@@ -74,23 +74,23 @@ module _ {n m k seen : ℕ} {to act ord te par top mark : ℕ → ℕ} (b : Bloc
   abbrev following : ℕ → List ℕ
   following j = table ord (j + 1) (seen - (j + 1))
 
-  abbrev its-class : ℕ → List ℕ
-  its-class j = members_in b.blocks b.rel (table ord 0 seen) (b.blocks.first (ord j))
+  abbrev its_class : ℕ → List ℕ
+  its_class j = members_in b.blocks b.rel (table ord 0 seen) (b.blocks.first (ord j))
 
-  abbrev its-share : ℕ → Bool
-  its-share j = shares (member (table act 0 k)) b.blocks.par (classes_in b.blocks b.rel (table ord 0 seen)) (b.blocks.first (ord j), its-class j) (ord j)
+  abbrev its_share : ℕ → Bool
+  its_share j = shares (member (table act 0 k)) b.blocks.par (classes_in b.blocks b.rel (table ord 0 seen)) (b.blocks.first (ord j), its_class j) (ord j)
 
-  class_split : (j : ℕ) → j < seen → its-class j ≡ before j ++ members_in b.blocks b.rel (ord j ∷ following j) (b.blocks.first (ord j))
+  class_split : (j : ℕ) → j < seen → its_class j ≡ before j ++ members_in b.blocks b.rel (ord j ∷ following j) (b.blocks.first (ord j))
   class_split j l = ap (λ xs. members_in b.blocks b.rel xs (b.blocks.first (ord j))) (table_cut ord j seen l)
       ∙ filter_append (λ u. b.blocks.child u && (b.rel u && eqb (b.blocks.first u) (b.blocks.first (ord j)))) (table ord 0 j) (ord j ∷ following j)
 
   -- one that shares is alone in its class, so the edge to it would come from its top
   pub shared_source : (j : ℕ) → j < seen → shares_top b.blocks (member (table act 0 k)) b.rel (table ord 0 seen) (ord j) ≡ true → source j ≡ top_of b.blocks (ord j)
   shared_source j l s =
-      and_elim (b.blocks.child (ord j)) (b.rel (ord j) && its-share j) s λ x y.
-      and_elim (b.rel (ord j)) (its-share j) y λ r z.
-      and_elim (single (its-class j)) (not (member (table act 0 k) (ord j)) && (not (member (table act 0 k) (top_of b.blocks (ord j))) && eqb (classes_below b.blocks.par (classes_in b.blocks b.rel (table ord 0 seen)) (ord j)) 1)) z λ q o.
-      let one = eqb-true (length (its-class j)) 1 (sym (single_length (its-class j)) ∙ q) in
+      and_elim (b.blocks.child (ord j)) (b.rel (ord j) && its_share j) s λ x y.
+      and_elim (b.rel (ord j)) (its_share j) y λ r z.
+      and_elim (single (its_class j)) (not (member (table act 0 k) (ord j)) && (not (member (table act 0 k) (top_of b.blocks (ord j))) && eqb (classes_below b.blocks.par (classes_in b.blocks b.rel (table ord 0 seen)) (ord j)) 1)) z λ q o.
+      let one = eqb-true (length (its_class j)) 1 (sym (single_length (its_class j)) ∙ q) in
       let some = ap (λ t. length (cond t (ord j ∷ members_in b.blocks b.rel (following j) (b.blocks.first (ord j))) (members_in b.blocks b.rel (following j) (b.blocks.first (ord j)))))
       (ap₂ ◌&&◌ x (ap₂ ◌&&◌ r (eq-eqb (b.blocks.first (ord j)) (b.blocks.first (ord j)) refl))) in
       ap (last_of (top_of b.blocks (ord j))) (empty (before j) (omega (arith, ap (λ (xs : List ℕ). length xs) (class_split j l), length-append (before j) (members_in b.blocks b.rel (ord j ∷ following j) (b.blocks.first (ord j))), one, some)))
@@ -127,8 +127,8 @@ module _ {n m k seen i h : ℕ} {to act ord te par top mark members below number
   abbrev v : ℕ
   v = ord i
 
-  abbrev own-number : NodeSet
-  own-number = numbered B K rel order
+  abbrev own_number : NodeSet
+  own_number = numbered B K rel order
 
   early_other : (u : ℕ) → B.pos u < B.pos v → ¬ (u ≡ v)
   early_other u q e = omega (arith, ap B.pos e)
@@ -136,32 +136,32 @@ module _ {n m k seen i h : ℕ} {to act ord te par top mark members below number
   members_next : (c : ℕ) → members_in B rel (table ord 0 (i + 1)) c ≡ members_in B rel ps c ++ members_in B rel (v ∷ []) c
   members_next c = ap (λ xs. members_in B rel xs c) (table_more ord i) ∙ filter_append (λ u. B.child u && (rel u && eqb (B.first u) c)) ps (v ∷ [])
 
-  count_next : count own-number (table ord 0 (i + 1)) ≡ count own-number ps + tick (own-number v)
-  count_next = let e = ap (count own-number) (table_more ord i) in omega (arith, e, count_append own-number ps (v ∷ []))
+  count_next : count own_number (table ord 0 (i + 1)) ≡ count own_number ps + tick (own_number v)
+  count_next = let e = ap (count own_number) (table_more ord i) in omega (arith, e, count_append own_number ps (v ∷ []))
 
   on_place : (A : ℕ → Type 0) (j : ℕ) → j < i + 1 → (j < i → A j) → A i → A j
   on_place A j g f x = on_eq j i (λ e. subst A (sym e) x) (λ ne. f (omega (arith, g, ne)))
 
   code_keep : (number' : ℕ → ℕ) → ((u : ℕ) → B.pos u < B.pos v → number' u ≡ number u) → (j : ℕ) → j < i + 1
       → from_code B K rel order number (table ord 0 j) (ord j) ≡ from_code B K rel order number' (table ord 0 j) (ord j)
-  code_keep number' keep j g = go (B.child (ord j) && own-number (ord j)) refl
+  code_keep number' keep j g = go (B.child (ord j) && own_number (ord j)) refl
     where
       late : B.pos (source b j) < B.pos (ord j) → B.pos (source b j) < B.pos v
       late q = on_eq j i (λ e. subst (λ (x : ℕ). B.pos (source b j) < B.pos (ord x)) e q) (λ ne. let w = place_less b j i (omega (arith, g, ne)) l in omega (arith, q, w))
 
-      go : (t : Bool) → (B.child (ord j) && own-number (ord j)) ≡ t → cond t (suc (number (source b j))) 0 ≡ cond t (suc (number' (source b j))) 0
-      go true e = and_elim (B.child (ord j)) (own-number (ord j)) e λ c o. ap suc (sym (keep (source b j) (late (source_early b j (omega (arith, g, l)) c))))
+      go : (t : Bool) → (B.child (ord j) && own_number (ord j)) ≡ t → cond t (suc (number (source b j))) 0 ≡ cond t (suc (number' (source b j))) 0
+      go true e = and_elim (B.child (ord j)) (own_number (ord j)) e λ c o. ap suc (sym (keep (source b j) (late (source_early b j (omega (arith, g, l)) c))))
       go false e = refl
 
-  build : (h' : ℕ) (number' last' from' : ℕ → ℕ) → ((u : ℕ) → B.pos u < B.pos v → number' u ≡ number u) → h ≤ h' → h' ≡ h + tick (own-number v)
-      → (own-number v ≡ true → number' v ≡ h) → (shares_top B K rel order v ≡ true → number' v ≡ number (top_of B v)) → (rel v ≡ true → number' v < h')
+  build : (h' : ℕ) (number' last' from' : ℕ → ℕ) → ((u : ℕ) → B.pos u < B.pos v → number' u ≡ number u) → h ≤ h' → h' ≡ h + tick (own_number v)
+      → (own_number v ≡ true → number' v ≡ h) → (shares_top B K rel order v ≡ true → number' v ≡ number (top_of B v)) → (rel v ≡ true → number' v < h')
       → ((c : ℕ) → B.child c ≡ true → last' c ≡ last_code number' (members_in B rel ps c ++ members_in B rel (v ∷ []) c))
       → from' v ≡ from_code B K rel order number ps v → ((j : ℕ) → j < i → from' (ord j) ≡ from (ord j))
       → NumbersBy n m k seen (i + 1) h' to act ord te par top mark members below number' last' from'
   build h' number' last' from' keep more tot own-v shared-v low-v last-all from-v from_old = record {
     counted = p.counted;
     total = omega (arith, tot, p.total, count_next);
-    own = λ j g. on_place (λ j. own-number (ord j) ≡ true → number' (ord j) ≡ count own-number (table ord 0 j)) j g
+    own = λ j g. on_place (λ j. own_number (ord j) ≡ true → number' (ord j) ≡ count own_number (table ord 0 j)) j g
         (λ q t. keep (ord j) (place_less b j i q l) ∙ p.own j q t) (λ t. own-v t ∙ p.total);
     shared = λ j g. on_place (λ j. shares_top B K rel order (ord j) ≡ true → number' (ord j) ≡ number' (top_of B (ord j))) j g
         (λ q t. keep (ord j) (place_less b j i q l) ∙ p.shared j q t ∙ sym (keep (top_of B (ord j)) (let w = place_less b j i q l in omega (arith, w, top_pos (edges_below to m) B (ord j) (child_of (ord j) t)))))
@@ -201,7 +201,7 @@ module _ {n m k seen i h : ℕ} {to act ord te par top mark members below number
       (λ c t. p.last_is c t ∙ ap (last_code number) (sym (not_held c (and_off (B.child v) (ap (λ x. x && eqb (B.first v) c) r)))))
       (update_same from v 0 ∙ sym (ap (λ x. cond x (suc (number (source b i))) 0) (and_off (B.child v) off))) (from_keep 0)
     where
-      off : own-number v ≡ false
+      off : own_number v ≡ false
       off = ap (λ x. x && not (shares_top B K rel order v)) r
 
   -- ---- a root
@@ -213,9 +213,9 @@ module _ {n m k seen i h : ℕ} {to act ord te par top mark members below number
       (λ t. omega (arith, update_same number v h))
       (λ d t. update_other last v 0 d (λ e. contradict (ap B.child (sym e) ∙ t) c) ∙ p.last_is d t ∙ last_keep (update number v h) (keep_at h) d
       ∙ ap (last_code (update number v h)) (sym (not_held d (ap (λ x. x && (rel v && eqb (B.first v) d)) c))))
-      (update_same from v 0 ∙ sym (ap (λ x. cond x (suc (number (source b i))) 0) (ap (λ x. x && own-number v) c))) (from_keep 0)
+      (update_same from v 0 ∙ sym (ap (λ x. cond x (suc (number (source b i))) 0) (ap (λ x. x && own_number v) c))) (from_keep 0)
     where
-      on : own-number v ≡ true
+      on : own_number v ≡ true
       on = ap₂ ◌&&◌ r (ap not (ap (λ x. x && (rel v && shares K B.par (classes_in B rel order) (B.first v, members_in B rel order (B.first v)) v)) c))
 
   -- ---- a relevant node with a parent
@@ -294,7 +294,7 @@ module _ {n m k seen i h : ℕ} {to act ord te par top mark members below number
           (class_cases (update number v x) (update last (top v) y) y (keep_at x) (omega (arith, ey, last_is, x_is, update_same number v x)))
           (update_same from v 0 ∙ sym (ap (λ x. cond x (suc (number (source b i))) 0) (and_off (B.child v) off))) (from_keep 0)
         where
-          off : own-number v ≡ false
+          off : own_number v ≡ false
           off = and_off (rel v) (ap not s)
 
           x_is : x ≡ number (source b i)
@@ -309,5 +309,5 @@ module _ {n m k seen i h : ℕ} {to act ord te par top mark members below number
         (class_cases (update number v h) (update last (top v) y) y (keep_at h) (omega (arith, ey, update_same number v h)))
         (update_same from v z ∙ ez ∙ last_is ∙ sym (ap (λ x. cond x (suc (number (source b i))) 0) (ap₂ ◌&&◌ c on))) (from_keep z)
       where
-        on : own-number v ≡ true
+        on : own_number v ≡ true
         on = ap₂ ◌&&◌ r (ap not s)

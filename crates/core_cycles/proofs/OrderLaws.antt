@@ -97,12 +97,12 @@ pub and_off : (x : Bool) {y : Bool} → y ≡ false → (x && y) ≡ false
 and_off true e = e
 and_off false e = refl
 
-and_true : (x : Bool) → (x && true) ≡ x
-and_true true = refl
-and_true false = refl
+and-true : (x : Bool) → (x && true) ≡ x
+and-true true = refl
+and-true false = refl
 
 pub and_rotate : (a b c d : Bool) → (a && (b && (c && d))) ≡ (d && (a && (b && c)))
-and_rotate a b c true = ap (λ x. a && (b && x)) (and_true c)
+and_rotate a b c true = ap (λ x. a && (b && x)) (and-true c)
 and_rotate a b c false = and_off a (and_off b (and_off c refl))
 
 pub not_positive : (x : ℕ) → not (ltb 0 x) ≡ eqb x 0

@@ -149,18 +149,18 @@ module _ {n m k seen h : ℕ} {to act ord te par top mark members below number l
   abbrev order : List ℕ
   order = table ord 0 seen
 
-  abbrev own-number : NodeSet
-  own-number = numbered B (member (table act 0 k)) b.rel order
+  abbrev own_number : NodeSet
+  own_number = numbered B (member (table act 0 k)) b.rel order
 
   pub number_low : (u : ℕ) → b.rel u ≡ true → number u < h
   number_low u r = let (j, l, e) = table_mem ord 0 seen u (b.search.seen_listed u (relevant_seen b u r)) in subst (λ (x : ℕ). number x < h) (sym e) (p.low j (omega arith) (ap b.rel (sym e) ∙ r))
 
-  pub from_cases : {A : Type 0} (i : ℕ) → i < seen → (from (ord i) ≡ 0 → A) → (B.child (ord i) ≡ true → own-number (ord i) ≡ true → from (ord i) ≡ suc (number (source b i)) → A) → A
-  from_cases i l f g = on_bool (B.child (ord i) && own-number (ord i))
-      (λ t. and_elim (B.child (ord i)) (own-number (ord i)) t λ c o. g c o (p.from_is i l ∙ ap (λ x. cond x (suc (number (source b i))) 0) t))
+  pub from_cases : {A : Type 0} (i : ℕ) → i < seen → (from (ord i) ≡ 0 → A) → (B.child (ord i) ≡ true → own_number (ord i) ≡ true → from (ord i) ≡ suc (number (source b i)) → A) → A
+  from_cases i l f g = on_bool (B.child (ord i) && own_number (ord i))
+      (λ t. and_elim (B.child (ord i)) (own_number (ord i)) t λ c o. g c o (p.from_is i l ∙ ap (λ x. cond x (suc (number (source b i))) 0) t))
       (λ t. f (p.from_is i l ∙ ap (λ x. cond x (suc (number (source b i))) 0) t))
 
-  own_relevant : (u : ℕ) → own-number u ≡ true → b.rel u ≡ true
+  own_relevant : (u : ℕ) → own_number u ≡ true → b.rel u ≡ true
   own_relevant u o = and_elim (b.rel u) (not (shares_top B (member (table act 0 k)) b.rel order u)) o λ r s. r
 
   abbrev closing : ℕ → ℕ

@@ -7,7 +7,7 @@ use mathlib.Core.List.{List, Memᴰ}
 use mathlib.Core.Logic.{◌⊎◌, inl, inr}
 use mathlib.Core.Path.{◌∙◌, ◌≡◌, ap, sym}
 use native.Mathlib.Omega.{arith}
-use Rattle.core_branches.proofs.ForestOfClasses.{atOrBelow, classForest, has_parent, is_root, is_seen, root_no, seen_is}
+use Rattle.core_branches.proofs.ForestOfClasses.{at_or_below, class_forest, has_parent, is_root, is_seen, root_no, seen_is}
 use Rattle.core_branches.proofs.WayLaws.{NearestNumbers, ParentNumbers, nearest, nearest_numbers, parent_numbers, way, way_over, way_there}
 use Rattle.core_branches.specs.Numbers.{Numbers}
 use Rattle.core_branches.specs.Ways.{ParentWays, WayTree}
@@ -32,7 +32,7 @@ module _ {n m h : ℕ} (nm : ℕ → ℕ) {to pos par te root top nr rep : ℕ �
   E = edges_below to m
 
   abbrev T : ClassForest E S
-  T = classForest f g S active rooted
+  T = class_forest f g S active rooted
 
   abbrev near : ℕ → ℕ
   near = nearest nm W
@@ -59,7 +59,7 @@ module _ {n m h : ℕ} (nm : ℕ → ℕ) {to pos par te root top nr rep : ℕ �
   over y = top (rep (near y - 1))
 
   unfoldable OverAt : ℕ → Type 0
-  OverAt y = (near y - 1 < h) × (is_seen n pos (over y) ≡ true) × (atOrBelow f g (over y) y ≡ true)
+  OverAt y = (near y - 1 < h) × (is_seen n pos (over y) ≡ true) × (at_or_below f g (over y) y ≡ true)
 
   -- a class with a number is its own
   own : (y : ℕ) → y < n → 0 < pos y → top y ≡ y → ¬ (nr y ≡ 0) → (near y - 1 < h) × (over y ≡ y)
@@ -69,7 +69,7 @@ module _ {n m h : ℕ} (nm : ℕ → ℕ) {to pos par te root top nr rep : ℕ �
       rw e (omega arith, q)
 
   over_is : (j y : ℕ) → pos y < j → y < n → 0 < pos y → top y ≡ y → OverAt y
-  unfolding classForest OverAt
+  unfolding class_forest OverAt
   over_is zero y b l p t = absurd (omega arith)
   over_is (suc j) y b l p t =
       on_eq (nr y) 0
@@ -83,12 +83,12 @@ module _ {n m h : ℕ} (nm : ℕ → ℕ) {to pos par te root top nr rep : ℕ �
       let o = over (top (par y)) in
       let ro = N.place (near (top (par y)) - 1) i in
       let far : ¬ (y ≡ o) = λ q. omega (arith, ap nr q, ro.1) in
-      let to-o : top o ≡ o = g.flat (rep (near (top (par y)) - 1)) ro.0 in
-      rw e (i, so, T.below_parent o y sy ry far ∙ below_class E S T o (par y) so to-o (T.par_seen y sy ry) ∙ bo))
+      let to_o : top o ≡ o = g.flat (rep (near (top (par y)) - 1)) ro.0 in
+      rw e (i, so, T.below_parent o y sy ry far ∙ below_class E S T o (par y) so to_o (T.par_seen y sy ry) ∙ bo))
       (λ ne. let (i, e) = own y l p t ne in rw e (i, seen_is n pos y l p, T.below_self y))
 
   least_is : (j v : ℕ) → pos v < j → v < n → 0 < pos v → top v ≡ v → ¬ (te v ≡ 0) → least v ≡ hangs G v (over (top (par v)))
-  unfolding classForest OverAt
+  unfolding class_forest OverAt
   least_is zero v b l p t ne = absurd (omega arith)
   least_is (suc j) v b l p t ne =
       let k = W.above v l p ne in
@@ -123,7 +123,7 @@ module _ {n m h : ℕ} (nm : ℕ → ℕ) {to pos par te root top nr rep : ℕ �
     U = parent_numbers nm W top_at ways
 
     top_class : (x : ℕ) → x < h → TwoEdgeConnected (plain G) (rep x) (top (rep x))
-    unfolding classForest
+    unfolding class_forest
     top_class x l = unparted G E cuts S T 1 (rep x) (top (rep x)) (T.top_two (rep x) (seen_is n pos (rep x) (N.place x l).0 (on x l)))
 
     pub parent_name : (x y : ℕ) → x < h → y < h → up x ≡ y + 1 → names x ≡ hangs G (rep x) (rep y)

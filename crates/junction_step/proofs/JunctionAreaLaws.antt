@@ -8,7 +8,7 @@ use lib.Dec.{eqb, ltb}
 use lib.ListN.{drop, get_or, length, length-drop, length-map, length-take, set, take}
 use lib.Seq.{drop-drop, get_or-drop, get_or-take, sets, take-take}
 use native.Mathlib.Omega.{arith}
-use borrow.Author.Tests.{lt-ltb, ltb-true}
+use borrow.Author.Tests.{ltb-true}
 use borrow.Rule.Slice.PartMut.{put_mid, same_len_mid, take_put}
 use Rattle.core_block_reduce.specs.Core.{BlocksReduced, CanReduce, edges_behind}
 use Rattle.core_loading.proofs.LoadingLaws.{entered_most}
@@ -17,7 +17,7 @@ use Rattle.core_reduce.specs.declared.Counts.{Counts}
 use Rattle.core_words.specs.Fields.{ACTIVE, MAPPED, TO, half, node}
 use Rattle.theory_graph.proofs.ActiveLists.{in_firsts}
 use Rattle.theory_graph.proofs.EdgeCount.{firsts_most}
-use Rattle.theory_graph.proofs.Ends.{ends_in_mem, ends_in_of}
+use Rattle.theory_graph.proofs.Ends.{ends_in_of}
 use Rattle.theory_graph.proofs.Lists.{map_equal, mem_member, member_mem, table_in, table_length, table_mem}
 use Rattle.theory_graph.proofs.TableLaws.{pairs_tables, table_equal, table_get_or}
 use Rattle.theory_graph.specs.Graph.{Edge}

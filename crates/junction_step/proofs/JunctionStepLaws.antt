@@ -24,7 +24,7 @@ use Rattle.theory_names.specs.Names.{Entry, plain}
 use Rattle.theory_timeline.proofs.Acceptance.{sound_good}
 use Rattle.theory_timeline.specs.Steps as Steps
 use Rattle.theory_timeline.specs.Steps.{Sound, added}
-use Rattle.theory_timeline.specs.Windows.{Timeline, active, network, size}
+use Rattle.theory_timeline.specs.Windows.{Timeline, active, size}
 use Rattle.theory_junction_timeline.proofs.JunctionNetworks.{distinct_pairwise, part_reduced, reduced_equal}
 use Rattle.theory_junctions.specs.ReducedGraph.{IsReducedGraph}
 use Rattle.replay_step.proofs.LoadLaws.{edges_are, places_are, window_length, words_are}

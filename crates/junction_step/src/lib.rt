@@ -1,5 +1,7 @@
 // The sibling's step (document 02, No. 8): the reduced graph of a part of a window, out of the window's own. What is loaded for the part is loaded as in the
 // replay (replay_step::load_part); the area has room for eight edges an event in place of four.
+#![tactic(auto)]
+
 pub mod area;
 
 ghost use Rattle.junction_step.specs.JunctionArea.{JunctionStepReady, JunctionStepped};

@@ -87,8 +87,8 @@ module _ (n : ℕ) (x answers : List ℕ) where
   lines = query_lines n x answers
 
   -- the line of event i in front of others, where it is a query
-  abbrev inFront : ℕ → Bool → List ℕ → List ℕ
-  inFront i b rest = elim b as (λ x. List ℕ) [ true ↦ query_line i (get_or answers i 0) ++ rest | false ↦ rest ]
+  abbrev in_front : ℕ → Bool → List ℕ → List ℕ
+  in_front i b rest = elim b as (λ x. List ℕ) [ true ↦ query_line i (get_or answers i 0) ++ rest | false ↦ rest ]
 
   pub lines_snoc : (i k : ℕ) → lines i (k + 1) ≡ lines i k ++ lines (i + k) 1
   unfolding query_lines
@@ -100,7 +100,7 @@ module _ (n : ℕ) (x answers : List ℕ) where
       ∙ step (is_query (kind_of n (get_or x i 0))) (lines_snoc (suc i) k ∙ ap (λ (j : ℕ). lines (suc i) k ++ lines j 1) f)
     where
       step : (b : Bool) → lines (suc i) (k + 1) ≡ lines (suc i) k ++ lines (i + suc k) 1
-          → inFront i b (lines (suc i) (k + 1)) ≡ inFront i b (lines (suc i) k) ++ lines (i + suc k) 1
+          → in_front i b (lines (suc i) (k + 1)) ≡ in_front i b (lines (suc i) k) ++ lines (i + suc k) 1
       step true h = ap (λ (l : List ℕ). query_line i (get_or answers i 0) ++ l) h ∙ sym (append_assoc (query_line i (get_or answers i 0)) (lines (suc i) k) (lines (i + suc k) 1))
       step false h = h
 
@@ -113,11 +113,11 @@ module _ (n : ℕ) (x answers : List ℕ) where
 
   pub lines_query : (i : ℕ) → is_query (kind_of n (get_or x i 0)) ≡ true → lines i 1 ≡ query_line i (get_or answers i 0)
   unfolding query_lines
-  lines_query i h = ap (λ (b : Bool). inFront i b []) h ∙ append-nil (query_line i (get_or answers i 0))
+  lines_query i h = ap (λ (b : Bool). in_front i b []) h ∙ append-nil (query_line i (get_or answers i 0))
 
   pub lines_none : (i : ℕ) → is_query (kind_of n (get_or x i 0)) ≡ false → lines i 1 ≡ []
   unfolding query_lines
-  lines_none i h = ap (λ (b : Bool). inFront i b []) h
+  lines_none i h = ap (λ (b : Bool). in_front i b []) h
 
 -- ---- where a text ends
 pub number_end : (n : ℕ) {at r : ℕ} {a b : List ℕ} → Wrote at (decimal n) a b r → (r ≤ at + 20) × (length b ≡ length a)

@@ -1,4 +1,6 @@
 // The output: numbers in base ten, one line for each query, the totals, or the refusal. Each function writes its text at `at` and answers where the next goes.
+#![tactic(auto)]
+
 ghost use Rattle.std.specs.Prelude.{◌+◌, ◌*◌, ◌<◌, ◌≤◌, length};
 ghost use Rattle.theory_timeline.specs.Program.{decimal, query_line, query_lines, totals_line, refused_line};
 ghost use Rattle.program_printing.specs.Printing.{Wrote};

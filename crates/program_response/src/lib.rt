@@ -1,4 +1,6 @@
 // The program's reading, printing and response as functions on slices; the program `replay` itself only reads, calls and writes.
+#![tactic(auto)]
+
 mod response;
 
 ghost use Rattle.std.specs.Prelude.{◌≡◌, ◌≤◌, length};

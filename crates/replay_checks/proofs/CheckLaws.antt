@@ -53,28 +53,28 @@ module _ (rest : List (ℕ × ℕ)) (l : Lent) (p : ℕ) where
   abbrev both : List Row
   both = short_rows (lengths_with [] l)
 
-  abbrev behind-short : List Row
-  behind-short = long_tables l ++ share_faults p
+  abbrev behind_short : List Row
+  behind_short = long_tables l ++ share_faults p
 
   pub bounds_numbered : Numbered (bound_faults rest l p)
   bounds_numbered =
-      numbered_append (short_rows (lengths_with rest l)) behind-short (short_numbered (lengths_with rest l))
+      numbered_append (short_rows (lengths_with rest l)) behind_short (short_numbered (lengths_with rest l))
       (numbered_append (long_tables l) (share_faults p) (long_numbered (read_lengths l)) (λ h. omega arith, (λ h. omega arith, tt)))
 
   module _ (f : Refusal) (e : f ≡ first_fault both) where
     pub short_refused : 0 < f.0 → f ≡ first_fault (bound_faults rest l p)
-    short_refused h = e ∙ sym (fault_left both (short_rows rest ++ behind-short) (λ z. omega (arith, ap (λ (f : Refusal). f.0) e)))
+    short_refused h = e ∙ sym (fault_left both (short_rows rest ++ behind_short) (λ z. omega (arith, ap (λ (f : Refusal). f.0) e)))
 
     module _ (z : f.0 ≡ 0) (o : Refusal) (d : o ≡ first_fault (short_rows rest)) where
-      not_both : first_fault (bound_faults rest l p) ≡ first_fault (short_rows rest ++ behind-short)
-      not_both = fault_right both (short_rows rest ++ behind-short) (short_numbered (lengths_with [] l)) (sym (ap (λ (f : Refusal). f.0) e) ∙ z)
+      not_both : first_fault (bound_faults rest l p) ≡ first_fault (short_rows rest ++ behind_short)
+      not_both = fault_right both (short_rows rest ++ behind_short) (short_numbered (lengths_with [] l)) (sym (ap (λ (f : Refusal). f.0) e) ∙ z)
 
       pub own_refused : 0 < o.0 → o ≡ first_fault (bound_faults rest l p)
-      own_refused h = d ∙ sym (not_both ∙ fault_left (short_rows rest) behind-short (λ z. omega (arith, ap (λ (f : Refusal). f.0) d)))
+      own_refused h = d ∙ sym (not_both ∙ fault_left (short_rows rest) behind_short (λ z. omega (arith, ap (λ (f : Refusal). f.0) d)))
 
       module _ (y : o.0 ≡ 0) (g : Refusal) (k : g ≡ first_fault (long_tables l)) where
-        not_short : first_fault (bound_faults rest l p) ≡ first_fault behind-short
-        not_short = not_both ∙ fault_right (short_rows rest) behind-short (short_numbered rest) (sym (ap (λ (f : Refusal). f.0) d) ∙ y)
+        not_short : first_fault (bound_faults rest l p) ≡ first_fault behind_short
+        not_short = not_both ∙ fault_right (short_rows rest) behind_short (short_numbered rest) (sym (ap (λ (f : Refusal). f.0) d) ∙ y)
 
         pub long_refused : 0 < g.0 → g ≡ first_fault (bound_faults rest l p)
         long_refused h = k ∙ sym (not_short ∙ fault_left (long_tables l) (share_faults p) (λ z. omega (arith, ap (λ (f : Refusal). f.0) k)))
@@ -161,45 +161,45 @@ module _ {n m t : ℕ} {a b start x y : List ℕ} (q : CanCheckList n m t a b st
   list_refused c i e h = record { refusal = e; last = λ z. absurd (omega arith) }
 
   -- the rows of the ends, the starting table and the events
-  abbrev endsRow : ℕ → Row
-  endsRow k = row (ltb k m) 4 k
+  abbrev ends_row : ℕ → Row
+  ends_row k = row (ltb k m) 4 k
 
-  abbrev startRow : ℕ → Row
-  startRow k = row (ltb k m) 11 k
+  abbrev start_row : ℕ → Row
+  start_row k = row (ltb k m) 11 k
 
-  abbrev eventsRow : Row
-  eventsRow =
+  abbrev events_row : Row
+  events_row =
       let i : ℕ = seek (λ i. not (eqb (fault_at l i) 0)) 0 t in
       row (ltb i t) (fault_at l i) i
 
-  rows : first_fault (list_faults l) ≡ first_fault (endsRow (seek (bad_ends n a b) 0 m) ∷ startRow (seek (bad_start start) 0 m) ∷ eventsRow ∷ [])
+  rows : first_fault (list_faults l) ≡ first_fault (ends_row (seek (bad_ends n a b) 0 m) ∷ start_row (seek (bad_start start) 0 m) ∷ events_row ∷ [])
   unfolding list_faults
   rows = refl
 
   pub ends_refused : (s : ℕ) → s ≡ seek (bad_ends n a b) 0 m → s < m → CheckedList n m t a b start x y (record { code = 4; place = s; «open» = 0 })
   ends_refused s e h = list_refused 4 s
-      (sym (rows ∙ ap (λ (k : ℕ). first_fault (endsRow k ∷ others)) (sym e) ∙ ap (λ (c : Bool). cond c (4, s) (first_fault others)) (lt-ltb s m h))) (omega arith)
+      (sym (rows ∙ ap (λ (k : ℕ). first_fault (ends_row k ∷ others)) (sym e) ∙ ap (λ (c : Bool). cond c (4, s) (first_fault others)) (lt-ltb s m h))) (omega arith)
     where
       others : List Row
-      others = startRow (seek (bad_start start) 0 m) ∷ eventsRow ∷ []
+      others = start_row (seek (bad_start start) 0 m) ∷ events_row ∷ []
 
   module _ (h : m ≤ seek (bad_ends n a b) 0 m) where
-    ends_passed : first_fault (list_faults l) ≡ first_fault (startRow (seek (bad_start start) 0 m) ∷ eventsRow ∷ [])
+    ends_passed : first_fault (list_faults l) ≡ first_fault (start_row (seek (bad_start start) 0 m) ∷ events_row ∷ [])
     ends_passed =
         rows
-        ∙ ap (λ (c : Bool). cond c (4, seek (bad_ends n a b) 0 m) (first_fault (startRow (seek (bad_start start) 0 m) ∷ eventsRow ∷ [])))
+        ∙ ap (λ (c : Bool). cond c (4, seek (bad_ends n a b) 0 m) (first_fault (start_row (seek (bad_start start) 0 m) ∷ events_row ∷ [])))
         (le-ltb _ m h)
 
     pub start_refused : (r : ℕ) → r ≡ seek (bad_start start) 0 m → r < m → CheckedList n m t a b start x y (record { code = 11; place = r; «open» = 0 })
     start_refused r f k = list_refused 11 r
-        (sym (ends_passed ∙ ap (λ (k : ℕ). first_fault (startRow k ∷ eventsRow ∷ [])) (sym f) ∙ ap (λ (c : Bool). cond c (11, r) (first_fault (eventsRow ∷ []))) (lt-ltb r m k)))
+        (sym (ends_passed ∙ ap (λ (k : ℕ). first_fault (start_row k ∷ events_row ∷ [])) (sym f) ∙ ap (λ (c : Bool). cond c (11, r) (first_fault (events_row ∷ []))) (lt-ltb r m k)))
         (omega arith)
 
     module _ (k : m ≤ seek (bad_start start) 0 m) where
       events_fault_lem : events_fault n m (at_start start) (pairs x y) t ≡ first_fault (list_faults l)
       unfolding events_fault fault_of fault_at given open_before
       events_fault_lem =
-          sym (ends_passed ∙ ap (λ (c : Bool). cond c (11, seek (bad_start start) 0 m) (first_fault (eventsRow ∷ []))) (le-ltb _ m k))
+          sym (ends_passed ∙ ap (λ (c : Bool). cond c (11, seek (bad_start start) 0 m) (first_fault (events_row ∷ []))) (le-ltb _ m k))
 
       pub list_passed : (first : List ℕ) → is_open first ≡ (λ d. ltb d m && eqb (get_or start d 0) 1)
           → {c i : ℕ} {held : List ℕ} → CheckedEvents n m (is_open first) (pairs x y) t c i held

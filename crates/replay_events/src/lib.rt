@@ -1,5 +1,7 @@
 // What the recursion needs of the events, at the front of the work table: the two junctions of each event, and its three words (theory_timeline's Tags).
 // Here the tables of the events are read for the last time, and kinds are told by call_kinds.
+#![tactic(auto)]
+
 mod tags;
 
 ghost use Rattle.std.specs.Prelude.{◌≡◌, cond, false, ◌+◌, ◌*◌, ◌<◌, ◌≤◌, length, set};

@@ -2,7 +2,7 @@
 -- In order: what is loaded; what stands in the words and the tables of a list; its network; its small graph.
 -- Assumes nothing.
 use Prim.Native.Nat.{◌*◌, ◌+◌, ◌-◌, ◌<◌, ◌≤◌, ℕ}
-use mathlib.Core.Bool.{Bool, ◌&&◌, and-false, and_true, cond, not, true, false}
+use mathlib.Core.Bool.{Bool, ◌&&◌, and-false, and-true, cond, not, true, false}
 use mathlib.Core.List.{List, map}
 use mathlib.Core.Path.{◌∙◌, ◌≡◌, ap, ap₂, refl, subst, subst₂, sym}
 use lib.Dec.{ltb}
@@ -88,7 +88,7 @@ module _ {n : ℕ} {p : Part} {a b : List ℕ} {counts : ℕ} {v : List ℕ} (q 
           where
             left : (b : Bool) (c : ℕ) → ltb 0 (cond b 0 c) ≡ (ltb 0 c && not b)
             left true c = le-ltb 0 0 (omega arith) ∙ sym (and-false (ltb 0 c))
-            left false c = sym (and_true (ltb 0 c))
+            left false c = sym (and-true (ltb 0 c))
 
         picked : pick_events (fixed counts w₁) (segment a b) 0 (length a - 0)
             ≡ pick (λ r. ltb 0 (get_or v (counts + r) 0) && not (named_by p.words 0 p.events v r)) 0 (pairs a b)

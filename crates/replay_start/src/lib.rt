@@ -1,4 +1,6 @@
 // The whole list's graph: all junctions, and one edge for each road that is open at the start and of which no event names a segment; and its small graph.
+#![tactic(auto)]
+
 mod load;
 
 ghost use Rattle.std.specs.Prelude.{◌*◌, ◌+◌};

@@ -40,18 +40,18 @@ module _ {A B : Timeline → Window → List ℕ → Type 0} {words room : ℕ �
   n = w.events
 
   -- the words that are lent on
-  abbrev lent-on : List ℕ → List ℕ
-  lent-on z = take (length z - words n) (drop (words n) z)
+  abbrev lent_on : List ℕ → List ℕ
+  lent_on z = take (length z - words n) (drop (words n) z)
 
   module _ {lo c : ℕ} {y z : List ℕ} {k : Window} (t : SteppedOf A B words w lo c y z k) (f : take (words n) y ≡ take (words n) v) (e : length z ≡ length v) (h : 11 * c ≤ 10 * n) where
-    pub part_area : (g : Timeline) → Sound g → w.at + n ≤ size g → B g w (take (words n) v) → B g k (take (words k.events) (lent-on z))
+    pub part_area : (g : Timeline) → Sound g → w.at + n ≤ size g → B g w (take (words n) v) → B g k (take (words k.events) (lent_on z))
     part_area g sound i a =
         let x : words n + words k.events ≤ length z = omega (arith, r.enough, o.fits c n h, o.fits 0 c (omega arith), ap words t.events, e) in
-        let q : take (words c) (drop (words n) z) ≡ take (words k.events) (lent-on z) =
+        let q : take (words c) (drop (words n) z) ≡ take (words k.events) (lent_on z) =
         ap (λ (m : ℕ). take (words m) (drop (words n) z)) (sym t.events) ∙ sym (lent_take (words n) (words k.events) z x) in
         subst (λ (v : List ℕ). B g k v) q (t.made g sound i (rw f (o.own g sound a)))
 
-    part_ready : w.at ≤ lo → lo + c ≤ w.at + n → 0 < c → WindowReadyOf B words room k p (lent-on z)
+    part_ready : w.at ≤ lo → lo + c ≤ w.at + n → 0 < c → WindowReadyOf B words room k p (lent_on z)
     part_ready a b s = record {
       g = r.g;
       sound = r.sound;
@@ -69,7 +69,7 @@ module _ {A B : Timeline → Window → List ℕ → Type 0} {words room : ℕ �
     parts = rw q (shares p n two r.share)
 
     module _ {w₁ : List ℕ} {a : Window} (s : SteppedOf A B words w w.at c v w₁ a) (l₁ : length w₁ ≡ length v) where
-      pub first_ready : (a.events < n) × WindowReadyOf B words room a p (lent-on w₁)
+      pub first_ready : (a.events < n) × WindowReadyOf B words room a p (lent_on w₁)
       first_ready = (omega (arith, s.events, parts.less), part_ready s refl l₁ parts.first (omega arith) (omega (arith, parts.less)) parts.some)
 
       -- the words after the first part: the window's area is as it was
@@ -77,7 +77,7 @@ module _ {A B : Timeline → Window → List ℕ → Type 0} {words room : ℕ �
       area_kept zs = take_put (words n) (length w₁ - words n) w₁ zs (omega (arith, r.enough, o.fits 0 n (omega arith), l₁)) ∙ s.front
 
       module _ {w₂ w₃ : List ℕ} {d : Window} (f : take (words n) w₂ ≡ take (words n) v) (t : SteppedOf A B words w (w.at + c) (n - c) w₂ w₃ d) (l₃ : length w₃ ≡ length v) where
-        pub second_ready : (d.events < n) × WindowReadyOf B words room d p (lent-on w₃)
+        pub second_ready : (d.events < n) × WindowReadyOf B words room d p (lent_on w₃)
         second_ready = (
           omega (arith, t.events, parts.some, two),
           part_ready t f l₃ parts.second (omega arith) (omega (arith, parts.less)) (omega (arith, parts.less)),

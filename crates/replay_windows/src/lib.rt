@@ -1,4 +1,6 @@
 // The recursion over windows. The area of a window is at the front of its work slice; each part works in the rest.
+#![tactic(auto)]
+
 ghost use Rattle.std.specs.Prelude.{◌≡◌, ◌*◌, ◌<◌, ◌≤◌, length, set, take};
 ghost use Rattle.theory_timeline.specs.Windows.{first_part};
 ghost use Rattle.replay_windows.specs.Descent.{OneDone, WindowDone, WindowReady, written};

@@ -44,11 +44,11 @@ part_cut_off E x y z xz nx j =
     let P : NodeSet = λ v. cut_off E z v v in
     let K = induced P E in
     let R = reach K x in
-    let in-P : (v : ℕ) → R v ≡ true → P v ≡ true = λ v r. reach_least K P (induced_closed P E) x v nx r in
+    let in_P : (v : ℕ) → R v ≡ true → P v ≡ true = λ v r. reach_least K P (induced_closed P E) x v nx r in
     let Pz : P z ≡ false = on_bool (P z) (λ t. let s = cut_off_sound E z z z t in contradict s.1 s.2) (λ f. f) in
-    let Rz : R z ≡ false = on_bool (R z) (λ r. contradict (in-P z r) Pz) (λ f. f) in
+    let Rz : R z ≡ false = on_bool (R z) (λ r. contradict (in_P z r) Pz) (λ f. f) in
     let (r, c, Rr, Rc, n) = crossing_edge R E (insep_cut E xz R (reach_self K x) Rz) in
-    let Pr = in-P r Rr in
+    let Pr = in_P r Rr in
     let Pc : P c ≡ false = on_bool (P c) (λ t. contradict (sym (adj_closed R (adj_induced P n Pr t) (reach_closed K x)) ∙ Rr) Rc) (λ f. f) in
     let (W, Wz, Wr, _, h) = cut_off_sound E z r r Pr in
     let Wc : W c ≡ true = on_bool (W c) (λ t. t) (λ f. contradict (cut_off_complete E z c c (W, Wz, f, f, h)) Pc) in

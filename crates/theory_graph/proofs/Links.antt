@@ -70,16 +70,16 @@ avoid E x y Z xy Zx Zy s =
     let K = induced P E in
     let R = reach K x in
     reach_connected K x y (on_bool (R y) (λ t. t) λ Ry.
-    let in-P : (v : ℕ) → R v ≡ true → P v ≡ true = λ v r. reach_least K P (induced_closed P E) x v (ap not Zx) r in
+    let in_P : (v : ℕ) → R v ≡ true → P v ≡ true = λ v r. reach_least K P (induced_closed P E) x v (ap not Zx) r in
     let Q : NodeSet = ∁ R in
     let L = induced Q E in
     let Y = reach L y in
-    let in-Q : (v : ℕ) → Y v ≡ true → Q v ≡ true = λ v r. reach_least L Q (induced_closed Q E) y v (ap not Ry) r in
-    let Yx : Y x ≡ false = on_bool (Y x) (λ t. contradict (reach_self K x) (not-true (R x) (in-Q x t))) (λ f. f) in
+    let in_Q : (v : ℕ) → Y v ≡ true → Q v ≡ true = λ v r. reach_least L Q (induced_closed Q E) y v (ap not Ry) r in
+    let Yx : Y x ≡ false = on_bool (Y x) (λ t. contradict (reach_self K x) (not-true (R x) (in_Q x t))) (λ f. f) in
     let (p, q, Yp, Yq, n) = crossing_edge Y E (insep_cut E (insep_sym E xy) Y (reach_self L y) Yx) in
-    let Rp : R p ≡ false = not-true (R p) (in-Q p Yp) in
+    let Rp : R p ≡ false = not-true (R p) (in_Q p Yp) in
     let Rq : R q ≡ true = on_bool (R q) (λ t. t) (λ f. contradict (sym (adj_closed Y (adj_induced Q n (ap not Rp) (ap not f)) (reach_closed L y)) ∙ Yp) Yq) in
-    let Zp : Z p ≡ true = on_bool (Z p) (λ t. t) (λ f. contradict (adj_closed R (adj_induced P n (ap not f) (in-P q Rq)) (reach_closed K x) ∙ Rq) Rp) in
+    let Zp : Z p ≡ true = on_bool (Z p) (λ t. t) (λ f. contradict (adj_closed R (adj_induced P n (ap not f) (in_P q Rq)) (reach_closed K x) ∙ Rq) Rp) in
     let (U, Up, Ux, Uy, c) = s p Zp in
     let far : 0 < cut U L = on_bool (leb (cut U L) 0)
     (λ t. contradict (reach_least L (∁ U) (omega (arith, cut_complement U L, leb-true (cut U L) 0 t)) y p (ap not Uy) Yp) (ap not Up)) (λ f. leb-false (cut U L) 0 f) in

@@ -36,11 +36,11 @@ table_apart E ρ i (suc n) f = (
 pub small_bound : (E : List Edge) (S : List ℕ) (h : ℕ) (H : List Edge) (ρ σ : ℕ → ℕ) → SmallGraph E S h H ρ σ → h ≤ most_nodes (different S)
 small_bound E S h H ρ σ g =
     let T = firsts eqb S in
-    let in-T : (a : ℕ) → Memᴰ a S → Memᴰ a T =
+    let in_T : (a : ℕ) → Memᴰ a S → Memᴰ a T =
     λ a m. let (c, n, e) = firsts_cover eqb (λ x. eq-eqb x x refl) (λ x y z p q. eq-eqb x z (eqb-true x y p ∙ eqb-true y z q)) a S m in subst (λ (v : ℕ). Memᴰ v T) (eqb-true c a e) n in
     let b : length (table ρ 0 h) ≤ limit (length T) =
     kept_bound E T (table ρ 0 h) (table_apart E ρ 0 h (λ j k a b. g.once j k (omega arith) (omega arith)))
-    (table_all (Kept E T) ρ 0 h (λ j a b. kept_sub E S T (ρ j) in-T (g.kept j (omega arith)))) in
+    (table_all (Kept E T) ρ 0 h (λ j a b. kept_sub E S T (ρ j) in_T (g.kept j (omega arith)))) in
     subst (λ (k : ℕ). h ≤ k) (limit_is (length T)) (omega (arith, table_length ρ 0 h))
 
 -- ---- a list of nodes in different classes, each in the class of one of M

@@ -12,7 +12,7 @@ use Rattle.theory_graph.proofs.Booleans.{contradict}
 use Rattle.theory_graph.proofs.Lists.{member_mem}
 use Rattle.theory_graph.specs.Graph.{Edge}
 use Rattle.theory_graph.specs.Lists.{member}
-use Rattle.theory_junctions.proofs.PathMergingLaws.{merged-blocks, forest-blocks}
+use Rattle.theory_junctions.proofs.PathMergingLaws.{merged_blocks, forest_blocks}
 use Rattle.theory_junctions.proofs.ReduceLaws.{relevance}
 use Rattle.theory_junctions.proofs.ReducedGraphs.{small_query}
 use Rattle.theory_junctions.specs.Blocks.{Blocks}
@@ -82,7 +82,7 @@ forest =
     }
 
 abbrev pub blocks : Blocks edges
-blocks = forest-blocks edges forest
+blocks = forest_blocks edges forest
 
 abbrev pub order : List ℕ
 order = 0 ∷ 1 ∷ 2 ∷ 3 ∷ []
@@ -95,7 +95,7 @@ listed A a b c d v (Memᴰ.tail (Memᴰ.tail (Memᴰ.tail (Memᴰ.head e)))) = s
 listed A a b c d v (Memᴰ.tail (Memᴰ.tail (Memᴰ.tail (Memᴰ.tail m)))) = absurd (elim m [ ])
 
 pub search : Search edges blocks (member (0 ∷ 3 ∷ [])) order
-unfolding forest-blocks merged-blocks
+unfolding forest_blocks merged_blocks
 search =
     record {
       rises = (low 0 (1 ∷ 2 ∷ 3 ∷ []) (omega arith, (omega arith, (omega arith, tt))), (low 1 (2 ∷ 3 ∷ []) (omega arith, (omega arith, tt)), (low 2 (3 ∷ []) (omega arith, tt), (low 3 [] tt, tt))));
@@ -126,14 +126,14 @@ search =
 
 -- the small graph, computed
 pub example_junctions : small_junctions blocks (member (0 ∷ 3 ∷ [])) (relevant_to blocks (0 ∷ 3 ∷ [])) order ≡ 0 ∷ 2 ∷ 3 ∷ []
-unfolding forest-blocks merged-blocks first_after merge_path merge_on unite
+unfolding forest_blocks merged_blocks first_after merge_path merge_on unite
 example_junctions = refl
 
 pub example_graph : small_graph blocks (member (0 ∷ 3 ∷ [])) (relevant_to blocks (0 ∷ 3 ∷ [])) order ≡ (0, 1) ∷ (1, 2) ∷ []
-unfolding forest-blocks merged-blocks first_after merge_path merge_on unite
+unfolding forest_blocks merged_blocks first_after merge_path merge_on unite
 example_graph = refl
 
 -- and the reply, read off it
 pub example_reply : reply edges 0 3 ≡ 1
-unfolding forest-blocks merged-blocks first_after merge_path merge_on unite
+unfolding forest_blocks merged_blocks first_after merge_path merge_on unite
 example_reply = small_query edges blocks 0 3 (relevant_to blocks (0 ∷ 3 ∷ [])) order search (relevance edges blocks (0 ∷ 3 ∷ []))

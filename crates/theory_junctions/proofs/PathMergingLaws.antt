@@ -289,8 +289,8 @@ module _ (E : List Edge) (F : Forest E) where
 
         gone : lost φ.loss a ≡ true → Reached first x y s a b → φ.side p ≡ φ.side q
         gone l (left yx ax m n e) =
-            let x-plain : lost φ.loss x ≡ false = on_bool (lost φ.loss x) (λ k. absurd (omega (arith, ap F.pos (lost_one φ.loss a x l k)))) (λ k. k) in
-            parent l ∙ ap φ.side e ∙ sym (link φ x-plain (ap (lost φ.loss) (sym e) ∙ b_plain l)) ∙ near x m x-plain
+            let x_plain : lost φ.loss x ≡ false = on_bool (lost φ.loss x) (λ k. absurd (omega (arith, ap F.pos (lost_one φ.loss a x l k)))) (λ k. k) in
+            parent l ∙ ap φ.side e ∙ sym (link φ x_plain (ap (lost φ.loss) (sym e) ∙ b_plain l)) ∙ near x m x_plain
         gone l (right xy by m n e) = parent l ∙ near b n (b_plain l)
         gone l (both ax by m n o k) = parent l ∙ near b k (b_plain l)
 
@@ -585,8 +585,8 @@ module _ (E : List Edge) (F : Forest E) where
     block_touches v p c (inl (d, f)) = (p, d, f, inl refl)
     block_touches v p c (inr e) = (first v, C.partition.first_child v c, C.partition.first_first v c, inr e)
 
-    unfoldable pub merged-blocks : Blocks E
-    merged-blocks =
+    unfoldable pub merged_blocks : Blocks E
+    merged_blocks =
         record {
           seen = F.seen;
           child = F.child;
@@ -609,5 +609,5 @@ module _ (E : List Edge) (F : Forest E) where
         }
 
   -- every forest has blocks, and merging finds them
-  unfoldable pub forest-blocks : Blocks E
-  forest-blocks = merged-blocks (first_after F.seen F.par F.pos E) (paths_all E (λ p q m. m))
+  unfoldable pub forest_blocks : Blocks E
+  forest_blocks = merged_blocks (first_after F.seen F.par F.pos E) (paths_all E (λ p q m. m))

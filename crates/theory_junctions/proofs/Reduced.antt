@@ -23,7 +23,7 @@ use Rattle.theory_junctions.proofs.Contraction.{onto_other, onto_there}
 use Rattle.theory_junctions.proofs.Cycles.{cycle_ends}
 use Rattle.theory_junctions.proofs.Reduction.{merged_active, merged_later, reduced_same, top_pos}
 use Rattle.theory_junctions.proofs.SameColourings.{Covers, image_same, reply_added, same_edges, same_trans}
-use Rattle.theory_junctions.proofs.Size.{activeTops, edges_bound, members_bound}
+use Rattle.theory_junctions.proofs.Size.{active_tops, edges_bound, members_bound}
 use Rattle.theory_junctions.specs.Blocks.{AllMergeable, Blocks, Mergeable, Rings, cycle, merged_to, onto, top_of}
 use Rattle.theory_junctions.specs.Classes.{Class, ClassList, Falling, Shared, classes_below, count, cycles_of, members_of, names_of, own_cycles, own_members, reduced_graph, reduced_junctions, shares, single, tick}
 use Rattle.theory_junctions.specs.Colouring.{Same}
@@ -360,18 +360,18 @@ module _ (E : List Edge) (B : Blocks E) (K : NodeSet) (Q : List ℕ) (cs : List 
         subst (λ (G : List Edge). reply (E ++ G) x y ≡ reply (reduced_graph B K cs vs ++ G) x y) (image_same F) (reply_added K E (λ k. k) (reduced_graph B K cs vs) (λ k. k) reduced_graph_same F w x y kx ky)
 
     -- ---- the size
-    active_some : (c : Class) (ds : List Class) → Memᴰ c ds → K (B.par c.0) ≡ true → 1 ≤ activeTops K B.par ds
+    active_some : (c : Class) (ds : List Class) → Memᴰ c ds → K (B.par c.0) ≡ true → 1 ≤ active_tops K B.par ds
     active_some c [] x'' a = elim x'' [ ]
     active_some c (d ∷ ds) (mathlib.Core.List.Memᴰ.head p) a = omega (arith, ap tick (ap (λ e. K (B.par e.0)) (sym p) ∙ a))
     active_some c (d ∷ ds) (mathlib.Core.List.Memᴰ.tail m) a = omega (arith, active_some c ds m a)
 
     -- above each class is a root
-    pub root_above : (n : ℕ) (c : Class) → B.pos c.0 < n → Memᴰ c cs → (1 ≤ activeTops K B.par cs) × (1 ≤ length Q)
+    pub root_above : (n : ℕ) (c : Class) → B.pos c.0 < n → Memᴰ c cs → (1 ≤ active_tops K B.par cs) × (1 ≤ length Q)
     root_above zero c l k = absurd (omega arith)
     root_above (suc n) c l k = go (split_mem Q (members_of cs) (L.class_top c k)) (root_above n)
       where
-        go : Memᴰ (B.par c.0) Q ⊎ Memᴰ (B.par c.0) (members_of cs) → ((e : Class) → B.pos e.0 < n → Memᴰ e cs → (1 ≤ activeTops K B.par cs) × (1 ≤ length Q))
-            → (1 ≤ activeTops K B.par cs) × (1 ≤ length Q)
+        go : Memᴰ (B.par c.0) Q ⊎ Memᴰ (B.par c.0) (members_of cs) → ((e : Class) → B.pos e.0 < n → Memᴰ e cs → (1 ≤ active_tops K B.par cs) × (1 ≤ length Q))
+            → (1 ≤ active_tops K B.par cs) × (1 ≤ length Q)
         go (inl m) ih = (active_some c cs k (L.root_active (B.par c.0) m), one_in m)
         go (inr m) ih =
             let (e, ke, n) = member_class cs m in

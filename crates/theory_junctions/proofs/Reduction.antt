@@ -90,14 +90,14 @@ module _ (E : List Edge) (B : Blocks E) (K : NodeSet) (H : List Edge) (R : Rings
     U v = side_at (suc (B.pos v)) v
 
     -- the side of the class with the first member c
-    abbrev classSide : ℕ → Bool
-    classSide c = cond (lost φ.loss (B.par c)) (φ.side (head_of (R.ring c))) (U (B.par c))
+    abbrev class_side : ℕ → Bool
+    class_side c = cond (lost φ.loss (B.par c)) (φ.side (head_of (R.ring c))) (U (B.par c))
 
     side_relevant : (v : ℕ) → R.relevant v ≡ true → U v ≡ φ.side v
     unfolding side_at
     side_relevant v r = ap (λ b. cond b (φ.side v) (cond (B.child v) (cond (lost φ.loss (top_of B v)) (φ.side (head_of (R.ring (B.first v)))) (side_at (B.pos v) (top_of B v))) false)) r
 
-    side_class : (v : ℕ) → R.relevant v ≡ false → B.child v ≡ true → U v ≡ classSide (B.first v)
+    side_class : (v : ℕ) → R.relevant v ≡ false → B.child v ≡ true → U v ≡ class_side (B.first v)
     unfolding side_at
     side_class v r c =
         let X = φ.side (head_of (R.ring (B.first v))) in
@@ -112,7 +112,7 @@ module _ (E : List Edge) (B : Blocks E) (K : NodeSet) (H : List Edge) (R : Rings
         ap₂ (λ a b. cond a (φ.side v) (cond b (cond (lost φ.loss (top_of B v)) (φ.side (head_of (R.ring (B.first v)))) (side_at (B.pos v) (top_of B v))) false)) r c
 
     -- each member of a class has its side
-    member_side : (p : ℕ) → B.child p ≡ true → lost φ.loss p ≡ false → U p ≡ classSide (B.first p)
+    member_side : (p : ℕ) → B.child p ≡ true → lost φ.loss p ≡ false → U p ≡ class_side (B.first p)
     member_side p c l =
         on_bool (R.relevant p)
         (λ r.
@@ -130,8 +130,8 @@ module _ (E : List Edge) (B : Blocks E) (K : NodeSet) (H : List Edge) (R : Rings
         ∙ sym (ap (λ b. cond b (φ.side (head_of (R.ring (B.first p)))) (U (top_of B p))) t)))
         (λ r. side_class p r c)
 
-    block_side : (v p : ℕ) → B.child v ≡ true → Block E B v p → lost φ.loss p ≡ false → U p ≡ classSide (B.first v)
-    block_side v p c (inl (d, f)) l = member_side p d l ∙ ap classSide f
+    block_side : (v p : ℕ) → B.child v ≡ true → Block E B v p → lost φ.loss p ≡ false → U p ≡ class_side (B.first v)
+    block_side v p c (inl (d, f)) l = member_side p d l ∙ ap class_side f
     block_side v p c (inr e) l =
         ap U e ∙ sym (ap (λ b. cond b (φ.side (head_of (R.ring (B.first v)))) (U (top_of B v))) (ap (lost φ.loss) (sym e) ∙ l))
 

@@ -72,9 +72,9 @@ module _ (K : NodeSet) (par : ℕ → ℕ) where
   under_append cs (x ∷ xs) ys = omega (arith, under_append cs xs ys)
 
   -- the classes with an active top
-  abbrev pub activeTops : List Class → ℕ
-  activeTops [] = 0
-  activeTops (c ∷ cs) = tick (K (par c.0)) + activeTops cs
+  abbrev pub active_tops : List Class → ℕ
+  active_tops [] = 0
+  active_tops (c ∷ cs) = tick (K (par c.0)) + active_tops cs
 
   -- one class is below one idle entry at most, and below none where its top is active
   hits : ℕ → List ℕ → ℕ
@@ -108,7 +108,7 @@ module _ (K : NodeSet) (par : ℕ → ℕ) where
   under_more c cs [] = refl
   under_more c cs (v ∷ vs) = omega (arith, under_more c cs vs, unless_add (K v) (tick (eqb (par c.0) v)) (classes_below par cs v))
 
-  under_few : (cs : List Class) (vs : List ℕ) → Distinct vs → under cs vs + activeTops cs ≤ length cs
+  under_few : (cs : List Class) (vs : List ℕ) → Distinct vs → under cs vs + active_tops cs ≤ length cs
   under_few [] vs d = omega (arith, under_none vs)
   under_few (c ∷ cs) vs d =
       let h : hits (par c.0) vs + tick (K (par c.0)) ≤ 1 = on_bool (K (par c.0))
@@ -177,7 +177,7 @@ module _ (K : NodeSet) (par : ℕ → ℕ) where
   NonEmpty cs = (c : Class) → Memᴰ c cs → 1 ≤ length c.1
 
   members_sum : (cs ds : List Class) → NonEmpty ds → Supported cs (members_of ds)
-      → length (own_members K par cs ds) + (count (λ v. not (K v)) (members_of ds) + 2 * length ds) ≤ under cs (members_of ds) + (2 * length (members_of ds) + (activeTops ds + count K (members_of ds)))
+      → length (own_members K par cs ds) + (count (λ v. not (K v)) (members_of ds) + 2 * length ds) ≤ under cs (members_of ds) + (2 * length (members_of ds) + (active_tops ds + count K (members_of ds)))
   unfolding under
   members_sum cs [] e f = omega arith
   members_sum cs (c ∷ ds) e f =
@@ -230,7 +230,7 @@ module _ (K : NodeSet) (par : ℕ → ℕ) where
 
   -- ---- the bound
   module _ (cs : List Class) (e : NonEmpty cs) (d : Distinct (members_of cs)) (f : Supported cs (members_of cs)) where
-    pub members_bound : length (own_members K par cs cs) + activeTops cs ≤ 3 * count K (members_of cs)
+    pub members_bound : length (own_members K par cs cs) + active_tops cs ≤ 3 * count K (members_of cs)
     members_bound =
         omega (
           arith,
@@ -240,7 +240,7 @@ module _ (K : NodeSet) (par : ℕ → ℕ) where
           under_enough cs (members_of cs) f,
         )
 
-    pub edges_bound : length (own_cycles K par cs cs) + 2 * activeTops cs ≤ 4 * count K (members_of cs)
+    pub edges_bound : length (own_cycles K par cs cs) + 2 * active_tops cs ≤ 4 * count K (members_of cs)
     edges_bound =
         omega (
           arith,

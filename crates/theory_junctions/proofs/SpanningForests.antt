@@ -20,7 +20,7 @@ use Rattle.theory_graph.proofs.SpanningForest.{on_eq}
 use Rattle.theory_graph.specs.Graph.{Edge, NodeSet, joined}
 use Rattle.theory_graph.specs.Lists.{Distinct, firsts, member}
 use Rattle.theory_junctions.proofs.Colours.{closed_uncrossed, uncrossed_closed}
-use Rattle.theory_junctions.proofs.PathMergingLaws.{forest-blocks, merged-blocks}
+use Rattle.theory_junctions.proofs.PathMergingLaws.{forest_blocks, merged_blocks}
 use Rattle.theory_junctions.proofs.ReduceLaws.{backwards_mem, mem_backwards}
 use Rattle.theory_junctions.proofs.Replies.{edge_ends}
 use Rattle.theory_junctions.specs.Blocks.{Blocks}
@@ -258,8 +258,8 @@ grown E S = grow E S (length (S ++ ends_of E)) (roots_of E S) (roots_alone E S) 
 
 -- ---- the forest
 module _ (E : List Edge) (S J : List ℕ) (G : Growing E S J) (c : Closed E (member J)) where
-  unfoldable grown-forest : Forest E
-  grown-forest = record {
+  unfoldable grown_forest : Forest E
+  grown_forest = record {
     seen = member J;
     child = G.child;
     par = G.par;
@@ -286,8 +286,8 @@ module _ (E : List Edge) (S J : List ℕ) (G : Growing E S J) (c : Closed E (mem
       let (r, n, j) = firsts_cover (joined E) (joined_refl E) (joined_trans E) k S m in
       closed_joined E (member J) c r k j (mem_member r J (G.roots_in r n))
 
-  grown_search : Search E (forest-blocks E grown-forest) (member S) (backwards J)
-  unfolding grown-forest forest-blocks merged-blocks
+  grown_search : Search E (forest_blocks E grown_forest) (member S) (backwards J)
+  unfolding grown_forest forest_blocks merged_blocks
   grown_search = record {
     rises = place_rises J G.once;
     listed_seen = λ v m. mem_member v J (backwards_mem v J m);
@@ -298,4 +298,4 @@ module _ (E : List Edge) (S J : List ℕ) (G : Growing E S J) (c : Closed E (mem
 
 -- blocks, and a search that found them
 pub searched_blocks : (E : List Edge) (S : List ℕ) → (B : Blocks E) × (order : List ℕ) × Search E B (member S) order
-searched_blocks E S = let (J, G, c) = grown E S in (forest-blocks E (grown-forest E S J G c), backwards J, grown_search E S J G c)
+searched_blocks E S = let (J, G, c) = grown E S in (forest_blocks E (grown_forest E S J G c), backwards J, grown_search E S J G c)

@@ -84,7 +84,7 @@ module _ (G : Named) (S : List ℕ) (h : ℕ) (H : Named) (ρ σ : ℕ → ℕ) 
       let (W, Wp, Wq, cW, nW) = (hangs_least G (ρ p) (ρ q) j (Y, Yp, Yq, cY)).some in
       let R = reach (plain G) (ρ p) in
       let zR = reach_closed (plain G) (ρ p) in
-      let in-piece : 0 < cut (Y ∩ R) (plain G) = insep_cut (plain G) j (Y ∩ R) (ap₂ ◌&&◌ Yp (reach_self (plain G) (ρ p))) (ap (λ b. b && R (ρ q)) Yq) in
+      let in_piece : 0 < cut (Y ∩ R) (plain G) = insep_cut (plain G) j (Y ∩ R) (ap₂ ◌&&◌ Yp (reach_self (plain G) (ρ p))) (ap (λ b. b && R (ρ q)) Yq) in
       let rest : cut (Y ∖ R) (plain G) ≤ 0 = omega (arith, induced_split Y R (plain G), induced_le Y R (plain G)) in
       let cWR : cut (W ∩ R) (plain G) ≤ 1 = omega (arith, cut_submodular W R (plain G)) in
       let nWR : cut_names (W ∩ R) G ≤ n = omega (arith, names_meet W R G, names_closed R G zR) in (

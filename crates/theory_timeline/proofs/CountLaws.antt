@@ -32,8 +32,8 @@ open_most segs o r = count_most (λ s. o s && eqb r (road segs s)) 0 (length seg
 -- ---- the counts of a list
 module _ (g : Timeline) where
   -- the open segments of road r before event i
-  abbrev ofRoad : ℕ → ℕ → SegmentSet
-  ofRoad i r u = open_before g i u && eqb r (road g.segments u)
+  abbrev of_road : ℕ → ℕ → SegmentSet
+  of_road i r u = open_before g i u && eqb r (road g.segments u)
 
   module _ (i : ℕ) (l : i < size g) where
     abbrev s : ℕ
@@ -45,13 +45,13 @@ module _ (g : Timeline) where
         ap (λ (o : SegmentSet). o s && eqb r (key g i)) (open_next g i l)
         ∙ ap₂ (λ a b. cond (a && b) (opens_at g i) (open_before g i s) && eqb r (key g i)) c (eq-eqb s s refl)
 
-    at_others : (r u : ℕ) → ¬ (u ≡ s) → ofRoad (i + 1) r u ≡ ofRoad i r u
+    at_others : (r u : ℕ) → ¬ (u ≡ s) → of_road (i + 1) r u ≡ of_road i r u
     at_others r u n =
         ap (λ (o : SegmentSet). o u && eqb r (road g.segments u)) (open_next g i l)
         ∙ ap (λ b. cond (changes_at g i && b) (opens_at g i) (open_before g i u) && eqb r (road g.segments u)) (ne_eqb u s n)
         ∙ ap (λ b. cond b (opens_at g i) (open_before g i u) && eqb r (road g.segments u)) (and-false (changes_at g i))
 
-    at_other_road : (r u : ℕ) → eqb r (key g i) ≡ false → ofRoad (i + 1) r u ≡ ofRoad i r u
+    at_other_road : (r u : ℕ) → eqb r (key g i) ≡ false → of_road (i + 1) r u ≡ of_road i r u
     at_other_road r u n = on_bool (eqb u s)
         (λ t. let e : eqb r (road g.segments u) ≡ false = ap (λ (v : ℕ). eqb r (road g.segments v)) (eqb-true u s t) ∙ n in
         ap (λ b. open_before g (i + 1) u && b) e ∙ and-false (open_before g (i + 1) u) ∙ sym (ap (λ b. open_before g i u && b) e ∙ and-false (open_before g i u)))
@@ -60,13 +60,13 @@ module _ (g : Timeline) where
     -- another road's count stays
     pub count_stays : (r : ℕ) → ¬ (r ≡ key g i) → open_count g (i + 1) r ≡ open_count g i r
     unfolding open_segments
-    count_stays r n = count_same (ofRoad i r) (ofRoad (i + 1) r) 0 (length g.segments) (λ u k. at_other_road r u (ne_eqb r (key g i) n))
+    count_stays r n = count_same (of_road i r) (of_road (i + 1) r) 0 (length g.segments) (λ u k. at_other_road r u (ne_eqb r (key g i) n))
 
     -- an opening makes its road's one more
     pub count_opens : opens_at g i ≡ true → s < length g.segments → open_before g i s ≡ false → open_count g (i + 1) (key g i) ≡ open_count g i (key g i) + 1
     unfolding open_segments
     count_opens o k c =
-        count_more (ofRoad i (key g i)) (ofRoad (i + 1) (key g i)) s 0 (length g.segments) (omega arith) (omega arith)
+        count_more (of_road i (key g i)) (of_road (i + 1) (key g i)) s 0 (length g.segments) (omega arith) (omega arith)
         (ap (λ b. b && eqb (key g i) (key g i)) c)
         (at_named (key g i) (ap (λ b. b || closes_at g i) o) ∙ ap₂ ◌&&◌ o (eq-eqb (key g i) (key g i) refl))
         (λ u n. at_others (key g i) u n)
@@ -76,7 +76,7 @@ module _ (g : Timeline) where
         → open_count g i (key g i) ≡ open_count g (i + 1) (key g i) + 1
     unfolding open_segments
     count_closes o f k c =
-        count_more (ofRoad (i + 1) (key g i)) (ofRoad i (key g i)) s 0 (length g.segments) (omega arith) (omega arith)
+        count_more (of_road (i + 1) (key g i)) (of_road i (key g i)) s 0 (length g.segments) (omega arith) (omega arith)
         (at_named (key g i) (ap₂ ◌||◌ f o) ∙ ap (λ b. b && eqb (key g i) (key g i)) f)
         (ap₂ ◌&&◌ c (eq-eqb (key g i) (key g i) refl))
         (λ u n. sym (at_others (key g i) u n))
@@ -85,6 +85,6 @@ module _ (g : Timeline) where
   pub count_unnamed : (i : ℕ) → i < size g → changes_at g i ≡ false → (r : ℕ) → open_count g (i + 1) r ≡ open_count g i r
   unfolding open_segments
   count_unnamed i l a r =
-      count_same (ofRoad i r) (ofRoad (i + 1) r) 0 (length g.segments) λ u k.
+      count_same (of_road i r) (of_road (i + 1) r) 0 (length g.segments) λ u k.
       ap (λ (o : SegmentSet). o u && eqb r (road g.segments u)) (open_next g i l)
       ∙ ap (λ b. cond (b && eqb u (event g i).1) (opens_at g i) (open_before g i u) && eqb r (road g.segments u)) a

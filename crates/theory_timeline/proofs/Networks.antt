@@ -43,14 +43,14 @@ module _ (n : ℕ) (segs : List Edge) (pre mid post : List Event) (o : SegmentSe
   naming = named_roads n segs
 
   -- the roads that are added
-  unfoldable pub addedOf : Named
-  addedOf = pick (λ r. before r && (naming whole r && not (naming mid r))) 0 segs
+  unfoldable pub added_of : Named
+  added_of = pick (λ r. before r && (naming whole r && not (naming mid r))) 0 segs
 
-  pub network_of_part : SameEntries (network_of n segs whole o ++ addedOf) (network_of n segs mid (after_all n pre o))
-  unfolding network_of addedOf
+  pub network_of_part : SameEntries (network_of n segs whole o ++ added_of) (network_of n segs mid (after_all n pre o))
+  unfolding network_of added_of
   network_of_part = record {
     weights = λ φ U.
-        weigh_append φ U (network_of n segs whole o) addedOf
+        weigh_append φ U (network_of n segs whole o) added_of
         ∙ sym (pick_sum φ U (λ r. before r && not (naming mid r)) (λ r. open_roads segs o r && not (naming whole r)) (λ r. before r && (naming whole r && not (naming mid r))) one 0 segs);
   }
     where
@@ -65,8 +65,8 @@ module _ (n : ℕ) (segs : List Edge) (pre mid post : List Event) (o : SegmentSe
           inl (ap₂ (λ a b. a && not b) (sym (roads_stay n segs pre o r np)) (w ∙ sym nm), ap (λ b. before r && (b && not (naming mid r))) w ∙ and-false (before r)))
 
   -- both ends of an added road are active: it has the ends of the segment that is named
-  pub added_of_within : ends_in (member (active_of n segs whole)) (plain addedOf) ≡ true
-  unfolding addedOf
+  pub added_of_within : ends_in (member (active_of n segs whole)) (plain added_of) ≡ true
+  unfolding added_of
   added_of_within =
       pick_within (member (active_of n segs whole)) (λ r. before r && (naming whole r && not (naming mid r))) (λ k. get_or segs k (0, 0)) 0 segs (λ k. ap (λ k. get_or segs k (0, 0)) (plus k)) λ r t.
       and_elim (before r) (naming whole r && not (naming mid r)) t λ a b. and_elim (naming whole r) (not (naming mid r)) b λ w u.
@@ -139,19 +139,19 @@ module _ (g : Timeline) (w c : Window) (h : Part w c) where
 
   -- ---- the laws of a part
   -- the roads that are open, that the events l name, and that the part does not
-  abbrev moreThan : List Event → SegmentSet → Named
-  moreThan l o = pick (λ r. open_roads g.segments o r && (named_roads g.junctions g.segments l r && not (named_roads g.junctions g.segments (during g c) r))) 0 g.segments
+  abbrev more_than : List Event → SegmentSet → Named
+  more_than l o = pick (λ r. open_roads g.segments o r && (named_roads g.junctions g.segments l r && not (named_roads g.junctions g.segments (during g c) r))) 0 g.segments
 
   pub network_part : SameEntries (network g w ++ added g w c) (network g c)
-  unfolding network added addedOf
+  unfolding network added added_of
   network_part =
-      subst₂ (λ (l : List Event) (o : SegmentSet). SameEntries (network_of g.junctions g.segments l (open_before g w.0) ++ moreThan l o) (network_of g.junctions g.segments (during g c) o))
+      subst₂ (λ (l : List Event) (o : SegmentSet). SameEntries (network_of g.junctions g.segments l (open_before g w.0) ++ more_than l o) (network_of g.junctions g.segments (during g c) o))
       split opened (network_of_part g.junctions g.segments pre (during g c) post (open_before g w.0))
 
   pub added_active : ends_in (member (active g w)) (plain (added g w c)) ≡ true
-  unfolding active added addedOf
+  unfolding active added added_of
   added_active =
-      subst₂ (λ (l : List Event) (o : SegmentSet). ends_in (member (active_of g.junctions g.segments l)) (plain (moreThan l o)) ≡ true)
+      subst₂ (λ (l : List Event) (o : SegmentSet). ends_in (member (active_of g.junctions g.segments l)) (plain (more_than l o)) ≡ true)
       split opened (added_of_within g.junctions g.segments pre (during g c) post (open_before g w.0))
 
   pub active_part : (v : ℕ) → Memᴰ v (active g c) → Memᴰ v (active g w)

@@ -1,7 +1,6 @@
 -- A query has its line, every other event none.
 use mathlib.Core.Path.{◌∙◌, sym}
 use native.Mathlib.Omega.{arith}
-use borrow.Author.Rules.{rules}
 use Rattle.program_printing.proofs.TextLaws.{lines_none, lines_query, wrote_as, wrote_none}
 use Rattle.program_printing.proofs.put_event.Goals as goal
 

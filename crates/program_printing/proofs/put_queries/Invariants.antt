@@ -1,9 +1,6 @@
 -- The lines of the first i events are written, at most 42 bytes each.
 use Prim.Native.Nat.{◌*◌, ◌-◌, ◌≤◌}
-use mathlib.Core.Path.{◌≡◌, ap, sym}
 use lib.ListN.{length}
-use native.Mathlib.Omega.{arith}
-use Rattle.program_printing.proofs.TextLaws.{from_zero, lines_snoc, lines_zero, wrote_as, wrote_length, wrote_none, wrote_then}
 use Rattle.program_printing.specs.Printing.{Wrote}
 use Rattle.theory_timeline.specs.Program.{query_lines}
 use Rattle.program_printing.proofs.put_queries.Given as goal

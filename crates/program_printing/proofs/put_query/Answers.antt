@@ -1,7 +1,6 @@
 -- `put_query` meets its contract: two numbers and two texts, each written where the one before ends, within the longest line.
 use mathlib.Core.List.{[], ◌++◌, ◌∷◌}
 use native.Mathlib.Omega.{arith}
-use borrow.Author.Rules.{rules}
 use Rattle.program_printing.proofs.TextLaws.{decimal_most, number_end, text_end, wrote_then}
 use Rattle.theory_timeline.specs.Program.{decimal, query_line}
 use Rattle.program_printing.proofs.put_query.Goals as goal

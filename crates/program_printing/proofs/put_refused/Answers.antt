@@ -1,7 +1,6 @@
 -- `put_refused` meets its contract: two texts and two numbers by turns, each written where the one before ends, and the line's end.
 use mathlib.Core.List.{[], ◌∷◌}
 use native.Mathlib.Omega.{arith}
-use borrow.Author.Rules.{rules}
 use Rattle.program_printing.proofs.TextLaws.{decimal_most, number_end, text_end, wrote_then}
 use Rattle.theory_timeline.specs.Program.{decimal, refused_line}
 use Rattle.program_printing.proofs.put_refused.Goals as goal

@@ -1,11 +1,8 @@
 -- `put_text` meets its contract. The loop's invariant: the first i bytes of the text are written, and nothing else has changed.
-use Prim.Native.Nat.{◌+◌, ◌-◌, ◌≤◌, ℕ}
-use mathlib.Core.List.{List}
-use mathlib.Core.Path.{◌∙◌, ◌≡◌, ap, refl}
-use lib.ListN.{get_or, length, set, take}
-use lib.Seq.{length-sets, sets, take_all}
-use native.Mathlib.Omega.{arith}
-use Rattle.program_printing.proofs.TextLaws.{sets_more}
+use Prim.Native.Nat.{◌-◌, ◌≤◌}
+use mathlib.Core.Path.{◌≡◌}
+use lib.ListN.{length, take}
+use lib.Seq.{sets}
 use Rattle.program_printing.proofs.put_text.Given as goal
 
 abbrev pub invariant-loop-i : goal.invariant-loop-i

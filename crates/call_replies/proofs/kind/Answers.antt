@@ -1,0 +1,7 @@
+-- The number is that of the kind.
+use mathlib.Core.Path.{◌∙◌, ap}
+use Rattle.call_kinds.specs.Kinds.{kind_number}
+use Rattle.call_replies.proofs.kind.Goals as goal
+
+pub returns : goal.returns
+returns c = c.kind_number.ensures ∙ ap kind_number c.kind_of-kind.ensures.value

@@ -1,0 +1,15 @@
+-- What is loaded, and the area made out of it.
+use mathlib.Core.Path.{refl}
+use native.Mathlib.Omega.{arith}
+use Rattle.replay_start.proofs.WholeLaws.{whole_made, whole_need}
+use Rattle.replay_start.proofs.whole.Goals as goal
+
+pub load_whole-l-requires : goal.load_whole-l-requires
+load_whole-l-requires c = whole_need c.requires
+
+pub make_area-r-requires : goal.make_area-r-requires
+make_area-r-requires c = (c.load_whole-l.ensures.ready, refl)
+
+pub returns : goal.returns
+returns c =
+    whole_made c.requires c.load_whole-l.ensures (omega arith) c.make_area-r.ensures
