@@ -1,4 +1,1 @@
 pub mod ReplyLaws
-pub mod LentFields
-pub mod LentCode
-pub mod LentCall

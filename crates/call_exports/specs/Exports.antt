@@ -2,7 +2,7 @@
 -- is accepted if the code is 0 (those of the small calls stand in call_replies/specs/Replies); what a struct of tables lends; and the outcome with the tables as a call leaves them.
 -- Assumes nothing: these are definitions.
 use Rattle.std.specs.Prelude.{List, ℕ, eqb}
-use Rattle.std.specs.Borrow.{Bor}
+use Rattle.std.specs.Borrow.{Bor, MutBor}
 use Rattle.theory_contraction.specs.Contraction as contraction
 use Rattle.theory_timeline.specs.Replay as timeline
 use Rattle.theory_timeline.specs.Call as replaying
@@ -73,24 +73,28 @@ replay_junctions_lent l =
     replaying-junctions.junction_lent l.n l.m l.t l.a.now l.b.now l.start.now l.x.now l.y.now l.answers.now l.work.now
 
 -- ---- the fields of a struct after the call, in their order, of which those count that may be written
+-- a table that is read, and one that may be written
 abbrev Table : Type 0
 Table = Bor (List ℕ)
 
+abbrev Written : Type 0
+Written = MutBor (List ℕ)
+
 abbrev pub ContractFields : Type 0
-ContractFields = ℕ × (ℕ × (ℕ × (Table × (Table × (Table × (Table × (Table × (Table × (Table × (Table × (Table × (Table × Unit {0}))))))))))))
+ContractFields = ℕ × (ℕ × (ℕ × (Table × (Table × (Table × (Table × (Written × (Written × (Written × (Written × (Written × (Written × Unit {0}))))))))))))
 
 abbrev pub contract_left : LumContractReply → ContractFields → contraction.Outcome
 contract_left r (n, (m, (k, (from, (to, (names, (active, (map, (out_from, (out_to, (out_names, (pieces, (work, end))))))))))))) =
     contracted_of r map.now out_from.now out_to.now out_names.now pieces.now work.now
 
 abbrev pub ReplayFields : Type 0
-ReplayFields = ℕ × (ℕ × (ℕ × (ℕ × (Table × (Table × (Table × (Table × (Table × (Table × (Table × (Table × Unit {0})))))))))))
+ReplayFields = ℕ × (ℕ × (ℕ × (ℕ × (Table × (Table × (Table × (Table × (Table × (Written × (Written × (Written × Unit {0})))))))))))
 
 abbrev pub replay_left : LumReplayReply → ReplayFields → timeline.Outcome
 replay_left r (n, (m, (t, (p, (a, (b, (start, (x, (y, (answers, (names, (work, end)))))))))))) = replayed_of r answers.now names.now work.now
 
 abbrev pub ReplayJunctionsFields : Type 0
-ReplayJunctionsFields = ℕ × (ℕ × (ℕ × (ℕ × (Table × (Table × (Table × (Table × (Table × (Table × (Table × Unit {0}))))))))))
+ReplayJunctionsFields = ℕ × (ℕ × (ℕ × (ℕ × (Table × (Table × (Table × (Table × (Table × (Written × (Written × Unit {0}))))))))))
 
 abbrev pub replay_junctions_left : LumReplayJunctionsReply → ReplayJunctionsFields → junctions.JunctionOutcome
 replay_junctions_left r (n, (m, (t, (p, (a, (b, (start, (x, (y, (answers, (work, end))))))))))) = replayed_junctions_of r answers.now work.now

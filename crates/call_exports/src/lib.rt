@@ -193,20 +193,23 @@ fn contract_tables<'a>(
 pub extern "C" fn lum_contract<'a>(lent: LumContractLent<'a>) -> LumContractReply
     ensures { contract_left result lent.exit ≡ contraction (contract_lent lent.entry) }
 {
+    let LumContractLent {
+        n,
+        m,
+        k,
+        from,
+        to,
+        names,
+        active,
+        map,
+        out_from,
+        out_to,
+        out_names,
+        pieces,
+        work,
+    } = lent;
     contract_tables(
-        lent.n,
-        lent.m,
-        lent.k,
-        lent.from,
-        lent.to,
-        lent.names,
-        lent.active,
-        lent.map,
-        lent.out_from,
-        lent.out_to,
-        lent.out_names,
-        lent.pieces,
-        lent.work,
+        n, m, k, from, to, names, active, map, out_from, out_to, out_names, pieces, work,
     )
 }
 
@@ -257,20 +260,21 @@ fn replay_tables<'a>(
 pub extern "C" fn lum_replay<'a>(lent: LumReplayLent<'a>) -> LumReplayReply
     ensures { replay_left result lent.exit ≡ replay (replay_lent lent.entry) lent.entry.p }
 {
-    replay_tables(
-        lent.n,
-        lent.m,
-        lent.t,
-        lent.p,
-        lent.a,
-        lent.b,
-        lent.start,
-        lent.x,
-        lent.y,
-        lent.answers,
-        lent.names,
-        lent.work,
-    )
+    let LumReplayLent {
+        n,
+        m,
+        t,
+        p,
+        a,
+        b,
+        start,
+        x,
+        y,
+        answers,
+        names,
+        work,
+    } = lent;
+    replay_tables(n, m, t, p, a, b, start, x, y, answers, names, work)
 }
 
 // The replay by the loss of a junction on the fields of the struct that it is lent, in their order.
@@ -321,17 +325,18 @@ pub extern "C" fn lum_replay_junctions<'a>(
 ) -> LumReplayJunctionsReply
     ensures { replay_junctions_left result lent.exit ≡ replay_junctions (replay_junctions_lent lent.entry) lent.entry.p }
 {
-    replay_junctions_tables(
-        lent.n,
-        lent.m,
-        lent.t,
-        lent.p,
-        lent.a,
-        lent.b,
-        lent.start,
-        lent.x,
-        lent.y,
-        lent.answers,
-        lent.work,
-    )
+    let LumReplayJunctionsLent {
+        n,
+        m,
+        t,
+        p,
+        a,
+        b,
+        start,
+        x,
+        y,
+        answers,
+        work,
+    } = lent;
+    replay_junctions_tables(n, m, t, p, a, b, start, x, y, answers, work)
 }

@@ -1,4 +1,6 @@
 // The public call `replay_junctions`, the sibling of the replay (document 02, No. 8): the checks, then the recursion over the windows of the whole list.
+#![tactic(auto)]
+
 mod checks;
 mod list;
 

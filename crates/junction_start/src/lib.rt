@@ -1,4 +1,6 @@
 // The whole list's graph for the sibling: loaded as in the replay (replay_start::load_whole), and reduced to blocks and cycles.
+#![tactic(auto)]
+
 ghost use Rattle.junction_start.specs.JunctionWhole.{JunctionWholeMade, JunctionWholeReady};
 
 // Internal: the junctions and the words of t events stand at the front of work, and from place `counts` on how many segments of each road are open at the

@@ -1,4 +1,6 @@
 // The sibling's recursion over windows. The area of a window is at the front of its work slice; each part works in the rest.
+#![tactic(auto)]
+
 ghost use Rattle.std.specs.Prelude.{◌≡◌, ◌*◌, take};
 ghost use Rattle.junction_windows.specs.JunctionDescent.{JunctionOneDone, JunctionWindowDone, JunctionWindowReady};
 
