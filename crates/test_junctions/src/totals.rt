@@ -57,13 +57,7 @@ fn sums(p: [usize; 16], q: [usize; 16]) -> [usize; 16] {
 
 // Counts a list with its outcome by the slow version, whether the call disagrees, and the most events that such a list may have. It is counted as one on a ring
 // would be for the replay, so that nothing is counted of names.
-pub(crate) fn add(
-    before: Totals,
-    l: &List,
-    want: &Wanted,
-    disagrees: bool,
-    most: usize,
-) -> Totals {
+pub(crate) fn add(before: Totals, l: &List, want: &Wanted, disagrees: bool, most: usize) -> Totals {
     let trial = Trial {
         places: 1,
         most,
