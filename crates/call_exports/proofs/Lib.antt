@@ -1,1 +1,4 @@
 pub mod ReplyLaws
+pub mod LentFields
+pub mod LentCode
+pub mod LentCall

@@ -1,5 +1,7 @@
 // The calls as C sees them: a slice is a pointer and a length, what a call is lent is a struct of numbers and slices, a reply a struct of numbers.
-// Each call hands on to the product's own and writes its reply out.
+// Each call hands on to the product's own and writes its reply out. The exports themselves, under C's names, stand in the static library call_exports_c.
+#![tactic(auto)]
+
 ghost use Rattle.std.specs.Prelude.{◌≡◌, length, take};
 ghost use Rattle.theory_contraction.specs.Contraction as contracting;
 ghost use Rattle.theory_contraction.specs.Contraction.{contraction};
@@ -105,32 +107,28 @@ pub struct LumReplayJunctionsReply {
 
 // The version of the calls in this archive, so that a caller who was built for others can tell.
 // It takes nothing and returns one number in every version.
-#[unsafe(no_mangle)]
-pub extern "C" fn lum_version() -> u32
+pub fn lum_version() -> u32
     ensures { result ≡ version }
 {
     call_replies::version()
 }
 
 // The kind of an event, by its number.
-#[unsafe(no_mangle)]
-pub extern "C" fn lum_kind_of(x: u16, n: usize) -> u32
+pub fn lum_kind_of(x: u16, n: usize) -> u32
     ensures { result ≡ kind_number (kind_of n x) }
 {
     call_replies::kind(x, n)
 }
 
 // The sizes' check.
-#[unsafe(no_mangle)]
-pub extern "C" fn lum_sizes(n: usize, m: usize, t: usize, k: usize) -> LumSizesReply
+pub fn lum_sizes(n: usize, m: usize, t: usize, k: usize) -> LumSizesReply
     ensures { sizes_of result ≡ check_sizes n m t k }
 {
     call_replies::sizes(n, m, t, k)
 }
 
 // The reader's call. The part that it hands back begins where the table does, so that its length says all.
-#[unsafe(no_mangle)]
-pub extern "C" fn lum_answers(table: &[u8], t: usize) -> usize
+pub fn lum_answers(table: &[u8], t: usize) -> usize
     ensures value { result ≡ length (first_or_none table.now t) }
     ensures table_value { take result table.now ≡ first_or_none table.now t }
 {
@@ -138,15 +136,14 @@ pub extern "C" fn lum_answers(table: &[u8], t: usize) -> usize
 }
 
 // The check number of the table's first t bytes.
-#[unsafe(no_mangle)]
-pub extern "C" fn lum_check_number(table: &[u8], t: usize) -> LumCheckNumberReply
+pub fn lum_check_number(table: &[u8], t: usize) -> LumCheckNumberReply
     ensures { check_number_of result ≡ number_of_first table.now t }
 {
     call_replies::check_number(table, t)
 }
 
-// The contraction on the fields of the struct that it is lent, in their order.
-fn contract_tables<'a>(
+// Internal: the contraction on the fields of the struct that it is lent, in their order.
+pub fn contract_tables<'a>(
     n: usize,
     m: usize,
     k: usize,
@@ -189,32 +186,28 @@ fn contract_tables<'a>(
 }
 
 // The contraction.
-#[unsafe(no_mangle)]
-pub extern "C" fn lum_contract<'a>(lent: LumContractLent<'a>) -> LumContractReply
+pub fn lum_contract<'a>(lent: LumContractLent<'a>) -> LumContractReply
     ensures { contract_left result lent.exit ≡ contraction (contract_lent lent.entry) }
 {
-    let LumContractLent {
-        n,
-        m,
-        k,
-        from,
-        to,
-        names,
-        active,
-        map,
-        out_from,
-        out_to,
-        out_names,
-        pieces,
-        work,
-    } = lent;
     contract_tables(
-        n, m, k, from, to, names, active, map, out_from, out_to, out_names, pieces, work,
+        lent.n,
+        lent.m,
+        lent.k,
+        lent.from,
+        lent.to,
+        lent.names,
+        lent.active,
+        lent.map,
+        lent.out_from,
+        lent.out_to,
+        lent.out_names,
+        lent.pieces,
+        lent.work,
     )
 }
 
-// The replay on the fields of the struct that it is lent, in their order.
-fn replay_tables<'a>(
+// Internal: the replay on the fields of the struct that it is lent, in their order.
+pub fn replay_tables<'a>(
     n: usize,
     m: usize,
     t: usize,
@@ -256,29 +249,27 @@ fn replay_tables<'a>(
 }
 
 // The replay.
-#[unsafe(no_mangle)]
-pub extern "C" fn lum_replay<'a>(lent: LumReplayLent<'a>) -> LumReplayReply
+pub fn lum_replay<'a>(lent: LumReplayLent<'a>) -> LumReplayReply
     ensures { replay_left result lent.exit ≡ replay (replay_lent lent.entry) lent.entry.p }
 {
-    let LumReplayLent {
-        n,
-        m,
-        t,
-        p,
-        a,
-        b,
-        start,
-        x,
-        y,
-        answers,
-        names,
-        work,
-    } = lent;
-    replay_tables(n, m, t, p, a, b, start, x, y, answers, names, work)
+    replay_tables(
+        lent.n,
+        lent.m,
+        lent.t,
+        lent.p,
+        lent.a,
+        lent.b,
+        lent.start,
+        lent.x,
+        lent.y,
+        lent.answers,
+        lent.names,
+        lent.work,
+    )
 }
 
-// The replay by the loss of a junction on the fields of the struct that it is lent, in their order.
-fn replay_junctions_tables<'a>(
+// Internal: the replay by the loss of a junction on the fields of the struct that it is lent, in their order.
+pub fn replay_junctions_tables<'a>(
     n: usize,
     m: usize,
     t: usize,
@@ -319,24 +310,20 @@ fn replay_junctions_tables<'a>(
 }
 
 // The replay by the loss of a junction.
-#[unsafe(no_mangle)]
-pub extern "C" fn lum_replay_junctions<'a>(
-    lent: LumReplayJunctionsLent<'a>,
-) -> LumReplayJunctionsReply
+pub fn lum_replay_junctions<'a>(lent: LumReplayJunctionsLent<'a>) -> LumReplayJunctionsReply
     ensures { replay_junctions_left result lent.exit ≡ replay_junctions (replay_junctions_lent lent.entry) lent.entry.p }
 {
-    let LumReplayJunctionsLent {
-        n,
-        m,
-        t,
-        p,
-        a,
-        b,
-        start,
-        x,
-        y,
-        answers,
-        work,
-    } = lent;
-    replay_junctions_tables(n, m, t, p, a, b, start, x, y, answers, work)
+    replay_junctions_tables(
+        lent.n,
+        lent.m,
+        lent.t,
+        lent.p,
+        lent.a,
+        lent.b,
+        lent.start,
+        lent.x,
+        lent.y,
+        lent.answers,
+        lent.work,
+    )
 }

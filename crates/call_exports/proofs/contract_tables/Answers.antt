@@ -1,6 +1,5 @@
 -- The struct says what the reply of the contraction says.
 use Rattle.call_exports.proofs.ReplyLaws.{contract_done, contract_refused}
-use borrow.Author.Rules.{rules}
 use Rattle.call_exports.proofs.contract_tables.Goals as goal
 
 pub returns-in-Done : goal.returns-in-Done

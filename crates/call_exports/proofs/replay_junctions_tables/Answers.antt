@@ -1,6 +1,5 @@
 -- The struct says what the reply of the replay by the loss of a junction says.
 use Rattle.call_exports.proofs.ReplyLaws.{junctions_done, junctions_refused}
-use borrow.Author.Rules.{rules}
 use Rattle.call_exports.proofs.replay_junctions_tables.Goals as goal
 
 pub returns-in-Done : goal.returns-in-Done

@@ -1,6 +1,5 @@
 -- The struct says what the reply of the replay says.
 use Rattle.call_exports.proofs.ReplyLaws.{replay_done, replay_refused}
-use borrow.Author.Rules.{rules}
 use Rattle.call_exports.proofs.replay_tables.Goals as goal
 
 pub returns-in-Done : goal.returns-in-Done
