@@ -1,5 +1,8 @@
 // Runs the small calls: the sizes at their limits, the open set against a table of marks, the reader's call, the check number against a fold by the
 // remainder, the kinds of all numbers against the rows of document 01's table. Prints replies and counts.
+#![tactic(auto)]
+
+use std::io;
 use test_library::replays::Answers;
 use test_library::tables::Marks;
 use test_library::{counts, print, random, replays, tables};
@@ -96,7 +99,7 @@ fn change_byte(table: &mut Answers, seed: usize, t: usize) {
 }
 
 // Of random tables: how many have a check number that differs from the fold, and how many keep theirs where one byte is changed.
-#[derive(Drop)]
+#[derive(Clone, Copy)]
 struct Numbers {
     differing: usize,
     staying: usize,
@@ -156,7 +159,7 @@ fn compare_kinds() -> usize {
 }
 
 // The sizes at their limits, the open set and the reader's call.
-fn report_small() {
+fn report_small(rt: &impl Print) -> io::Result<()> {
     let table = [2u8, 0, 1, 3];
     let numbers = [
         code(4096, 8192, 4096, 8192),
@@ -171,6 +174,7 @@ fn report_small() {
         call_answers::answers(&table, 5).len(),
     ];
     print::report(
+        rt,
         b"\
 4096 junctions refused by #\n\
 4097 junctions refused by #\n\
@@ -184,10 +188,10 @@ first 4 of 4 answers: #\n\
 first 5 of 4 answers: #\n\
 ",
         &numbers,
-    );
+    )
 }
 
-fn report_numbers() {
+fn report_numbers(rt: &impl Print) -> io::Result<()> {
     let example = [3u8, 3, 1, 3, 2];
     let largest = [117u8, 30, 18, 28, 23, 2];
     let one = [0u8, 1, 2, 0, 2, 0, 0, 0, 0, 1, 0, 0, 1];
@@ -207,6 +211,7 @@ fn report_numbers() {
         number_code(&example, 4097),
     ];
     print::report(
+        rt,
         b"\
 check numbers that differ from a fold: #\n\
 check numbers that stay where one byte changes: #\n\
@@ -221,21 +226,22 @@ first 4096 of 5 bytes refused by #\n\
 first 4097 of 5 bytes refused by #\n\
 ",
         &numbers,
-    );
+    )
 }
 
-fn report_kinds() {
+fn report_kinds(rt: &impl Print) -> io::Result<()> {
     let numbers = [compare_kinds()];
     print::report(
+        rt,
         b"\
 kinds that differ from the table's rows, of all numbers with 0, 1, 2, 176, 4095 and 4096 junctions: #\n\
 ",
         &numbers,
-    );
+    )
 }
 
-fn main() {
-    report_small();
-    report_numbers();
-    report_kinds();
+fn main(rt: HostRuntime) -> io::Result<()> {
+    report_small(&rt)?;
+    report_numbers(&rt)?;
+    report_kinds(&rt)
 }

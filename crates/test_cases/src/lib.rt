@@ -1,5 +1,7 @@
 // Internal, for the tests alone: lists at the limits and with faults, on the path 0-1-2 with loops for the segments that are left. Each event has Y 1, so that
 // it opens or closes segment 1, or asks for junction 1 with the junction X; and the segments that no number is for are open at the start.
+#![tactic(auto)]
+
 use test_library::replays::{CLOSES, List, OPENS, Sizes};
 use test_library::{counts, entries, replays};
 use test_random::networks;
@@ -7,7 +9,7 @@ use test_random::networks::Network;
 
 // The sizes; the table that is one entry short and the one that is one entry longer than its size, or 0; and the numbers that vary: the end at which segment 1
 // begins, the starting entries of segments 0 and 1, and X of the first three events.
-#[derive(Drop)]
+#[derive(Clone, Copy)]
 pub struct Case {
     pub sizes: Sizes,
     pub short: usize,
@@ -110,7 +112,7 @@ impl Case {
 
 // A fault: a size, a table an entry short or longer, the share, an end, a starting entry, or one of the first three events: one that opens an open segment,
 // closes a closed one, or has no kind.
-#[derive(Drop)]
+#[derive(Clone, Copy)]
 pub enum Fault {
     Size,
     Short(usize),
@@ -124,7 +126,7 @@ pub enum Fault {
 }
 
 // A refusal's number and its place.
-#[derive(Drop)]
+#[derive(Clone, Copy)]
 pub struct Refusal {
     pub code: usize,
     pub place: usize,

@@ -1,7 +1,10 @@
 // Runs contract on vectors, which it reads; on random graphs against a slow contraction, with counts of what was met among them; and at the limits: the full
 // sizes, all nodes without an edge, sizes of one more, tables of one entry less, and the order of the refusals. Prints counts and replies.
+#![tactic(auto)]
+
 mod vectors;
 
+use std::io;
 use test_contraction_calls::{calls, limits};
 use test_random::graphs;
 use test_totals::graph_totals;
@@ -11,9 +14,9 @@ use test_totals::graph_totals::Totals;
 fn add_random(t: Totals, s: usize) -> Totals {
     let g = graphs::make(s);
     let lengths = calls::lengths(g.sizes, graphs::short(s));
-    let want = calls::slow(g, lengths);
-    let right = calls::agrees(g, lengths, want);
-    graph_totals::add(t, g, want, right)
+    let want = calls::slow(&g, lengths);
+    let right = calls::agrees(&g, lengths, &want);
+    graph_totals::add(t, &g, &want, right)
 }
 
 fn run_random() -> Totals {
@@ -25,9 +28,9 @@ fn run_random() -> Totals {
     t
 }
 
-fn main() {
-    vectors::report();
-    graph_totals::report(run_random());
-    limits::report_refusals();
-    limits::report_full();
+fn main(rt: HostRuntime) -> io::Result<()> {
+    vectors::report(&rt)?;
+    graph_totals::report(&rt, run_random())?;
+    limits::report_refusals(&rt)?;
+    limits::report_full(&rt)
 }

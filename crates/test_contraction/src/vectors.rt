@@ -4,14 +4,14 @@
 // zeros; ten of the lengths: of the first and the second ends of the edges, their names, the active entries, the map, the first and the second ends of the
 // edges out, their names, the pieces and the work table; ten of the reply: a refusal's number and its place, the nodes, the edges and zeros. Then come the
 // first four tables of these lengths; and where it is accepted the map, the first and the second ends of the edges out, their names, and the pieces.
-use libc::STDIN_FILENO;
+use std::io;
 use test_contraction_calls::calls;
 use test_library::contractions::{Graph, Lengths, Reply, Sizes, Small};
 use test_library::text::Text;
 use test_library::{contractions, counts, print, text};
 
 // How many vectors there are, how many are accepted, how many of them the call does not give, and on how many the slow contraction differs from the call.
-#[derive(Drop)]
+#[derive(Clone, Copy)]
 struct Counts {
     vectors: usize,
     accepted: usize,
@@ -87,8 +87,8 @@ fn add(c: Counts, text: &Text, start: usize) -> Counts {
     let lengths = read_lengths(text, start);
     let g = read_graph(text, start, sizes, lengths);
     let want = read_small(text, start, behind(lengths), sizes.k);
-    let right = calls::agrees(g, lengths, want);
-    let slow_right = calls::agrees(g, lengths, calls::slow(g, lengths));
+    let right = calls::agrees(&g, lengths, &want);
+    let slow_right = calls::agrees(&g, lengths, &calls::slow(&g, lengths));
     Counts {
         vectors: counts::plus(c.vectors, 1),
         accepted: counts::counted(c.accepted, want.reply.code == 0),
@@ -118,12 +118,13 @@ fn run(text: &Text, length: usize) -> Counts {
 }
 
 // Reads the vectors and runs them.
-pub(crate) fn report() {
+pub(crate) fn report(rt: &(impl Input + Print)) -> io::Result<()> {
     let mut text = [0u8; 65536];
-    let length = io::read_full(STDIN_FILENO, &mut text);
+    let length = text::read(rt, &mut text)?;
     let c = run(&text, length);
     let numbers = [c.vectors, c.accepted, c.wrong, c.slow_differs];
     print::report(
+        rt,
         b"\
 vectors: #\n\
 accepted: #\n\
@@ -131,5 +132,5 @@ wrong: #\n\
 on which the slow contraction differs from the call: #\n\
 ",
         &numbers,
-    );
+    )
 }

@@ -10,7 +10,7 @@ type Out = [u16; 16400];
 type Work = [u32; 131616];
 
 // What comes of a call: the reply, and how many entries are wrong.
-#[derive(Drop)]
+#[derive(Clone, Copy)]
 pub struct Contracted {
     pub reply: Reply,
     pub wrong: Wrong,
@@ -83,9 +83,9 @@ fn call<'a>(
 
 // The call's outcome with these tables. Eight entries behind those that may be written are compared too.
 fn compared(
-    g: Graph,
+    g: &Graph,
     lengths: Lengths,
-    want: Small,
+    want: &Small,
     map: &mut Out,
     out_from: &mut Out,
     out_to: &mut Out,
@@ -116,7 +116,7 @@ fn compared(
 }
 
 // The outcome of the call on a graph whose tables have these lengths, given the small graph that is wanted.
-pub(crate) fn run(g: Graph, lengths: Lengths, want: Small) -> Contracted {
+pub(crate) fn run(g: &Graph, lengths: Lengths, want: &Small) -> Contracted {
     let mut map = [7u16; 16400];
     let mut out_from = [7u16; 16400];
     let mut out_to = [7u16; 16400];
@@ -137,12 +137,12 @@ pub(crate) fn run(g: Graph, lengths: Lengths, want: Small) -> Contracted {
 }
 
 // Internal: whether the call gives the reply and the small graph that are wanted.
-pub fn agrees(g: Graph, lengths: Lengths, want: Small) -> bool {
+pub fn agrees(g: &Graph, lengths: Lengths, want: &Small) -> bool {
     let r = run(g, lengths, want);
     contractions::agrees(r.reply, r.wrong, want.reply)
 }
 
 // Internal: what the slow contraction makes of a graph whose tables have these lengths.
-pub fn slow(g: Graph, lengths: Lengths) -> Small {
+pub fn slow(g: &Graph, lengths: Lengths) -> Small {
     contraction::reply(g.sizes, &g.from, &g.to, &g.names, &g.active, lengths)
 }

@@ -2,12 +2,13 @@
 // the refusals.
 use crate::calls;
 use crate::calls::Contracted;
+use std::io;
 use test_library::contractions::{Graph, Sizes, Small};
 use test_library::{contractions, counts, entries, print};
 use test_random::graphs;
 
 // A path: its sizes, the table that is one entry short, or 0, the end at which edge 0 begins, and the first active entry.
-#[derive(Drop)]
+#[derive(Clone, Copy)]
 struct Case {
     sizes: Sizes,
     short: usize,
@@ -42,7 +43,7 @@ impl Case {
 }
 
 // The small graph that is wanted of a path is the path itself, with its names, and all entries are in piece 0.
-fn itself(g: Graph) -> Small {
+fn itself(g: &Graph) -> Small {
     let map = g.active;
     let from = g.from;
     let to = g.to;
@@ -57,10 +58,10 @@ fn itself(g: Graph) -> Small {
 
 fn contracted(c: Case) -> Contracted {
     let mut g = graphs::path(c.sizes);
-    let want = itself(g);
+    let want = itself(&g);
     entries::set(&mut g.from, 0, c.end);
     entries::set(&mut g.active, 0, c.entry);
-    calls::run(g, calls::lengths(c.sizes, c.short), want)
+    calls::run(&g, calls::lengths(c.sizes, c.short), &want)
 }
 
 // The number by which it is refused, or 99 where it is refused and changed an entry.
@@ -80,7 +81,7 @@ fn short_refused() -> usize {
 }
 
 // Internal: sizes are refused before lengths, lengths before ends, ends before entries: calls with all four faults, all but the first, and so on.
-pub fn report_refusals() {
+pub fn report_refusals(rt: &impl Print) -> io::Result<()> {
     let entry = Case::sized(1, 1, 1).with_bad_entry();
     let end = entry.with_bad_end();
     let short = end.with_short(1);
@@ -98,6 +99,7 @@ pub fn report_refusals() {
         code(Case::sized(0, 0, 0)),
     ];
     print::report(
+        rt,
         b"\
 least lengths, reply: #\n\
 of 10 tables one entry short, refused by 2 with all entries kept: #\n\
@@ -111,7 +113,7 @@ of entry: #\n\
 nothing at all, reply: #\n\
 ",
         &numbers,
-    );
+    )
 }
 
 // All nodes without an edge, each node in turn active: the pieces are numbered as the nodes.
@@ -123,13 +125,13 @@ fn alone() -> Contracted {
     };
     let g = graphs::path(sizes);
     let pieces = g.active;
-    let mut want = itself(g);
+    let mut want = itself(&g);
     want.pieces = pieces;
-    calls::run(g, calls::lengths(sizes, 0), want)
+    calls::run(&g, calls::lengths(sizes, 0), &want)
 }
 
 // Internal: calls with all nodes, of the path and without an edge: the replies, and how much of the tables is as it must be.
-pub fn report_full() {
+pub fn report_full(rt: &impl Print) -> io::Result<()> {
     let path = contracted(Case::sized(4096, 8192, 8192));
     let r = path.reply;
     let w = path.wrong;
@@ -153,6 +155,7 @@ pub fn report_full() {
         counts::minus(8192, v.pieces),
     ];
     print::report(
+        rt,
         b"\
 4096 nodes, 8192 edges, 8192 entries, reply: #\n\
 nodes: #\n\
@@ -170,5 +173,5 @@ names written: #\n\
 pieces right: #\n\
 ",
         &numbers,
-    );
+    )
 }

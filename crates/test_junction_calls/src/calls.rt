@@ -52,7 +52,7 @@ fn call<'a>(
 }
 
 // Internal: the outcome of the call. Of the work table the required length must be 0 where it is accepted, and all else as before.
-pub fn run(l: List, lengths: Lengths, work: &mut Work) -> Replayed {
+pub fn run(l: &List, lengths: Lengths, work: &mut Work) -> Replayed {
     let sizes = l.sizes;
     let words = test_slow_junctions::required(sizes.n, sizes.m, sizes.t);
     calls::refill(work, words + 8);
@@ -78,12 +78,12 @@ pub fn run(l: List, lengths: Lengths, work: &mut Work) -> Replayed {
 }
 
 // Internal: whether the call gives what is wanted with each share from 4 to 12.
-pub fn all_shares_agree(list: List, want: Replayed, work: &mut Work) -> bool {
-    let mut l = list;
+pub fn all_shares_agree(list: &List, want: &Replayed, work: &mut Work) -> bool {
+    let mut l = List { ..*list };
     for p in 4..13 {
         l.sizes.p = p;
-        let r = run(l, lengths(l.sizes, LONGER, 0), work);
-        if !replays::agrees(r, want, l.sizes.t) {
+        let r = run(&l, lengths(l.sizes, LONGER, 0), work);
+        if !replays::agrees(&r, want, l.sizes.t) {
             return false;
         }
     }

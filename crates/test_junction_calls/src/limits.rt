@@ -2,6 +2,7 @@
 // order of the refusals, and the work table of the replay.
 use crate::calls;
 use crate::calls::Work;
+use std::io;
 use test_cases::{ASKS, Case, Fault};
 use test_library::replays::{OPENS, Replayed};
 use test_library::{counts, print, replays};
@@ -9,15 +10,15 @@ use test_slow_replay::replay;
 
 fn replayed(c: Case, work: &mut Work) -> Replayed {
     let l = test_cases::make(c);
-    calls::run(l, calls::lengths(l.sizes, c.short, c.long), work)
+    calls::run(&l, calls::lengths(l.sizes, c.short, c.long), work)
 }
 
 // Whether a case comes out as by the slow version.
 fn is_right(c: Case, work: &mut Work) -> bool {
     let l = test_cases::make(c);
-    let want = test_slow_junctions::reply(l, calls::lengths(l.sizes, c.short, c.long), 0);
-    let r = calls::run(l, calls::lengths(l.sizes, c.short, c.long), work);
-    replays::agrees(r, want.junctions, l.sizes.t)
+    let want = test_slow_junctions::reply(&l, calls::lengths(l.sizes, c.short, c.long), 0);
+    let r = calls::run(&l, calls::lengths(l.sizes, c.short, c.long), work);
+    replays::agrees(&r, &want.junctions, l.sizes.t)
 }
 
 // How many of the 26 cases behind the full sizes are right.
@@ -44,7 +45,7 @@ fn fault_at(i: usize) -> Fault {
 fn first_counts(first: Fault, second: Fault, work: &mut Work) -> bool {
     let r = replayed(test_cases::pair(first, second), work);
     let want = test_cases::refusal_of(first);
-    (replays::code(r) == want.code) & (r.reply.place == want.place)
+    (replays::code(&r) == want.code) & (r.reply.place == want.place)
 }
 
 // How many of the faults, each alone and beside each later one, are refused by the first. A table that is one entry short and one longer has no fault.
@@ -66,12 +67,12 @@ fn with_words(words: usize, work: &mut Work) -> [usize; 2] {
     let l = test_cases::make(Case::path(0, OPENS, ASKS));
     let mut lengths = calls::lengths(l.sizes, 0, 0);
     lengths.work = words;
-    let r = calls::run(l, lengths, work);
-    [replays::code(r), r.reply.place]
+    let r = calls::run(&l, lengths, work);
+    [replays::code(&r), r.reply.place]
 }
 
 // Internal: runs the cases, and prints their replies and counts.
-pub fn report(work: &mut Work) {
+pub fn report(rt: &impl Print, work: &mut Work) -> io::Result<()> {
     let mut full = Case::sized(4096, 8192, 4096);
     let refused = replayed(full, work);
     full.sizes.t = 0;
@@ -84,7 +85,7 @@ pub fn report(work: &mut Work) {
     );
     let least = with_words(test_slow_junctions::required(3, 2, 2), work);
     let numbers = [
-        replays::code(refused),
+        replays::code(&refused),
         refused.reply.place,
         silent.code,
         silent.place,
@@ -100,6 +101,7 @@ pub fn report(work: &mut Work) {
         faults_refused(work),
     ];
     print::report(
+        rt,
         b"\
 4096 junctions, 8192 segments and 4096 events with a work table for 1200, reply: # at #\n\
 no event and all but one segment open at the start, reply: # at #, returned: # #\n\
@@ -110,5 +112,5 @@ of 26 cases at the limits and with faults, as the slow version replies: #\n\
 of 19 faults, alone and beside each later one, 185 in all, refused by the first, at its place, with all entries kept: #\n\
 ",
         &numbers,
-    );
+    )
 }

@@ -1,4 +1,5 @@
 // Counts of lists on which the sibling is compared with the slow version.
+use std::io;
 use test_library::entries::Entries;
 use test_library::replays::{Answers, List};
 use test_library::{counts, entries, print, replays};
@@ -8,7 +9,7 @@ use test_totals::list_totals::Trial;
 
 // The counts of lists as for the replay; how many accepted ones differ with some share, and have a loop; and the answers of those: at 4 times the replay's answer
 // and the sibling's.
-#[derive(Drop)]
+#[derive(Clone, Copy)]
 pub(crate) struct Totals {
     pub(crate) lists: list_totals::Totals,
     pub(crate) shares_differ: usize,
@@ -56,14 +57,14 @@ fn sums(p: [usize; 16], q: [usize; 16]) -> [usize; 16] {
 
 // Counts a list with its outcome by the slow version, whether the call disagrees, and the most events that such a list may have. It is counted as one on a ring
 // would be for the replay, so that nothing is counted of names.
-pub(crate) fn add(before: Totals, l: List, want: Wanted, disagrees: bool, most: usize) -> Totals {
+pub(crate) fn add(before: Totals, l: &List, want: &Wanted, disagrees: bool, most: usize) -> Totals {
     let trial = Trial {
         places: 1,
         most,
         planted: 0,
     };
     let mut t = before;
-    let counted = list_totals::add(before.lists, l, want.junctions, trial, disagrees, 0);
+    let counted = list_totals::add(before.lists, l, &want.junctions, trial, disagrees, 0);
     t.lists = counted;
     if want.junctions.reply.code > 0 {
         return t;
@@ -77,7 +78,7 @@ pub(crate) fn add(before: Totals, l: List, want: Wanted, disagrees: bool, most: 
 }
 
 // Prints the counts.
-pub(crate) fn report(t: Totals) {
+pub(crate) fn report(rt: &impl Print, t: Totals) -> io::Result<()> {
     let lists = t.lists;
     let codes = lists.replies;
     let p = t.pairs;
@@ -113,6 +114,7 @@ pub(crate) fn report(t: Totals) {
         p[6],
     ];
     print::report(
+        rt,
         b"\
 lists: #\n\
 of the most events: #\n\
@@ -145,5 +147,5 @@ answers that differ from the replay's: #\n\
 2 where a road's loss parts the two: #\n\
 ",
         &numbers,
-    );
+    )
 }

@@ -1,6 +1,6 @@
 // The vectors of document 02, No. 8, all 80, made by a slow program before any code of the product; they stand on standard input, in the form of
 // test_library::vectors, with 0 for the length of the names, and without names: 31 are accepted and 49 refused.
-use libc::STDIN_FILENO;
+use std::io;
 use test_junction_calls::calls;
 use test_junction_calls::calls::Work;
 use test_library::replays::Replayed;
@@ -8,7 +8,7 @@ use test_library::text::Text;
 use test_library::{counts, print, replays, text, vectors};
 
 // How many vectors there are, how many of them the call does not give, and on how many the slow version differs from the call.
-#[derive(Drop)]
+#[derive(Clone, Copy)]
 struct Counts {
     vectors: usize,
     wrong: usize,
@@ -33,12 +33,12 @@ fn add(c: Counts, text: &Text, start: usize, work: &mut Work) -> Counts {
     let lengths = vectors::read_lengths(text, start);
     let l = vectors::read_list(text, start, sizes, lengths);
     let want = read_outcome(text, start, vectors::behind(lengths), sizes.t);
-    let r = calls::run(l, lengths, work);
-    let slow = test_slow_junctions::reply(l, lengths, 0).junctions;
+    let r = calls::run(&l, lengths, work);
+    let slow = test_slow_junctions::reply(&l, lengths, 0).junctions;
     Counts {
         vectors: counts::plus(c.vectors, 1),
-        wrong: counts::counted(c.wrong, !replays::agrees(r, want, sizes.t)),
-        slow_differs: counts::counted(c.slow_differs, !replays::agrees(r, slow, sizes.t)),
+        wrong: counts::counted(c.wrong, !replays::agrees(&r, &want, sizes.t)),
+        slow_differs: counts::counted(c.slow_differs, !replays::agrees(&r, &slow, sizes.t)),
     }
 }
 
@@ -62,17 +62,18 @@ fn run(text: &Text, length: usize, work: &mut Work) -> Counts {
 }
 
 // Reads the vectors and runs them.
-pub(crate) fn report(work: &mut Work) {
+pub(crate) fn report(rt: &(impl Input + Print), work: &mut Work) -> io::Result<()> {
     let mut text = [0u8; 65536];
-    let length = io::read_full(STDIN_FILENO, &mut text);
+    let length = text::read(rt, &mut text)?;
     let c = run(&text, length, work);
     let numbers = [c.vectors, c.wrong, c.slow_differs];
     print::report(
+        rt,
         b"\
 vectors: #\n\
 wrong: #\n\
 on which the slow version differs from the call: #\n\
 ",
         &numbers,
-    );
+    )
 }

@@ -3,7 +3,7 @@ use crate::entries::Entries;
 use crate::{calls, counts};
 
 // The nodes, the edges and the active entries.
-#[derive(Drop)]
+#[derive(Clone, Copy)]
 pub struct Sizes {
     pub n: usize,
     pub m: usize,
@@ -21,7 +21,7 @@ pub struct Graph {
 }
 
 // The lengths of the tables.
-#[derive(Drop)]
+#[derive(Clone, Copy)]
 pub struct Lengths {
     pub from: usize,
     pub to: usize,
@@ -36,7 +36,7 @@ pub struct Lengths {
 }
 
 // A refusal's number and its place, both 0 where there is none, and the two numbers that are returned.
-#[derive(Drop)]
+#[derive(Clone, Copy)]
 pub struct Reply {
     pub code: usize,
     pub place: usize,
@@ -58,7 +58,7 @@ pub struct Small {
 }
 
 // How many entries of the tables that a call writes are wrong; of the ends of both tables together.
-#[derive(Drop)]
+#[derive(Clone, Copy)]
 pub struct Wrong {
     pub map: usize,
     pub ends: usize,

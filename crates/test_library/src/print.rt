@@ -1,6 +1,6 @@
 // What a test program prints.
 use crate::counts;
-use libc::STDOUT_FILENO;
+use std::io;
 
 // Number i, or 0.
 fn number(numbers: &[usize], i: usize) -> usize {
@@ -11,16 +11,17 @@ fn number(numbers: &[usize], i: usize) -> usize {
 }
 
 // Internal: writes the text with the numbers, in their order, in place of each #.
-pub fn report(text: &[u8], numbers: &[usize]) {
+pub fn report(rt: &impl Print, text: &[u8], numbers: &[usize]) -> io::Result<()> {
     let n = text.len();
     let mut next: usize = 0;
     for i in 0..n {
         if text[i] == 35 {
-            io::print_decimal(STDOUT_FILENO, number(numbers, next) as u64);
+            rt.print(number(numbers, next))?;
             next = counts::plus(next, 1);
         } else {
             let byte = [text[i]];
-            io::write_all(STDOUT_FILENO, &byte);
+            rt.write_all(&byte)?;
         }
     }
+    Ok(())
 }

@@ -3,7 +3,7 @@ use crate::entries::Entries;
 use crate::{calls, counts, entries, random};
 
 // The junctions, the segments, the events and the share.
-#[derive(Drop)]
+#[derive(Clone, Copy)]
 pub struct Sizes {
     pub n: usize,
     pub m: usize,
@@ -22,7 +22,7 @@ pub struct List {
     pub y: Entries,
 }
 
-#[derive(Drop)]
+#[derive(Clone, Copy)]
 pub struct Event {
     pub x: usize,
     pub y: usize,
@@ -34,7 +34,7 @@ pub const CLOSES: usize = 65534;
 pub const OPENS: usize = 65535;
 
 // The lengths of the tables.
-#[derive(Drop)]
+#[derive(Clone, Copy)]
 pub struct Lengths {
     pub a: usize,
     pub b: usize,
@@ -64,7 +64,7 @@ pub fn lengths_of(sizes: Sizes, words: usize, short: usize, long: usize) -> Leng
 }
 
 // A refusal's number and its place, both 0 where there is none, and the three numbers that are returned.
-#[derive(Drop)]
+#[derive(Clone, Copy)]
 pub struct Reply {
     pub code: usize,
     pub place: usize,
@@ -176,7 +176,7 @@ fn wrong<'a>(
 }
 
 // Internal: whether a replay of t events comes out as wanted, with all entries that it must not change.
-pub fn agrees(r: Replayed, want: Replayed, t: usize) -> bool {
+pub fn agrees(r: &Replayed, want: &Replayed, t: usize) -> bool {
     let count = calls::written(want.reply.code, t);
     let all = counts::plus(t, 8);
     let tables = wrong(&r.answers, &r.names, &want.answers, &want.names, count, all);
@@ -184,26 +184,27 @@ pub fn agrees(r: Replayed, want: Replayed, t: usize) -> bool {
 }
 
 // Internal: the number by which it is refused, or 99 where it is refused and changed an entry.
-pub fn code(r: Replayed) -> usize {
+pub fn code(r: &Replayed) -> usize {
     let tables = wrong(&r.answers, &r.names, &r.answers, &r.names, 0, 4104);
     calls::code(r.reply.code, counts::plus(tables, r.words_wrong))
 }
 
 // Whether the comparison of 4096 answers and names notices a fault that is put into an answer that is wanted, or into a name.
-fn is_noticed(r: Replayed, want: Replayed, i: usize, of_names: bool) -> bool {
-    let mut w = want;
+fn is_noticed(r: &Replayed, want: &Replayed, i: usize, of_names: bool) -> bool {
+    let mut answers = want.answers;
+    let mut names = want.names;
     if of_names {
-        let v = entries::at(&w.names, i);
-        entries::set(&mut w.names, i, counts::plus(v, 1));
+        let v = entries::at(&names, i);
+        entries::set(&mut names, i, counts::plus(v, 1));
     } else {
-        let v = answer_at(&w.answers, i);
-        set_answer(&mut w.answers, i, counts::plus(v, 1));
+        let v = answer_at(&answers, i);
+        set_answer(&mut answers, i, counts::plus(v, 1));
     }
-    wrong(&r.answers, &r.names, &w.answers, &w.names, 4096, 4096) > 0
+    wrong(&r.answers, &r.names, &answers, &names, 4096, 4096) > 0
 }
 
 // Internal: how many of so many faults are noticed, in answers and names in turn.
-pub fn noticed(r: Replayed, want: Replayed, s: usize, planted: usize) -> usize {
+pub fn noticed(r: &Replayed, want: &Replayed, s: usize, planted: usize) -> usize {
     let mut count: usize = 0;
     for j in 0..planted {
         let i = random::at(s, 7, j, 4096);

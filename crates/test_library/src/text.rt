@@ -1,8 +1,28 @@
 // Vectors as text, which a test program reads from standard input: each is a line with ; at its end, and numbers stand in base 16.
+ghost use Rattle.std.specs.Prelude.{◌≤◌, length, IfOk};
+
 use crate::entries::Entries;
 use crate::{counts, entries};
+use std::io;
+use std::io::Read;
 
 pub type Text = [u8; 65536];
+
+// Internal: reads standard input to its end, or until the text is full, and answers how many bytes were read.
+pub fn read(rt: &impl Input, text: &mut Text) -> io::Result<usize>
+    ensures { IfOk result (λ n. n ≤ 65536) }
+{
+    let mut reader = rt.reader();
+    let mut count = 0;
+    while count < text.len() {
+        let n = reader.read(&mut text[count..])?;
+        if n == 0 {
+            break;
+        }
+        count += n;
+    }
+    Ok(count)
+}
 
 // Internal: byte i.
 pub fn at(text: &Text, i: usize) -> usize {

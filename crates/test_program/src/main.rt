@@ -1,11 +1,14 @@
 // Runs the response of the program replay on vectors, which it reads, on inputs of each length and on sizes past the program's limits. Prints counts.
+#![tactic(auto)]
+
 mod outputs;
 mod vectors;
 
+use std::io;
 use test_library::print;
 
-fn main() {
-    let v = vectors::read();
+fn main(rt: HostRuntime) -> io::Result<()> {
+    let v = vectors::read(&rt)?;
     let numbers = [
         v.vectors,
         v.wrong,
@@ -14,6 +17,7 @@ fn main() {
         outputs::sizes_refused(0),
     ];
     print::report(
+        &rt,
         b"\
 vectors of the program: #\n\
 wrong: #\n\
@@ -22,5 +26,5 @@ of 177 junctions, 65 segments, 33 events, refused by 10: #\n\
 of 176 junctions, 64 segments, 32 events, refused by 10: #\n\
 ",
         &numbers,
-    );
+    )
 }

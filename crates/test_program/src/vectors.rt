@@ -2,12 +2,12 @@
 // the input's bytes in base 16, then = and the output, then ; at its end. In the output _ stands for a space and / for a line end.
 use crate::outputs;
 use crate::outputs::{Input, Output};
-use libc::STDIN_FILENO;
+use std::io;
 use test_library::text::Text;
 use test_library::{counts, text};
 
 // How many vectors there are, and how many of them are wrong.
-#[derive(Drop)]
+#[derive(Clone, Copy)]
 pub(crate) struct Counts {
     pub(crate) vectors: usize,
     pub(crate) wrong: usize,
@@ -76,8 +76,8 @@ fn run(text: &Text, length: usize) -> Counts {
 }
 
 // Reads the vectors and runs them.
-pub(crate) fn read() -> Counts {
+pub(crate) fn read(rt: &impl io::Input) -> io::Result<Counts> {
     let mut text = [0u8; 65536];
-    let length = io::read_full(STDIN_FILENO, &mut text);
-    run(&text, length)
+    let length = text::read(rt, &mut text)?;
+    Ok(run(&text, length))
 }

@@ -4,7 +4,7 @@ use test_library::{counts, entries, random};
 
 // What the segments are drawn by: the kind, the seed, how many there are, over how many of the first junctions, and along how many of the first edges of this
 // kind, in either order, so that many segments are of one road; or, where roads is 0, segment e is edge e.
-#[derive(Drop)]
+#[derive(Clone, Copy)]
 pub struct Network {
     pub kind: usize,
     pub seed: usize,
@@ -14,7 +14,7 @@ pub struct Network {
 }
 
 // An end that is no junction: of which side, of which segment.
-#[derive(Drop)]
+#[derive(Clone, Copy)]
 pub(crate) struct BadEnd {
     pub(crate) side: usize,
     pub(crate) segment: usize,

@@ -1,6 +1,6 @@
 // Replays made by a slow program before any code of the product; they stand on standard input, in the form of test_library::vectors. The first 50 are those of
 // document 02, No. 7: 17 are accepted and 33 refused. The other five are of No. 5, all accepted.
-use libc::STDIN_FILENO;
+use std::io;
 use test_library::replays::Replayed;
 use test_library::text::Text;
 use test_library::{counts, print, replays, text, vectors};
@@ -9,7 +9,7 @@ use test_replay_calls::calls::Work;
 use test_slow_replay::replay;
 
 // How many vectors there are, how many of them the call does not give, and on how many the slow replay differs from the call.
-#[derive(Drop)]
+#[derive(Clone, Copy)]
 struct Counts {
     vectors: usize,
     wrong: usize,
@@ -36,12 +36,12 @@ fn add(c: Counts, text: &Text, start: usize, work: &mut Work) -> Counts {
     let lengths = vectors::read_lengths(text, start);
     let l = vectors::read_list(text, start, sizes, lengths);
     let want = read_outcome(text, start, vectors::behind(lengths), sizes.t);
-    let r = calls::run(l, lengths, work);
-    let slow = replay::reply(l, lengths, 0);
+    let r = calls::run(&l, lengths, work);
+    let slow = replay::reply(&l, lengths, 0);
     Counts {
         vectors: counts::plus(c.vectors, 1),
-        wrong: counts::counted(c.wrong, !replays::agrees(r, want, sizes.t)),
-        slow_differs: counts::counted(c.slow_differs, !replays::agrees(r, slow, sizes.t)),
+        wrong: counts::counted(c.wrong, !replays::agrees(&r, &want, sizes.t)),
+        slow_differs: counts::counted(c.slow_differs, !replays::agrees(&r, &slow, sizes.t)),
     }
 }
 
@@ -65,17 +65,18 @@ fn run(text: &Text, length: usize, work: &mut Work) -> Counts {
 }
 
 // Reads the vectors and runs them.
-pub(crate) fn report(work: &mut Work) {
+pub(crate) fn report(rt: &(impl Input + Print), work: &mut Work) -> io::Result<()> {
     let mut text = [0u8; 65536];
-    let length = io::read_full(STDIN_FILENO, &mut text);
+    let length = text::read(rt, &mut text)?;
     let c = run(&text, length, work);
     let numbers = [c.vectors, c.wrong, c.slow_differs];
     print::report(
+        rt,
         b"\
 vectors: #\n\
 wrong: #\n\
 on which the slow replay differs from the call: #\n\
 ",
         &numbers,
-    );
+    )
 }

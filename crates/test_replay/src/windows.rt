@@ -2,6 +2,7 @@
 // below the window, so that kept of the window less kept of its two parts is the nodes of its own small graph: kept is compared window by window.
 ghost use Rattle.std.specs.Prelude.{◌<◌};
 
+use std::io;
 use test_library::calls::LONGER;
 use test_library::entries::Entries;
 use test_library::replays::{List, Sizes};
@@ -57,7 +58,7 @@ fn cut(
 }
 
 // Replays a window.
-fn with_window(t: Totals, w: List, work: &mut Work) -> Totals {
+fn with_window(t: Totals, w: &List, work: &mut Work) -> Totals {
     crate::compare(t, w, calls::lengths(w.sizes, LONGER, 0), crate::SMALL, work)
 }
 
@@ -76,7 +77,7 @@ fn run<'a>(
 ) -> Totals
     requires { n < 65536 }
 {
-    let own = with_window(t, cut(sizes, a, b, start, x, y, first, n), work);
+    let own = with_window(t, &cut(sizes, a, b, start, x, y, first, n), work);
     let c = replay::first_part(n, sizes.p);
     if n > c {
         let near = run(own, sizes, a, b, start, x, y, first, c, work);
@@ -87,7 +88,7 @@ fn run<'a>(
 }
 
 // Replays the windows of a list that is accepted.
-fn with_windows(t: Totals, l: List, work: &mut Work) -> Totals {
+fn with_windows(t: Totals, l: &List, work: &mut Work) -> Totals {
     let n = l.sizes.t;
     let want = replay::reply(l, calls::lengths(l.sizes, LONGER, 0), 0);
     if (want.reply.code > 0) | (n == 0) {
@@ -111,20 +112,21 @@ fn with_windows(t: Totals, l: List, work: &mut Work) -> Totals {
 fn run_all(work: &mut Work) -> Totals {
     let mut t = list_totals::none();
     for s in 0..2000 {
-        let next = with_windows(t, lists::small(s), work);
+        let next = with_windows(t, &lists::small(s), work);
         t = next;
     }
     t
 }
 
-pub(crate) fn report(work: &mut Work) {
+pub(crate) fn report(rt: &impl Print, work: &mut Work) -> io::Result<()> {
     let t = run_all(work);
     let numbers = [t.lists, t.disagreements];
     print::report(
+        rt,
         b"\
 windows of lists, each replayed as a list of its own: #\n\
 with a disagreement: #\n\
 ",
         &numbers,
-    );
+    )
 }

@@ -54,7 +54,7 @@ fn call<'a>(
 }
 
 // Internal: the outcome of the call. Of the work table the required length must be 0 where it is accepted, and all else as before.
-pub fn run(l: List, lengths: Lengths, work: &mut Work) -> Replayed {
+pub fn run(l: &List, lengths: Lengths, work: &mut Work) -> Replayed {
     let sizes = l.sizes;
     let words = replay::required(sizes.n, sizes.m, sizes.t);
     calls::refill(work, words + 8);

@@ -2,6 +2,7 @@
 // the refusals.
 use crate::calls;
 use crate::calls::Work;
+use std::io;
 use test_cases::{ASKS, Case, Fault};
 use test_library::replays::{OPENS, Replayed};
 use test_library::{counts, print, replays};
@@ -9,7 +10,7 @@ use test_library::{counts, print, replays};
 fn replayed(c: Case, work: &mut Work) -> Replayed {
     let l = test_cases::make(c);
     let lengths = calls::lengths(l.sizes, c.short, c.long);
-    calls::run(l, lengths, work)
+    calls::run(&l, lengths, work)
 }
 
 // The number and the place of each case.
@@ -17,7 +18,7 @@ fn case_replies(work: &mut Work) -> [usize; 54] {
     let mut numbers = [0usize; 54];
     for i in 0..27 {
         let r = replayed(test_cases::case_at(i), work);
-        numbers[i * 2] = replays::code(r);
+        numbers[i * 2] = replays::code(&r);
         numbers[i * 2 + 1] = r.reply.place;
     }
     numbers
@@ -29,7 +30,7 @@ fn short_refused(work: &mut Work) -> usize {
     for i in 1..9 {
         let c = Case::path(0, OPENS, ASKS).with_fault(Fault::Short(i));
         let r = replayed(c, work);
-        count = counts::counted(count, replays::code(r) == 2);
+        count = counts::counted(count, replays::code(&r) == 2);
     }
     count
 }
@@ -38,7 +39,7 @@ fn short_refused(work: &mut Work) -> usize {
 fn first_counts(first: Fault, second: Fault, work: &mut Work) -> bool {
     let r = replayed(test_cases::pair(first, second), work);
     let want = test_cases::refusal_of(first);
-    (replays::code(r) == want.code) & (r.reply.place == want.place)
+    (replays::code(&r) == want.code) & (r.reply.place == want.place)
 }
 
 // How many pairs of the nine faults are refused by the first.
@@ -87,9 +88,10 @@ fn uneven_refused(work: &mut Work) -> usize {
     count
 }
 
-fn report_cases(work: &mut Work) {
+fn report_cases(rt: &impl Print, work: &mut Work) -> io::Result<()> {
     let numbers = case_replies(work);
     print::report(
+        rt,
         b"\
 4096 junctions, 8192 segments, 4096 events, reply: # at #\n\
 4097 junctions, reply: # at #\n\
@@ -120,12 +122,12 @@ of start and event: # at #\n\
 of event: # at #\n\
 ",
         &numbers,
-    );
+    )
 }
 
 // Internal: runs the cases, and prints their replies and counts.
-pub fn report(work: &mut Work) {
-    report_cases(work);
+pub fn report(rt: &impl Print, work: &mut Work) -> io::Result<()> {
+    report_cases(rt, work)?;
     let mut silent = Case::sized(4096, 8192, 0);
     silent.start[1] = 0;
     let r = replayed(silent, work).reply;
@@ -141,6 +143,7 @@ pub fn report(work: &mut Work) {
         uneven_refused(work),
     ];
     print::report(
+        rt,
         b"\
 no event and all but one segment open at the start, reply: # at #, returned: # # #\n\
 of 8 tables one entry short, refused by 2 with all entries kept: #\n\
@@ -149,5 +152,5 @@ of 5 tables one entry longer, alone and beside 8 other faults, refused by the fi
 of 35 pairs of a table one entry short and another one entry longer, refused by 2 so: #\n\
 ",
         &numbers,
-    );
+    )
 }

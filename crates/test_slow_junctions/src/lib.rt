@@ -1,6 +1,8 @@
 // Internal, for the tests alone: a slow and simple version of the sibling, from the words of document 02, No. 8: it takes each third junction away in turn, with
 // every segment that meets it. Which segments are open, the search and the refusals are those of the slow graphs and the slow replay. Nothing here calls the
 // product. Networks have at most 512 junctions and 512 segments, but for rings, which may have the full size.
+#![tactic(auto)]
+
 ghost use Rattle.std.specs.Prelude.{◌≤◌};
 
 use test_library::entries::Entries;
@@ -150,7 +152,7 @@ fn lengths_for_replay(sizes: Sizes, l: Lengths) -> Lengths {
 }
 
 // Internal: the outcome of a list whose tables have these lengths; on a ring of so many places, where places is not 0.
-pub fn reply(l: List, lengths: Lengths, places: usize) -> Wanted {
+pub fn reply(l: &List, lengths: Lengths, places: usize) -> Wanted {
     let replayed = replay::reply(l, lengths_for_replay(l.sizes, lengths), places);
     let by_roads = replayed.answers;
     let mut reply = replayed.reply;

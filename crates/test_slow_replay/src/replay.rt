@@ -415,7 +415,7 @@ fn list_reply<'a>(
 }
 
 // Internal: the outcome of a list whose tables have these lengths.
-pub fn reply(l: List, lengths: Lengths, places: usize) -> Replayed {
+pub fn reply(l: &List, lengths: Lengths, places: usize) -> Replayed {
     let code = frame_fault(l.sizes, lengths);
     if code > 0 {
         return refused(code, 0);

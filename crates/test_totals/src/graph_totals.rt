@@ -1,4 +1,5 @@
 // Counts of random graphs, and of what is met among them, so that the report shows that the comparison has seen it.
+use std::io;
 use test_library::contractions::{Graph, Small};
 use test_library::entries::Entries;
 use test_library::{counts, entries, print};
@@ -6,7 +7,7 @@ use test_library::{counts, entries, print};
 // All graphs; those on which the call disagrees; those that are refused by 2, 4 and 8; and those that are accepted, of which there are such with a kept class
 // without an active node; with two pieces or more; with entries that come back to a piece after another; with an active entry twice; with an active node without
 // an edge; and without an active entry. Then the edges out, those that stand for two edges or more, and those with the name 65535.
-#[derive(Drop)]
+#[derive(Clone, Copy)]
 pub struct Totals {
     pub graphs: usize,
     pub disagreements: usize,
@@ -88,7 +89,7 @@ fn has_return(k: usize, pieces: &Entries) -> bool {
 }
 
 // Counts an accepted graph by its active entries.
-fn with_entries(before: Totals, g: Graph) -> Totals {
+fn with_entries(before: Totals, g: &Graph) -> Totals {
     let mut t = before;
     let m = g.sizes.m;
     let k = g.sizes.k;
@@ -100,7 +101,7 @@ fn with_entries(before: Totals, g: Graph) -> Totals {
 }
 
 // Counts the small graph of k active entries.
-fn with_small(before: Totals, want: Small, k: usize) -> Totals {
+fn with_small(before: Totals, want: &Small, k: usize) -> Totals {
     let mut t = before;
     let edges = want.reply.edges;
     let first = entries::tally(&want.pieces, k, 0);
@@ -115,7 +116,7 @@ fn with_small(before: Totals, want: Small, k: usize) -> Totals {
 }
 
 // Internal: counts a graph, with the small graph that is wanted.
-pub fn add(before: Totals, g: Graph, want: Small, right: bool) -> Totals {
+pub fn add(before: Totals, g: &Graph, want: &Small, right: bool) -> Totals {
     let mut t = before;
     let code = want.reply.code;
     t.graphs = counts::plus(t.graphs, 1);
@@ -130,7 +131,7 @@ pub fn add(before: Totals, g: Graph, want: Small, right: bool) -> Totals {
 }
 
 // Internal: prints the counts.
-pub fn report(t: Totals) {
+pub fn report(rt: &impl Print, t: Totals) -> io::Result<()> {
     let numbers = [
         t.graphs,
         t.disagreements,
@@ -149,6 +150,7 @@ pub fn report(t: Totals) {
         t.by_eight,
     ];
     print::report(
+        rt,
         b"\
 random cases: #\n\
 disagreements: #\n\
@@ -167,5 +169,5 @@ by 4: #\n\
 by 8: #\n\
 ",
         &numbers,
-    );
+    )
 }

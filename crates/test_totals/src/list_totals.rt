@@ -1,4 +1,5 @@
 // Counts of lists on which a replay is compared with the slow one.
+use std::io;
 use test_library::entries::Entries;
 use test_library::replays::{Answers, CLOSES, Event, List, OPENS, Replayed, Sizes};
 use test_library::tables::Marks;
@@ -7,7 +8,7 @@ use test_slow_graphs::graphs;
 use test_slow_replay::{replay, roads};
 
 // How a list is tried: the places of the ring that it is on, or 0; the most events that such a list may have; and how many faults are planted in what is wanted.
-#[derive(Drop)]
+#[derive(Clone, Copy)]
 pub struct Trial {
     pub places: usize,
     pub most: usize,
@@ -17,7 +18,7 @@ pub struct Trial {
 // How many lists there are, have the most events, have no segment open at the start, all and some; on how many the replay disagrees with the slow one; how many
 // faults were planted and noticed. Then of the accepted ones the answers, each at its number, and kept; and the lists by their replies: the accepted ones at 0, the
 // refused ones at their number.
-#[derive(Drop)]
+#[derive(Clone, Copy)]
 pub struct Totals {
     pub lists: usize,
     pub full: usize,
@@ -36,7 +37,7 @@ pub struct Totals {
 
 // Of the accepted lists: those with a road of two or more segments, with one that is drawn in both orders, in which a segment opens while another one of its road
 // is open, and in which one closes so.
-#[derive(Drop)]
+#[derive(Clone, Copy)]
 pub struct RoadTotals {
     pub shared: usize,
     pub turned: usize,
@@ -46,7 +47,7 @@ pub struct RoadTotals {
 
 // Of the answers 1, but for rings: those that would be 2 if each segment were a road, that have the name of a closed segment, and where the loss of more than one
 // road parts the two junctions.
-#[derive(Drop)]
+#[derive(Clone, Copy)]
 pub struct OneTotals {
     pub twice_by_segments: usize,
     pub closed_name: usize,
@@ -223,8 +224,8 @@ fn with_accepted<'a>(
 // Internal: counts a list, with its outcome by the slow replay, whether another replay disagrees, and how many of the planted faults were noticed.
 pub fn add(
     before: Totals,
-    l: List,
-    want: Replayed,
+    l: &List,
+    want: &Replayed,
     trial: Trial,
     disagrees: bool,
     noticed: usize,
@@ -258,7 +259,7 @@ pub fn add(
 }
 
 // Internal: prints the counts. The replay has no refusal by 8, 9 and 10.
-pub fn report(t: Totals) {
+pub fn report(rt: &impl Print, t: Totals) -> io::Result<()> {
     let numbers = [
         t.lists,
         t.full,
@@ -289,6 +290,7 @@ pub fn report(t: Totals) {
         t.roads.closes_beside,
     ];
     print::report(
+        rt,
         b"\
 lists: #\n\
 of the most events: #\n\
@@ -319,19 +321,20 @@ in which a segment opens while another one of its road is open: #\n\
 in which a segment closes while another one of its road is open: #\n\
 ",
         &numbers,
-    );
+    )
 }
 
 // Internal: prints the counts of answers 1. On rings they are not counted.
-pub fn report_ones(t: Totals) {
+pub fn report_ones(rt: &impl Print, t: Totals) -> io::Result<()> {
     let ones = t.ones;
     let numbers = [ones.twice_by_segments, ones.closed_name, ones.several];
     print::report(
+        rt,
         b"\
 answers 1 that would be 2 if each segment were a road: #\n\
 with the name of a closed segment: #\n\
 with more than one road whose loss parts the two: #\n\
 ",
         &numbers,
-    );
+    )
 }
