@@ -3,7 +3,7 @@
  * the loss of a junction, the contraction, the check of sizes, the kind of an event, the
  * reader's call and the check number of answers. Each call is proved, for all inputs, to
  * return and to leave in the lent tables exactly what the definitions say
- * (crates/call_exports/src/lib.rt). Link the archive, which `bindings/archive`
+ * (crates/call_exports_c/src/lib.rt). Link the archive, which `bindings/archive`
  * writes to target/staticlib/libcall_exports.a and `bindings/c/install` puts beside this
  * header as liblumzhasel.a; it is for x86-64 Linux and needs only memcpy and memset of the
  * C library.

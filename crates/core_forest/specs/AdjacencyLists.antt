@@ -11,8 +11,7 @@ twin h = cond (eqb (h % 2) 0) (h + 1) (h - 1)
 unfoldable pub origin : (ℕ → ℕ) → ℕ → ℕ
 origin to h = to (twin h)
 
--- c is one more than the last half-edge below k that leaves v, and 0 where there is none; out says what each leaves. The places of a route, threaded by the
--- lower ends of their segments, are linked so too (evidence_routes)
+-- c is one more than the last half-edge below k that leaves v, and 0 where there is none
 pub record LastFrom (out : ℕ → ℕ) (v k c : ℕ) : Type 0 where
   pub below : c ≤ k
   pub at : 0 < c → out (c - 1) ≡ v

@@ -10,7 +10,7 @@ use Rattle.theory_graph.specs.SmallGraph.{read_off}
 use Rattle.theory_names.specs.Names.{Named, plain}
 use Rattle.replay_leaf.specs.Leaf.{byte_by}
 
--- the byte by the tag and the counts: each way out has one byte, whatever the other numbers are. The bytes are not spelled here, so that byte-read alone tells
+-- the byte by the tag and the counts: each way out has one byte, whatever the other numbers are. The bytes are not spelled here, so that byte_read alone tells
 -- whether they are the right ones
 module _ (tag nodes edges : ℕ) where
   pub byte_3 : ¬ (tag ≡ 0) → byte_by 1 0 0 ≡ byte_by tag nodes edges

@@ -1,6 +1,6 @@
 -- The least name is found along the way: the ends of an entry whose loss parts them hang on its name, and where z lies between x and y, x and y hang on the smaller of
 -- what x and z and what z and y hang on. This is what a pass over the forest of classes computes, from each class to the nearest kept class above it:
--- hangs-over is its step to a kept class, hangs-step its step over a class that is not kept; W is the part of the tree below the entry.
+-- hangs_over is its step to a kept class, hangs_step its step over a class that is not kept; W is the part of the tree below the entry.
 -- Assumes nothing.
 use Prim.Native.Nat.{◌≤◌, min, ℕ}
 use mathlib.Core.Bool.{◌||◌, false, not, true}

@@ -1,6 +1,6 @@
 -- The laws that show a reader that hangs is what document 02 says: at an answer 1 the smallest name of an entry whose loss parts the two;
 -- and that neither the order of the entries nor the way an edge is written matters, to names, named small graphs and contractions.
--- Elsewhere: 65,535 where the answer is not 1, hangs-none in proofs/Hangs; the smallest along a route, proofs/Trails and proofs/Along.
+-- Elsewhere: 65,535 where the answer is not 1, hangs_none in proofs/Hangs; the smallest along a route, proofs/Trails and proofs/Along.
 -- Assumes nothing.
 use Prim.Native.Nat.{◌*◌, ◌+◌, ◌≤◌, ℕ}
 use mathlib.Core.Bool.{Bool, false, not, true}

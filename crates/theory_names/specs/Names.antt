@@ -40,7 +40,7 @@ unfoldable pub class_node : ℕ → Named → List ℕ → ℕ → ℕ
 class_node n G S i = get_or (kept_classes n (plain G) S) i 0
 
 -- The contraction's edges with their names: each has the smallest name of an entry whose loss parts its two classes.
--- That this is the smallest along the route that the edge stands for is a law (proofs/Trails: edge-trail).
+-- That this is the smallest along the route that the edge stands for is a law (proofs/Trails: edge_trail).
 unfoldable pub contract_named : ℕ → Named → List ℕ → Named
 contract_named n G S = map (λ (e : Edge). (e, hangs G (class_node n G S e.0) (class_node n G S e.1))) (contract n (plain G) S).edges
 
