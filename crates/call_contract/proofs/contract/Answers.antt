@@ -1,10 +1,7 @@
 -- Where the check accepts, the contraction is that of a call without a fault; its refusal is the outcome's.
 -- Assumes nothing.
-use Rattle.call_contract.proofs.OutcomeLaws.{faultless, outcome_done, outcome_refused}
+use Rattle.call_contract.proofs.OutcomeLaws.{outcome_done, outcome_refused}
 use Rattle.call_contract.proofs.contract.Goals as goal
-
-pub contracted-requires : goal.contracted-requires
-contracted-requires c = faultless _ c.in_ok-check.ensures
 
 pub returns : goal.returns
 returns c = outcome_done _ c.in_ok-check.ensures c.contracted.ensures
