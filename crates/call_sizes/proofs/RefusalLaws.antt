@@ -1,21 +1,27 @@
 -- Laws of refusals: where a list of faults refuses nothing no test holds, and the other way round; and what the first number that passes a test says of
--- those before it.
+-- those before it. Then those of the code's refusals: checks that follow one another by `?`, and what a search answers.
 -- Assumes nothing.
 use Prim.Native.Nat.{◌+◌, ◌-◌, ◌<◌, ◌≤◌, suc, zero, ℕ}
 use mathlib.Core.Bool.{Bool, cond, false, not, true, ◌||◌}
 use mathlib.Core.List.{List, [], ◌++◌, ◌∷◌}
 use mathlib.Core.Logic.{◌↔◌}
-use mathlib.Core.Path.{◌∙◌, ◌≡◌, ap, refl}
+use mathlib.Core.Path.{◌∙◌, ◌≡◌, ap, refl, sym}
 use lib.Dec.{eqb, ltb}
-use lib.ListN.{get_or, length}
+use lib.ListN.{get_or, length, take}
+use lib.Seq.{length-take-le}
 use native.Mathlib.Numerals.{add-one}
 use native.Mathlib.Omega.{arith}
-use borrow.Author.Tests.{eqb-false, eqb-true, le-leb, le-ltb, lt-leb, lt-ltb, ltb-false}
-use Rattle.std.specs.Prelude.{None, Option, Some, position}
+use borrow.Author.Tests.{eqb-false, eqb-true, le-leb, le-ltb, lt-leb, lt-ltb, ltb-false, ne_eqb}
+use Rattle.std.specs.Prelude.{IsErrAnd, None, Option, Result, Some, position}
 use Rattle.std.specs.List.{list_any, prefix_len}
+use Rattle.std.proofs.lemmas.List.{get_or-take}
+use Rattle.std.proofs.lemmas.Result.{err_from_is_err_and}
 use Rattle.theory_graph.proofs.Booleans.{on_bool}
-use Rattle.call_sizes.specs.Refusal.{Refusal, Row, bad_ends, bad_start, below_rows, first_fault, first_of, long_rows, row, seek, short_rows}
+use Rattle.call_sizes.specs.Numbers.{number_of, numbers_of, refused_by}
+use Rattle.call_sizes.specs.Refusal.{Refusal, Row, bad_ends, below_rows, first_fault, first_of, long_rows, row, seek, short_rows}
 use Rattle.call_sizes.specs.Sizes.{size_faults}
+use Rattle.call_sizes.specs.declared.Refusal as declared
+use Rattle.call_sizes.specs.declared.Refusal.TheVariants.{ClosesClosed, End, Entry, InputLength, LongTable, NamesNothing, OpensOpen, ProgramLimit, Share, ShortTable, Size, Start}
 
 -- ---- faults
 -- no test holds
@@ -112,6 +118,37 @@ fault_right rs bs n z = skip_silent rs bs (fault_silent rs n z)
 pub sizes_numbered : (n m t k : ℕ) → Numbered (size_faults n m t k)
 sizes_numbered n m t k = (λ h. omega arith, (λ h. omega arith, (λ h. omega arith, (λ h. omega arith, tt))))
 
+-- ---- checks one behind the other, as `?` chains them
+-- a refusal's number is not 0
+pub number_positive : (r : declared.Refusal) → 0 < number_of r
+number_positive Size = omega arith
+number_positive ShortTable = omega arith
+number_positive Share = omega arith
+number_positive (End s) = omega arith
+number_positive (NamesNothing i) = omega arith
+number_positive (OpensOpen i) = omega arith
+number_positive (ClosesClosed i) = omega arith
+number_positive (Entry i) = omega arith
+number_positive InputLength = omega arith
+number_positive ProgramLimit = omega arith
+number_positive (Start s) = omega arith
+number_positive LongTable = omega arith
+
+pub number_refuses : (r : declared.Refusal) → eqb (number_of r) 0 ≡ false
+number_refuses r = ne_eqb (number_of r) 0 (λ z. omega (arith, number_positive r))
+
+-- where the first check refuses, so does the whole list, by the same
+pub first_refuses : (rs bs : List Row) (r : declared.Refusal) → numbers_of r ≡ first_fault rs → numbers_of r ≡ first_fault (rs ++ bs)
+first_refuses rs bs r e = e ∙ sym (fault_left rs bs (λ z. let f = ap (λ (f : Refusal). f.0) e in omega (arith, number_positive r)))
+
+-- where it does not, the rest decides
+pub rest_decides : (rs bs : List Row) {f : Refusal} → Numbered rs → (0, 0) ≡ first_fault rs → f ≡ first_fault bs → f ≡ first_fault (rs ++ bs)
+rest_decides rs bs n z e = e ∙ sym (fault_right rs bs n (ap (λ (f : Refusal). f.0) (sym z)))
+
+-- what `?` hands on is the refusal that it was handed
+pub passed_on : {T : Type 0} (r : Result T declared.Refusal) (e : declared.Refusal) → IsErrAnd r (λ d. d ≡ e) → refused_by r ≡ numbers_of e
+passed_on r e h = let p = err_from_is_err_and r h in rw (p.1, p.2) refl
+
 -- ---- the first that passes
 -- what is found passes
 pub seek_found : (f : ℕ → Bool) (i k : ℕ) → seek f i k < i + k → f (seek f i k) ≡ true
@@ -188,9 +225,17 @@ seek_prefix p (x ∷ xs) = rw (seek_suc (λ s. p (get_or (x ∷ xs) s 0)) 0 (len
     go true c = refl
     go false c = omega arith
 
--- the first starting entry above 1
-pub start_first : (xs : List ℕ) → position (λ entry. ltb 1 entry) xs ≡ first_of (bad_start xs) (length xs)
-start_first xs = rw (← seek_prefix (λ entry. ltb 1 entry) xs) refl
+pub position_first : (p : ℕ → Bool) (xs : List ℕ) → position p xs ≡ first_of (λ s. p (get_or xs s 0)) (length xs)
+position_first p xs = rw (← seek_prefix p xs) refl
+
+-- the first of k entries
+seek_same : (f g : ℕ → Bool) (i k : ℕ) → ((j : ℕ) → j < i + k → f j ≡ g j) → seek f i k ≡ seek g i k
+seek_same f g i zero h = refl
+seek_same f g i (suc k) h = rw (h i (omega arith), seek_same f g (i + 1) k (λ j l. h j (omega arith))) refl
+
+pub position_take : (p : ℕ → Bool) (xs : List ℕ) (k : ℕ) → k ≤ length xs → position p (take k xs) ≡ first_of (λ s. p (get_or xs s 0)) k
+position_take p xs k l =
+    position_first p (take k xs) ∙ rw (length-take-le k xs l, seek_same (λ s. p (get_or (take k xs) s 0)) (λ s. p (get_or xs s 0)) 0 k (λ j m. ap p (get_or-take k xs j 0 (omega arith)))) refl
 
 -- what a check refuses by, from what its search answers
 module _ (f : ℕ → Bool) (m c : ℕ) where
