@@ -55,8 +55,8 @@ use Rattle.replay_checks.proofs.SetLaws.{StartsBelow, event_stays, event_stored,
 use Rattle.replay_checks.specs.Check.{CanCheckList, CheckedEvents, CheckedList, CheckedTables, EventFits, SizesFit, bound_faults, event_row, events_fault, fault_of, tables_of}
 
 -- what a `?` returns is the refusal that it met
-pub passed_on : {T : Type 0} (r : Result T declared.Refusal) (e : declared.Refusal) → IsErrAnd r (λ d. d ≡ e) → r ≡ Err e
-passed_on r e h = let (d, is, same) = err_from_is_err_and r h in is ∙ ap Err same
+pub refusal_returned : {T : Type 0} (r : Result T declared.Refusal) (e : declared.Refusal) → IsErrAnd r (λ d. d ≡ e) → r ≡ Err e
+refusal_returned r e h = let (d, is, same) = err_from_is_err_and r h in is ∙ ap Err same
 
 -- what holds below s and at s holds below s + 1
 pub below_next : (f : ℕ → Bool) (s : ℕ) → ((u : ℕ) → u < s → f u ≡ false) → f s ≡ false → (u : ℕ) → u < s + 1 → f u ≡ false

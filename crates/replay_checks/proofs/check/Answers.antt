@@ -1,14 +1,14 @@
 -- The lengths and the share, then the list.
 -- Assumes nothing.
 use Rattle.std.proofs.Common.{subst, sym}
-use Rattle.replay_checks.proofs.CheckLaws.{bounds_refused, can_check, list_checked, passed_on}
+use Rattle.replay_checks.proofs.CheckLaws.{bounds_refused, can_check, list_checked, refusal_returned}
 use Rattle.replay_checks.specs.Check.{CheckedTables}
 use Rattle.replay_checks.proofs.check.Goals as goal
 
 pub returns-in_err-check_bounds : goal.returns-in_err-check_bounds
 returns-in_err-check_bounds c =
     let a = c.args in
-    subst (CheckedTables _ _ _) (sym (passed_on _ _ c.from_residual.ensures.1)) (bounds_refused a.own.now a.l a.answers.now a.l.p c.requires c.in_err-check_bounds.ensures)
+    subst (CheckedTables _ _ _) (sym (refusal_returned _ _ c.from_residual.ensures.1)) (bounds_refused a.own.now a.l a.answers.now a.l.p c.requires c.in_err-check_bounds.ensures)
 
 pub check_list-requires : goal.check_list-requires
 check_list-requires c = let a = c.args in can_check a.own.now a.l a.answers.now a.l.p c.requires c.in_ok-check_bounds.ensures

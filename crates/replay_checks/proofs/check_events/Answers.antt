@@ -1,7 +1,7 @@
 -- Event by event; the set changes as the event says.
 -- Assumes nothing.
 use Rattle.std.proofs.Common.{◌∙◌, inl, inr, length-append, subst, sym}
-use Rattle.replay_checks.proofs.CheckLaws.{all_met, event_fits, event_met, event_passes, event_refused, events_pass, passed_on, set_closed, set_kept, set_opened}
+use Rattle.replay_checks.proofs.CheckLaws.{all_met, event_fits, event_met, event_passes, event_refused, events_pass, refusal_returned, set_closed, set_kept, set_opened}
 use Rattle.replay_checks.specs.Check.{CheckedEvents}
 use Rattle.replay_checks.proofs.check_events.Goals as goal
 
@@ -9,7 +9,7 @@ pub returns-in_err-check_event : goal.returns-in_err-check_event
 returns-in_err-check_event c =
     let l = c.args.l in
     let e = event_met l.x.now l.y.now c.into_iter-i-iterator.result (cc) (cc) (cc) c.loop-i.yielded c.loop-i.i-iterator c.next.new.self c.loop-i.yielded_by _ c.next.ensures.steps _ c.in-Some.is in
-    subst (CheckedEvents _ _ _ _ _) (sym (passed_on _ _ c.from_residual.ensures.1)) (event_refused c.requires c.loop-i.invariant e c.in_err-check_event.ensures)
+    subst (CheckedEvents _ _ _ _ _) (sym (refusal_returned _ _ c.from_residual.ensures.1)) (event_refused c.requires c.loop-i.invariant e c.in_err-check_event.ensures)
 
 pub loop-i-preserved-in-Opens : goal.loop-i-preserved-in-Opens
 loop-i-preserved-in-Opens c =
