@@ -7,8 +7,10 @@ use mathlib.Core.Path.{◌∙◌, ◌≡◌, ap, refl, subst, sym}
 use lib.ListN.{drop, length, replicate, take}
 use native.Mathlib.Omega.{arith}
 use borrow.Author.Tests.{ne_eqb}
+use Rattle.std.specs.Prelude.{Err, Ok}
 use Rattle.call_sizes.specs.Refusal.{Refusal}
-use Rattle.replay_checks.specs.declared.Checked.{Checked}
+use Rattle.call_sizes.specs.declared.Refusal as declared
+use Rattle.call_sizes.proofs.RefusalLaws.{number_positive}
 use Rattle.replay_events.specs.Kinds.{queries_by}
 use Rattle.replay_events.specs.Writing.{EventsWritten, list_of}
 use Rattle.replay_start.proofs.ListLaws.{area_in, inside, list_ready_of, queries_are, table_is, whole_ready, window_ready}
@@ -23,7 +25,6 @@ use Rattle.theory_timeline.specs.Call.{outcome}
 use Rattle.theory_timeline.specs.DemandThree.{KeepsDemand3}
 use Rattle.theory_timeline.specs.Replay.{Faultless, Lent, Outcome, byte, bytes, done, fault, faults, given, name_at, names_at, open_at_end, queries, refused, replay, required}
 use Rattle.theory_timeline.specs.Windows.{kept, small, windows, windows_from}
-use Rattle.theory_timeline.specs.declared.ReplayReply.TheVariants.{Done, Refused}
 use Rattle.call_replay.specs.List.{ListReady, ListReplied, ReplayChecked}
 
 -- ---- the list
@@ -102,7 +103,7 @@ module _ (l : Lent) (p : ℕ) (f : Faultless l p) where
     names_is = replied.names ∙ table_is l p granted.list (name_at (given l)) l.names (omega (arith, names_length l p granted.list, granted.names_long))
 
     pub done_is : {cleared' : List ℕ} (zs : List ℕ) (q o : ℕ) → q ≡ queries_by l.n l.x l.t → o ≡ open_at_end (given l) → length zs ≡ length (take need l.work)
-        → cleared' ≡ over (replicate need 0) (zs ++ drop need l.work) → outcome (Done (record { queries = q; «open» = o; kept = kept' })) after.answers after.names cleared' ≡ done l p
+        → cleared' ≡ over (replicate need 0) (zs ++ drop need l.work) → outcome (Ok (record { queries = q; «open» = o; kept = kept' })) after.answers after.names cleared' ≡ done l p
     unfolding done kept windows queries
     done_is {cleared'} zs q o eq eo lz ew =
         let e1 = eq ∙ queries_are l p granted.list in
@@ -118,37 +119,37 @@ Promise l p r = (r ≡ replay l p) × KeepsDemand3 l p r
 promise : (l : Lent) (p : ℕ) (r : Outcome) → r ≡ replay l p → Promise l p r
 promise l p r e = (e, λ k q a b. demand_3 l k p q a b r (replay k q) e refl)
 
-pub refused_is : (l : Lent) (p : ℕ) {r : Checked} → ReplayChecked l p r → 0 < r.code → Promise l p (outcome (Refused r.code r.place) l.answers l.names l.work)
+pub refused_is : (l : Lent) (p : ℕ) {r : declared.Refusal} → ReplayChecked l p (Err r) → Promise l p (outcome (Err r) l.answers l.names l.work)
 unfolding replay refused fault faults
-refused_is l p {r} c h = promise l p _ (ap (λ (f : Refusal). refused l f) c.refusal
+refused_is l p {r} c = promise l p _ (ap (λ (f : Refusal). refused l f) c.refusal
     ∙ sym (ap (λ (b : Bool). elim b as (λ x. Outcome) [ true ↦ done l p | false ↦ refused l (fault l p) ])
-    (ne_eqb (fault l p).0 0 (λ z. omega (arith, ap (λ (f : Refusal). f.0) c.refusal)))))
+    (ne_eqb (fault l p).0 0 (λ z. omega (arith, number_positive r, ap (λ (f : Refusal). f.0) c.refusal)))))
 
-pub faultless : {l : Lent} {p : ℕ} {r : Checked} → ReplayChecked l p r → r.code ≡ 0 → Faultless l p
+pub faultless : {l : Lent} {p o : ℕ} → ReplayChecked l p (Ok o) → Faultless l p
 unfolding fault faults
-faultless c z = sym (ap (λ (f : Refusal). f.0) c.refusal) ∙ z
+faultless c = sym (ap (λ (f : Refusal). f.0) c.refusal)
 
 pub replayed : (l : Lent) (p : ℕ) (r : Outcome) → Faultless l p → r ≡ done l p → Promise l p r
 replayed l p r f e = promise l p r (e ∙ sym (accepted_done l p f))
 
 -- ---- where the check finds nothing
-module _ {l : Lent} {p : ℕ} {r : Checked} (c : ReplayChecked l p r) (z : r.code ≡ 0) where
+module _ {l : Lent} {p o : ℕ} (c : ReplayChecked l p (Ok o)) where
   pub grants : AcceptedList l p
-  grants = (granted l p (faultless c z)).list
+  grants = (granted l p (faultless c)).list
 
   module _ (k : ℕ) (e : k ≡ required l.t l.n l.m) where
     pub work_need : k ≤ length l.work
-    work_need = omega (arith, (granted l p (faultless c z)).work_long)
+    work_need = omega (arith, (granted l p (faultless c)).work_long)
 
     pub list_ready : ReadyOf l p k
-    list_ready = rw e (list_need l p (faultless c z))
+    list_ready = rw e (list_need l p (faultless c))
 
     module _ {after : Written} {kept' : ℕ} (d : RepliedOf l p after kept') where
       pub replay_is : {cleared : List ℕ} (zs : List ℕ) (q : ℕ) → q ≡ queries_by l.n l.x l.t → length zs ≡ length (take k l.work)
           → cleared ≡ over (replicate k 0) (zs ++ drop k l.work)
-          → Promise l p (outcome (Done (record { queries = q; «open» = r.«open»; kept = kept' })) after.answers after.names cleared)
+          → Promise l p (outcome (Ok (record { queries = q; «open» = o; kept = kept' })) after.answers after.names cleared)
       unfolding fault faults
       replay_is zs q eq lz ew =
-          let f = faultless c z in
-          replayed l p _ f (done_is l p f d zs q r.«open» eq (c.open_last f) (lz ∙ ap (λ (n : ℕ). length (take n l.work)) e)
+          let f = faultless c in
+          replayed l p _ f (done_is l p f d zs q o eq (c.open_last) (lz ∙ ap (λ (n : ℕ). length (take n l.work)) e)
           (ew ∙ ap (λ (n : ℕ). over (replicate n 0) (zs ++ drop n l.work)) e))

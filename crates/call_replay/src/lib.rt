@@ -9,7 +9,8 @@ ghost use Rattle.theory_timeline.specs.Call.{lent, outcome};
 ghost use Rattle.theory_timeline.specs.DemandThree.{KeepsDemand3};
 ghost use Rattle.theory_timeline.specs.Replay.{replay};
 
-use theory_timeline::ReplayReply;
+use call_sizes::Refusal;
+use theory_timeline::{EventList, Totals};
 
 // The replay of t events over n junctions and m segments, with the share p; the segments with 1 in `start` are open before the first event. Its outcome is
 // the one that the definition gives for what it is lent; and with any other lending k and any two allowed shares it meets demand 3.
@@ -26,24 +27,32 @@ pub fn replay(
     answers: &mut [u8],
     names: &mut [u16],
     work: &mut [u32],
-) -> ReplayReply
+) -> Result<Totals, Refusal>
     ensures as_defined { outcome result answers.new names.new work.new ≡ replay
         (lent n m t a.now b.now start.now x.now y.now
         answers.old names.old work.old) p }
     ensures keeps_demand3 { KeepsDemand3 (lent n m t a.now b.now start.now x.now y.now
         answers.old names.old work.old) p (outcome result answers.new names.new work.new) }
 {
-    let f = checks::check(n, m, t, p, a, b, start, x, y, answers, names, work);
-    if f.code > 0 {
-        return ReplayReply::Refused(f.code, f.place);
-    }
+    let list = EventList {
+        n,
+        m,
+        t,
+        p,
+        a,
+        b,
+        start,
+        x,
+        y,
+    };
+    let open_at_end = checks::check(list, answers, names, work)?;
     let need = checks::required(t, n, m);
     let kept = list::replay_list(n, p, a, b, start, x, y, answers, names, &mut work[..need]);
     let queries = replay_events::count_queries(n, x, t);
     core_words::clear(work, need);
-    ReplayReply::Done(theory_timeline::Totals {
-        queries: queries,
-        open: f.open,
-        kept: kept,
+    Ok(Totals {
+        queries,
+        open: open_at_end,
+        kept,
     })
 }

@@ -8,8 +8,10 @@ use lib.ListN.{drop, length, replicate, take}
 use lib.Seq.{sets}
 use native.Mathlib.Omega.{arith}
 use borrow.Author.Tests.{ne_eqb}
+use Rattle.std.specs.Prelude.{Err, Ok}
+use Rattle.call_sizes.proofs.RefusalLaws.{number_positive}
 use Rattle.call_sizes.specs.Refusal.{Refusal}
-use Rattle.replay_checks.specs.declared.Checked.{Checked}
+use Rattle.call_sizes.specs.declared.Refusal as declared
 use Rattle.replay_events.specs.Kinds.{queries_by}
 use Rattle.replay_events.specs.Writing.{EventsWritten, list_of}
 use Rattle.replay_start.proofs.ListLaws.{area_in, inside, list_ready_of, queries_are, table_is, whole_ready, window_ready}
@@ -23,7 +25,6 @@ use Rattle.theory_junction_timeline.specs.JunctionCall.{junction_outcome}
 use Rattle.theory_junction_timeline.specs.JunctionDemand.{KeepsJunctionDemand}
 use Rattle.theory_junction_timeline.specs.JunctionReplay.{JunctionFaultless, JunctionOutcome, junction_byte, junction_bytes, junction_done, junction_fault, junction_refused, junction_required}
 use Rattle.theory_junction_timeline.specs.JunctionReplay.{replay_junctions}
-use Rattle.theory_junction_timeline.specs.declared.JunctionReply.TheVariants.{Done, Refused}
 use Rattle.junction_start.specs.JunctionWhole.{JunctionWholeMade, JunctionWholeReady}
 use Rattle.junction_windows.specs.JunctionDescent.{JunctionWindowDone, JunctionWindowReady, junction_window_words}
 use Rattle.call_replay_junctions.specs.JunctionList.{JunctionChecked, JunctionListReady, JunctionListReplied}
@@ -93,7 +94,7 @@ module _ (l : Lent) (p : ℕ) (f : JunctionFaultless l p) where
         replied ∙ table_is l p granted.list (junction_byte (given l)) l.answers (omega (arith, junction_bytes_length l p granted.list, granted.list.answers_long))
 
     done_is : {cleared' : List ℕ} (zs : List ℕ) (q o : ℕ) → q ≡ queries_by l.n l.x l.t → o ≡ open_at_end (given l) → length zs ≡ length (take need l.work)
-        → cleared' ≡ over (replicate need 0) (zs ++ drop need l.work) → junction_outcome (Done (record { queries = q; «open» = o })) after cleared' ≡ junction_done l
+        → cleared' ≡ over (replicate need 0) (zs ++ drop need l.work) → junction_outcome (Ok (record { queries = q; «open» = o })) after cleared' ≡ junction_done l
     unfolding junction_done queries
     done_is {cleared'} zs q o eq eo lz ew =
         let e1 = eq ∙ queries_are l p granted.list in
@@ -108,33 +109,33 @@ Promise l p r = (r ≡ replay_junctions l p) × KeepsJunctionDemand l p r
 promise : (l : Lent) (p : ℕ) (r : JunctionOutcome) → r ≡ replay_junctions l p → Promise l p r
 promise l p r e = (e, λ k q a b. junction_demand l k p q a b r (replay_junctions k q) e refl)
 
-pub refused_is : (l : Lent) (p : ℕ) {r : Checked} → JunctionChecked l p r → 0 < r.code → Promise l p (junction_outcome (Refused r.code r.place) l.answers l.work)
+pub refused_is : (l : Lent) (p : ℕ) {r : declared.Refusal} → JunctionChecked l p (Err r) → Promise l p (junction_outcome (Err r) l.answers l.work)
 unfolding replay_junctions junction_refused junction_fault
-refused_is l p {r} c h = promise l p _ (ap (λ (f : Refusal). junction_refused l f) c.refusal
+refused_is l p {r} c = promise l p _ (ap (λ (f : Refusal). junction_refused l f) c.refusal
     ∙ sym (ap (λ (b : Bool). elim b as (λ x. JunctionOutcome) [ true ↦ junction_done l | false ↦ junction_refused l (junction_fault l p) ])
-    (ne_eqb (junction_fault l p).0 0 (λ z. omega (arith, ap (λ (f : Refusal). f.0) c.refusal)))))
+    (ne_eqb (junction_fault l p).0 0 (λ z. omega (arith, number_positive r, ap (λ (f : Refusal). f.0) c.refusal)))))
 
-faultless : {l : Lent} {p : ℕ} {r : Checked} → JunctionChecked l p r → r.code ≡ 0 → JunctionFaultless l p
+faultless : {l : Lent} {p o : ℕ} → JunctionChecked l p (Ok o) → JunctionFaultless l p
 unfolding junction_fault
-faultless c z = sym (ap (λ (f : Refusal). f.0) c.refusal) ∙ z
+faultless c = sym (ap (λ (f : Refusal). f.0) c.refusal)
 
 -- ---- where the check finds nothing
-module _ {l : Lent} {p : ℕ} {r : Checked} (c : JunctionChecked l p r) (z : r.code ≡ 0) where
+module _ {l : Lent} {p o : ℕ} (c : JunctionChecked l p (Ok o)) where
   pub grants : AcceptedList l p
-  grants = (granted l p (faultless c z)).list
+  grants = (granted l p (faultless c)).list
 
   module _ (k : ℕ) (e : k ≡ junction_required l.t l.n l.m) where
     pub work_need : k ≤ length l.work
-    work_need = omega (arith, (granted l p (faultless c z)).work_long)
+    work_need = omega (arith, (granted l p (faultless c)).work_long)
 
     pub list_ready : ReadyOf l p k
-    list_ready = rw e (list_need l p (faultless c z))
+    list_ready = rw e (list_need l p (faultless c))
 
     module _ {after : List ℕ} (d : RepliedOf l after) where
       pub replay_is : {cleared : List ℕ} (zs : List ℕ) (q : ℕ) → q ≡ queries_by l.n l.x l.t → length zs ≡ length (take k l.work)
-          → cleared ≡ over (replicate k 0) (zs ++ drop k l.work) → Promise l p (junction_outcome (Done (record { queries = q; «open» = r.«open» })) after cleared)
+          → cleared ≡ over (replicate k 0) (zs ++ drop k l.work) → Promise l p (junction_outcome (Ok (record { queries = q; «open» = o })) after cleared)
       unfolding junction_fault
       replay_is zs q eq lz ew =
-          let f = faultless c z in
-          promise l p _ (done_is l p f d zs q r.«open» eq (c.open_last f) (lz ∙ ap (λ (n : ℕ). length (take n l.work)) e)
+          let f = faultless c in
+          promise l p _ (done_is l p f d zs q o eq c.open_last (lz ∙ ap (λ (n : ℕ). length (take n l.work)) e)
           (ew ∙ ap (λ (n : ℕ). over (replicate n 0) (zs ++ drop n l.work)) e) ∙ sym (junction_done_lem l p f))

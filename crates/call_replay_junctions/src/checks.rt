@@ -1,8 +1,11 @@
 // The checks of the sibling: the sizes, then all else, with the length of its own work table; it has no name table.
-ghost use Rattle.std.specs.Prelude.{◌≡◌, ◌≤◌};
-ghost use Rattle.theory_junction_timeline.specs.JunctionCall.{junction_lent};
+ghost use Rattle.std.specs.Prelude.{[], ◌≡◌, ◌≤◌};
+ghost use Rattle.theory_timeline.specs.Call.{lent_of};
 ghost use Rattle.theory_junction_timeline.specs.JunctionReplay.{junction_required};
 ghost use Rattle.call_replay_junctions.specs.JunctionList.{JunctionChecked};
+
+use call_sizes::{Refusal, Sizes};
+use theory_timeline::EventList;
 
 // The required length of the work table.
 pub(crate) fn required(t: usize, n: usize, m: usize) -> usize
@@ -12,32 +15,12 @@ pub(crate) fn required(t: usize, n: usize, m: usize) -> usize
     1024 * t + 32 * n + 8 * m + 2048
 }
 
-// The first fault of all.
-pub(crate) fn check(
-    n: usize,
-    m: usize,
-    t: usize,
-    p: usize,
-    a: &[u16],
-    b: &[u16],
-    start: &[u16],
-    x: &[u16],
-    y: &[u16],
-    answers: &[u8],
-    work: &[u32],
-) -> replay_checks::Checked
-    ensures { JunctionChecked (junction_lent n m t a.now b.now start.now x.now y.now
-        answers.now work.now) p result }
+// The first fault of all; where there is none, how many segments are open at the end.
+pub(crate) fn check(l: EventList, answers: &[u8], work: &[u32]) -> Result<usize, Refusal>
+    ensures { JunctionChecked (lent_of l.entry answers.now [] work.now) l.entry.p result }
 {
-    let f = call_sizes::size_fault(n, m, t, 0);
-    if f.code > 0 {
-        return replay_checks::Checked {
-            code: f.code,
-            place: f.place,
-            open: 0,
-        };
-    }
-    // Two by two: the length of each table, and the least that it must have.
-    let own = [work.len(), required(t, n, m)];
-    replay_checks::check(n, m, t, p, a, b, start, x, y, answers, &own)
+    Sizes::check(l.n, l.m, l.t, 0)?;
+    // The length of the table, and the least that it must have.
+    let own = [(work.len(), required(l.t, l.n, l.m))];
+    replay_checks::check(l, answers, &own)
 }

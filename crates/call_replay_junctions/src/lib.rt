@@ -9,7 +9,9 @@ ghost use Rattle.theory_junction_timeline.specs.JunctionCall.{junction_lent, jun
 ghost use Rattle.theory_junction_timeline.specs.JunctionDemand.{KeepsJunctionDemand};
 ghost use Rattle.theory_junction_timeline.specs.JunctionReplay.{replay_junctions};
 
-use theory_junction_timeline::JunctionReply;
+use call_sizes::Refusal;
+use theory_junction_timeline::JunctionTotals;
+use theory_timeline::EventList;
 
 // The replies by the loss of a junction to t events over n junctions and m segments, with the share p; the segments with 1 in `start` are open before the
 // first event. Its outcome is the one that the definition gives for what it is lent; and with any other lending and any two allowed shares it keeps what is
@@ -26,23 +28,31 @@ pub fn replay_junctions(
     y: &[u16],
     answers: &mut [u8],
     work: &mut [u32],
-) -> JunctionReply
+) -> Result<JunctionTotals, Refusal>
     ensures as_defined { junction_outcome result answers.new work.new ≡ replay_junctions
         (junction_lent n m t a.now b.now start.now x.now y.now answers.old work.old) p }
     ensures keeps_junction_demand { KeepsJunctionDemand
         (junction_lent n m t a.now b.now start.now x.now y.now answers.old work.old) p
         (junction_outcome result answers.new work.new) }
 {
-    let f = checks::check(n, m, t, p, a, b, start, x, y, answers, work);
-    if f.code > 0 {
-        return JunctionReply::Refused(f.code, f.place);
-    }
+    let list = EventList {
+        n,
+        m,
+        t,
+        p,
+        a,
+        b,
+        start,
+        x,
+        y,
+    };
+    let open_at_end = checks::check(list, answers, work)?;
     let need = checks::required(t, n, m);
     list::replay_list(n, p, a, b, start, x, y, answers, &mut work[..need]);
     let queries = replay_events::count_queries(n, x, t);
     core_words::clear(work, need);
-    JunctionReply::Done(theory_junction_timeline::JunctionTotals {
-        queries: queries,
-        open: f.open,
+    Ok(JunctionTotals {
+        queries,
+        open: open_at_end,
     })
 }

@@ -1,20 +1,27 @@
 -- Laws of refusals: where a list of faults refuses nothing no test holds, and the other way round; and what the first number that passes a test says of
--- those before it.
+-- those before it. Then those of the code's refusals: checks that follow one another by `?`, and what a search answers.
 -- Assumes nothing.
-use Prim.Native.Nat.{◌*◌, ◌+◌, ◌-◌, ◌/◌, ◌<◌, ◌≤◌, suc, zero, ℕ}
-use mathlib.Core.Bool.{Bool, cond, false, true}
+use Prim.Native.Nat.{◌+◌, ◌-◌, ◌<◌, ◌≤◌, suc, zero, ℕ}
+use mathlib.Core.Bool.{Bool, cond, false, not, true, ◌||◌}
 use mathlib.Core.List.{List, [], ◌++◌, ◌∷◌}
 use mathlib.Core.Logic.{◌↔◌}
-use mathlib.Core.Path.{◌∙◌, ◌≡◌, ap, refl}
+use mathlib.Core.Path.{◌∙◌, ◌≡◌, ap, refl, sym}
 use lib.Dec.{eqb, ltb}
-use lib.ListN.{drop, get_or, length, length-drop}
-use lib.Seq.{drop-cons}
+use lib.ListN.{get_or, length, take}
+use lib.Seq.{length-take-le}
 use native.Mathlib.Numerals.{add-one}
 use native.Mathlib.Omega.{arith}
-use borrow.Author.Tests.{eqb-false, eqb-true, le-leb, le-ltb, lt-leb, lt-ltb, ltb-false}
+use borrow.Author.Tests.{eqb-false, eqb-true, le-ltb, lt-leb, ltb-false, ne_eqb}
+use Rattle.std.specs.Prelude.{IsErrAnd, None, Option, Result, Some, position}
+use Rattle.std.specs.List.{list_any, prefix_len}
+use Rattle.std.proofs.lemmas.List.{get_or-take}
+use Rattle.std.proofs.lemmas.Result.{err_from_is_err_and}
 use Rattle.theory_graph.proofs.Booleans.{on_bool}
-use Rattle.call_sizes.specs.Refusal.{Row, bad_ends, below_rows, by_two, first_fault, long_rows, seek, short_rows}
+use Rattle.call_sizes.specs.Numbers.{number_of, numbers_of, refused_by}
+use Rattle.call_sizes.specs.Refusal.{Refusal, Row, bad_ends, below_rows, first_fault, first_of, long_rows, row, seek, short_rows}
 use Rattle.call_sizes.specs.Sizes.{size_faults}
+use Rattle.call_sizes.specs.declared.Refusal as declared
+use Rattle.call_sizes.specs.declared.Refusal.TheVariants.{ClosesClosed, End, Entry, InputLength, LongTable, NamesNothing, OpensOpen, ProgramLimit, Share, ShortTable, Size, Start}
 
 -- ---- faults
 -- no test holds
@@ -81,29 +88,15 @@ accepted_long ts z = (below_long 2 ts).0 (fault_silent (short_rows ts) (short_nu
 pub long_numbered : (ts : List (ℕ × ℕ)) → Numbered (long_rows ts)
 long_numbered = below_numbered 12 (omega arith)
 
--- ---- the loop over the pairs
-module _ (c : ℕ) (xs : List ℕ) (i : ℕ) where
-  two_at : i < length xs / 2 → drop (2 * i) xs ≡ get_or xs (2 * i) 0 ∷ get_or xs (2 * i + 1) 0 ∷ drop (2 * (i + 1)) xs
-  two_at l =
-      let e : 2 * (i + 1) ≡ suc (suc (2 * i)) = omega arith in
-      let a : 2 * i < length xs = omega arith in
-      let b : suc (2 * i) < length xs = omega arith in
-      rw (e, add-one, drop-cons xs (2 * i) 0, drop-cons xs (suc (2 * i)) 0)
-
-  pub below_here : i < length xs / 2 → get_or xs (2 * i) 0 < get_or xs (2 * i + 1) 0 → first_fault (below_rows c (by_two (drop (2 * i) xs))) ≡ (c, 0)
-  below_here l h = rw (two_at l, lt-ltb (get_or xs (2 * i) 0) (get_or xs (2 * i + 1) 0) h) refl
-
-  pub below_more : i < length xs / 2 → get_or xs (2 * i + 1) 0 ≤ get_or xs (2 * i) 0
-      → first_fault (below_rows c (by_two (drop (2 * i) xs))) ≡ first_fault (below_rows c (by_two (drop (2 * (i + 1)) xs)))
-  below_more l h = rw (two_at l, le-ltb (get_or xs (2 * i) 0) (get_or xs (2 * i + 1) 0) h) refl
-
-  pub below_past : length xs / 2 ≤ i → first_fault (below_rows c (by_two (drop (2 * i) xs))) ≡ (0, 0)
-  below_past l = few (drop (2 * i) xs) (rw length-drop (omega arith))
-    where
-      few : (ys : List ℕ) → length ys < 2 → first_fault (below_rows c (by_two ys)) ≡ (0, 0)
-      few [] h = refl
-      few (y ∷ []) h = refl
-      few (y ∷ z ∷ ys) h = absurd (omega arith)
+-- the rows refuse where a first number is below its second
+pub below_any : (c : ℕ) (ts : List (ℕ × ℕ)) → first_fault (below_rows c ts) ≡ cond (list_any (λ (t : ℕ × ℕ). ltb t.0 t.1) ts) (c, 0) (0, 0)
+below_any c [] = refl
+below_any c (t ∷ ts) = go (ltb t.0 t.1) (below_any c ts)
+  where
+    go : (b : Bool) → first_fault (below_rows c ts) ≡ cond (list_any (λ (t : ℕ × ℕ). ltb t.0 t.1) ts) (c, 0) (0, 0)
+        → cond b (c, 0) (first_fault (below_rows c ts)) ≡ cond (b || list_any (λ (t : ℕ × ℕ). ltb t.0 t.1) ts) (c, 0) (0, 0)
+    go true h = refl
+    go false h = h
 
 -- ---- the first fault of two lists of rows
 pub fault_left : (rs bs : List Row) → ¬ ((first_fault rs).0 ≡ 0) → first_fault (rs ++ bs) ≡ first_fault rs
@@ -124,6 +117,37 @@ fault_right rs bs n z = skip_silent rs bs (fault_silent rs n z)
 
 pub sizes_numbered : (n m t k : ℕ) → Numbered (size_faults n m t k)
 sizes_numbered n m t k = (λ h. omega arith, (λ h. omega arith, (λ h. omega arith, (λ h. omega arith, tt))))
+
+-- ---- checks one behind the other, as `?` chains them
+-- a refusal's number is not 0
+pub number_positive : (r : declared.Refusal) → 0 < number_of r
+number_positive Size = omega arith
+number_positive ShortTable = omega arith
+number_positive Share = omega arith
+number_positive (End s) = omega arith
+number_positive (NamesNothing i) = omega arith
+number_positive (OpensOpen i) = omega arith
+number_positive (ClosesClosed i) = omega arith
+number_positive (Entry i) = omega arith
+number_positive InputLength = omega arith
+number_positive ProgramLimit = omega arith
+number_positive (Start s) = omega arith
+number_positive LongTable = omega arith
+
+pub number_refuses : (r : declared.Refusal) → eqb (number_of r) 0 ≡ false
+number_refuses r = ne_eqb (number_of r) 0 (λ z. omega (arith, number_positive r))
+
+-- where the first check refuses, so does the whole list, by the same
+pub first_refuses : (rs bs : List Row) (r : declared.Refusal) → numbers_of r ≡ first_fault rs → numbers_of r ≡ first_fault (rs ++ bs)
+first_refuses rs bs r e = e ∙ sym (fault_left rs bs (λ z. let f = ap (λ (f : Refusal). f.0) e in omega (arith, number_positive r)))
+
+-- where it does not, the rest decides
+pub rest_decides : (rs bs : List Row) {f : Refusal} → Numbered rs → (0, 0) ≡ first_fault rs → f ≡ first_fault bs → f ≡ first_fault (rs ++ bs)
+rest_decides rs bs n z e = e ∙ sym (fault_right rs bs n (ap (λ (f : Refusal). f.0) (sym z)))
+
+-- what `?` hands on is the refusal that it was handed
+pub passed_on : {T : Type 0} (r : Result T declared.Refusal) (e : declared.Refusal) → IsErrAnd r (λ d. d ≡ e) → refused_by r ≡ numbers_of e
+passed_on r e h = let p = err_from_is_err_and r h in rw (p.1, p.2) refl
 
 -- ---- the first that passes
 -- what is found passes
@@ -173,15 +197,51 @@ module _ (p : ℕ → Bool) (s m : ℕ) where
   pub seek_past : m ≤ s → seek p s (m - s) ≡ s
   seek_past l = let e : m - s ≡ 0 = omega arith in rw e refl
 
-pub seek_start : (p : ℕ → Bool) (m : ℕ) → seek p 0 m ≡ seek p 0 (m - 0)
-seek_start p m = let e : m - 0 ≡ m = omega arith in rw e refl
+-- the first entry that passes, by its index
+seek_suc : (f : ℕ → Bool) (i k : ℕ) → seek f (i + 1) k ≡ suc (seek (λ j. f (suc j)) i k)
+seek_suc f i zero = add-one i
+seek_suc f i (suc k) = rw (seek_suc f (i + 1) k, add-one i) (on_cond (f (suc i)) (suc i) i (seek (λ j. f (suc j)) (suc i) k) refl)
+  where
+    on_cond : (b : Bool) (c d e : ℕ) → c ≡ suc d → cond b c (suc e) ≡ suc (cond b d e)
+    on_cond true c d e h = h
+    on_cond false c d e h = refl
+
+pub seek_prefix : (p : ℕ → Bool) (xs : List ℕ) → seek (λ s. p (get_or xs s 0)) 0 (length xs) ≡ prefix_len (λ x. not (p x)) xs
+seek_prefix p [] = refl
+seek_prefix p (x ∷ xs) = rw (seek_suc (λ s. p (get_or (x ∷ xs) s 0)) 0 (length xs), seek_prefix p xs) (go (p x) (prefix_len (λ x. not (p x)) xs))
+  where
+    go : (b : Bool) (c : ℕ) → cond b 0 (suc c) ≡ cond (not b) (1 + c) 0
+    go true c = refl
+    go false c = omega arith
+
+pub position_first : (p : ℕ → Bool) (xs : List ℕ) → position p xs ≡ first_of (λ s. p (get_or xs s 0)) (length xs)
+position_first p xs = rw (← seek_prefix p xs) refl
+
+-- the first of k entries
+seek_same : (f g : ℕ → Bool) (i k : ℕ) → ((j : ℕ) → j < i + k → f j ≡ g j) → seek f i k ≡ seek g i k
+seek_same f g i zero h = refl
+seek_same f g i (suc k) h = rw (h i (omega arith), seek_same f g (i + 1) k (λ j l. h j (omega arith))) refl
+
+pub position_take : (p : ℕ → Bool) (xs : List ℕ) (k : ℕ) → k ≤ length xs → position p (take k xs) ≡ first_of (λ s. p (get_or xs s 0)) k
+position_take p xs k l =
+    position_first p (take k xs) ∙ rw (length-take-le k xs l, seek_same (λ s. p (get_or (take k xs) s 0)) (λ s. p (get_or xs s 0)) 0 k (λ j m. ap p (get_or-take k xs j 0 (omega arith)))) refl
+
+-- what a check refuses by, from what its search answers
+module _ (f : ℕ → Bool) (m c : ℕ) where
+  pub found_row : (s : ℕ) → Some s ≡ first_of f m → (c, s) ≡ first_fault (row (ltb (seek f 0 m) m) c (seek f 0 m) ∷ [])
+  found_row s e = go (ltb (seek f 0 m) m) (seek f 0 m) e
+    where
+      go : (b : Bool) (i : ℕ) → Some s ≡ cond b (Some i) None → ◌≡◌ {A = Refusal} (c, s) (cond b (c, i) (0, 0))
+      go true i e = let by : Option ℕ → Refusal = λ o. (c, elim o [ Some v ↦ v | None ↦ s ]) in ap by e
+      go false i e = cc
+
+  pub none_row : None ≡ first_of f m → (0, 0) ≡ first_fault (row (ltb (seek f 0 m) m) c (seek f 0 m) ∷ [])
+  none_row e = go (ltb (seek f 0 m) m) (seek f 0 m) e
+    where
+      go : (b : Bool) (i : ℕ) → None ≡ cond b (Some i) None → ◌≡◌ {A = Refusal} (0, 0) (cond b (c, i) (0, 0))
+      go true i e = cc
+      go false i e = refl
 
 module _ (n : ℕ) (from to : List ℕ) (s : ℕ) where
-  pub bad_from : n ≤ get_or from s 0 → bad_ends n from to s ≡ true
-  bad_from l = rw (le-leb n (get_or from s 0) l) refl
-
-  pub bad_to : get_or from s 0 < n → n ≤ get_or to s 0 → bad_ends n from to s ≡ true
-  bad_to k l = rw (lt-leb n (get_or from s 0) k, le-leb n (get_or to s 0) l) refl
-
   pub good_ends : get_or from s 0 < n → get_or to s 0 < n → bad_ends n from to s ≡ false
   good_ends k l = rw (lt-leb n (get_or from s 0) k, lt-leb n (get_or to s 0) l) refl

@@ -1,6 +1,6 @@
 -- Refusals: a call is refused by the first fault that holds of a list of faults, in the order of document 01's table, each with its number and its place.
 -- Each call lists its own faults. Assumes nothing: these are definitions.
-use Rattle.std.specs.Prelude.{◌+◌, suc, zero, ℕ, Bool, ◌||◌, cond, List, [], ◌∷◌, leb, ltb, get_or}
+use Rattle.std.specs.Prelude.{◌+◌, suc, zero, ℕ, Bool, ◌||◌, cond, List, [], ◌∷◌, leb, ltb, get_or, None, Option, Some}
 
 -- a test, and the number and the place that are returned where it holds
 pub record Row : Type 0 where
@@ -32,16 +32,14 @@ short_rows = below_rows 2
 abbrev pub long_rows : List (ℕ × ℕ) → List Row
 long_rows = below_rows 12
 
--- numbers two by two
-abbrev pub by_two : List ℕ → List (ℕ × ℕ)
-by_two [] = []
-by_two (a ∷ []) = []
-by_two (a ∷ b ∷ xs) = (a, b) ∷ by_two xs
-
 -- the first number from i on, of k, that passes; i + k where none does
 abbrev pub seek : (ℕ → Bool) → ℕ → ℕ → ℕ
 seek f i zero = i
 seek f i (suc k) = cond (f i) i (seek f (i + 1) k)
+
+-- the first number below m that passes, if any
+abbrev pub first_of : (ℕ → Bool) → ℕ → Option ℕ
+first_of f m = cond (ltb (seek f 0 m) m) (Some (seek f 0 m)) None
 
 -- refusal 4: segment or edge s has an end not below n
 abbrev pub bad_ends : ℕ → List ℕ → List ℕ → ℕ → Bool

@@ -1,9 +1,10 @@
 -- The limits of document 01, "Network and list" and "Contraction", and what the sizes' check replies.
 -- Assumes nothing: these are definitions.
-use Rattle.std.specs.Prelude.{ℕ, Bool, cond, false, true, List, [], ◌∷◌, eqb, ltb}
+use Rattle.std.specs.Prelude.{ℕ, Bool, cond, false, true, Err, List, [], ◌∷◌, Ok, Result, eqb, ltb}
+use Rattle.call_sizes.specs.Numbers.{number_of, place_of}
 use Rattle.call_sizes.specs.Refusal.{Refusal, Row, first_fault, row}
-use Rattle.call_sizes.specs.declared.SizesReply.{SizesReply}
-use Rattle.call_sizes.specs.declared.SizesReply.TheVariants.{Refused, Within}
+use Rattle.call_sizes.specs.declared.Refusal as declared
+use Rattle.call_sizes.specs.declared.Sizes.{Sizes}
 
 -- refusal 1: more than 4,096 junctions (nodes), 8,192 segments (edges), 4,096 events or 8,192 active entries
 abbrev pub size_faults : ℕ → ℕ → ℕ → ℕ → List Row
@@ -21,9 +22,9 @@ pub record SizesOutcome : Type 0 where
   pub k : ℕ
 
 -- what each case of the reply says, in document 01's numbers
-abbrev pub sizes_outcome : SizesReply → SizesOutcome
-sizes_outcome (Within s) = record { accepted = true; code = 0; place = 0; n = s.n; m = s.m; t = s.t; k = s.k }
-sizes_outcome (Refused c p) = record { accepted = false; code = c; place = p; n = 0; m = 0; t = 0; k = 0 }
+abbrev pub sizes_outcome : Result Sizes declared.Refusal → SizesOutcome
+sizes_outcome (Ok s) = record { accepted = true; code = 0; place = 0; n = s.n; m = s.m; t = s.t; k = s.k }
+sizes_outcome (Err r) = record { accepted = false; code = number_of r; place = place_of r; n = 0; m = 0; t = 0; k = 0 }
 
 abbrev pub if_accepted : Refusal → ℕ → ℕ
 if_accepted f x = cond (eqb f.0 0) x 0

@@ -1,11 +1,26 @@
 // The faults of an input, in document 01's order: sizes, lengths, ends of edges, active entries.
 #![tactic(auto)]
 
-ghost use Rattle.std.specs.Prelude.{◌≡◌, ◌≤◌, length};
-ghost use Rattle.call_sizes.specs.Refusal.{first_fault, seek};
-ghost use Rattle.theory_contraction.specs.Contraction.{required, bad_entry, short_tables, fault, lent};
+ghost use Rattle.std.specs.Prelude.{◌≡◌, ◌≤◌, [], ◌∷◌, length, ltb, nat_le, position};
+ghost use Rattle.call_sizes.specs.Numbers.{refused_by};
+ghost use Rattle.call_sizes.specs.Refusal.{first_fault, row, seek};
+ghost use Rattle.theory_contraction.specs.Contraction.{bad_entry, fault, required};
+ghost use Rattle.contraction_checks.specs.Checks.{lent_graph};
 
-use call_sizes::Fault;
+use call_sizes::{Refusal, Sizes};
+
+// Internal: the graph that a contraction is lent. It has n nodes and m edges, edge s between from[s] and to[s] with the name names[s], and the first k entries
+// of active are its active nodes.
+#[derive(Clone, Copy)]
+pub struct Graph<'a> {
+    pub n: usize,
+    pub m: usize,
+    pub k: usize,
+    pub from: &'a [u16],
+    pub to: &'a [u16],
+    pub names: &'a [u16],
+    pub active: &'a [u16],
+}
 
 // Internal: the words that a contraction of n nodes and m edges needs.
 pub fn required(n: usize, m: usize) -> usize
@@ -15,103 +30,59 @@ pub fn required(n: usize, m: usize) -> usize
     16 * n + 8 * m + 512
 }
 
-// Refusal 2: a table shorter than its least length.
-fn length_fault(
-    n: usize,
-    m: usize,
-    k: usize,
-    from: &[u16],
-    to: &[u16],
-    names: &[u16],
-    active: &[u16],
-    map: &[u16],
-    out_from: &[u16],
-    out_to: &[u16],
-    out_names: &[u16],
-    pieces: &[u16],
-    work: &[u32],
-) -> Fault
-    requires { (n ≤ 4096) × (m ≤ 8192) × (k ≤ 8192) }
-    ensures { (result.code, result.place) ≡ first_fault (short_tables (lent n m k from.now to.now names.now active.now
-        map.now out_from.now out_to.now out_names.now pieces.now work.now)) }
+// The first active entry that is not below n.
+fn first_bad_entry(n: usize, active: &[u16]) -> Option<usize>
+    ensures { result ≡ position (λ entry. nat_le n entry) active.now }
 {
-    let tables = [
-        from.len(),
-        m,
-        to.len(),
-        m,
-        names.len(),
-        m,
-        active.len(),
-        k,
-        map.len(),
-        k,
-        out_from.len(),
-        2 * k,
-        out_to.len(),
-        2 * k,
-        out_names.len(),
-        2 * k,
-        pieces.len(),
-        k,
-        work.len(),
-        required(n, m),
-    ];
-    call_sizes::below_fault(2, &tables)
+    active.iter().position(|&entry| n <= entry as usize)
 }
 
-// The first active entry not below n, or k.
-fn first_bad_entry(n: usize, k: usize, active: &[u16]) -> usize
+// Refusal 8, at the first of k active entries that is not below n.
+fn check_entries(n: usize, k: usize, active: &[u16]) -> Result<(), Refusal>
     requires { k ≤ length active.now }
-    ensures { result ≡ seek (bad_entry n active.now) 0 k }
+    ensures { let i = seek (bad_entry n active.now) 0 k in refused_by result ≡ first_fault (row (ltb i k) 8 i ∷ []) }
 {
-    let mut i: usize = 0;
-    // The entries before i are nodes.
-    while i < k {
-        if n <= active[i] as usize {
-            return i;
-        }
-        i += 1;
+    match first_bad_entry(n, &active[..k]) {
+        Some(i) => Err(Refusal::Entry(i)),
+        None => Ok(()),
     }
-    i
 }
 
-// Internal: the first fault.
-pub fn first_fault(
-    n: usize,
-    m: usize,
-    k: usize,
-    from: &[u16],
-    to: &[u16],
-    names: &[u16],
-    active: &[u16],
+// Internal: the first fault of a call that is lent this graph, and these tables to write.
+pub fn check(
+    graph: Graph,
     map: &[u16],
     out_from: &[u16],
     out_to: &[u16],
     out_names: &[u16],
     pieces: &[u16],
     work: &[u32],
-) -> Fault
-    ensures { (result.code, result.place) ≡ fault (lent n m k from.now to.now names.now active.now
-        map.now out_from.now out_to.now out_names.now pieces.now work.now) }
+) -> Result<(), Refusal>
+    ensures { refused_by result ≡ fault (lent_graph graph.entry map.now out_from.now out_to.now out_names.now pieces.now work.now) }
 {
-    let sizes = call_sizes::size_fault(n, m, 0, k);
-    if sizes.code != 0 {
-        return sizes;
-    }
-    let lengths = length_fault(
-        n, m, k, from, to, names, active, map, out_from, out_to, out_names, pieces, work,
-    );
-    if lengths.code != 0 {
-        return lengths;
-    }
-    let e = call_sizes::first_bad_ends(n, m, from, to);
-    if e < m {
-        return Fault { code: 4, place: e };
-    }
-    let a = first_bad_entry(n, k, active);
-    if a < k {
-        return Fault { code: 8, place: a };
-    }
-    Fault { code: 0, place: 0 }
+    let Graph {
+        n,
+        m,
+        k,
+        from,
+        to,
+        names,
+        active,
+    } = graph;
+    Sizes::check(n, m, 0, k)?;
+    let lengths = [
+        (from.len(), m),
+        (to.len(), m),
+        (names.len(), m),
+        (active.len(), k),
+        (map.len(), k),
+        (out_from.len(), 2 * k),
+        (out_to.len(), 2 * k),
+        (out_names.len(), 2 * k),
+        (pieces.len(), k),
+        (work.len(), required(n, m)),
+    ];
+    call_sizes::check_pairs(&lengths, Refusal::ShortTable)?;
+    call_sizes::check_ends(n, m, from, to)?;
+    check_entries(n, k, active)
 }

@@ -1,8 +1,9 @@
 -- What reading the input gives. Assumes nothing: these are definitions.
-use Rattle.std.specs.Prelude.{◌*◌, ◌+◌, ◌<◌, ◌≤◌, ℕ, Bool, false, true, List, ◌≡◌, eqb, get_or, length}
+use Rattle.std.specs.Prelude.{◌*◌, ◌≤◌, ℕ, Bool, false, true, Err, List, Ok, Result, ◌≡◌, eqb, length}
 use Rattle.program_reading.specs.declared.Header.{Header}
-use Rattle.program_reading.specs.declared.Header.TheVariants.{Refused, Sizes}
+use Rattle.call_sizes.specs.Numbers.{number_of, place_of}
 use Rattle.call_sizes.specs.Refusal.{Refusal}
+use Rattle.call_sizes.specs.declared.Refusal as declared
 use Rattle.call_sizes.specs.Sizes.{if_accepted}
 use Rattle.theory_timeline.specs.Program.{events_of, input_fault, input_length, junctions_of, segments_of, share_of, words16}
 
@@ -16,10 +17,10 @@ pub record HeaderOutcome : Type 0 where
   pub t : ℕ
   pub p : ℕ
 
--- what each case of the header says
-abbrev pub header_outcome : Header → HeaderOutcome
-header_outcome (Sizes n m t p) = record { accepted = true; code = 0; place = 0; n = n; m = m; t = t; p = p }
-header_outcome (Refused c) = record { accepted = false; code = c; place = 0; n = 0; m = 0; t = 0; p = 0 }
+-- what each case of the reply says
+abbrev pub header_outcome : Result Header declared.Refusal → HeaderOutcome
+header_outcome (Ok h) = record { accepted = true; code = 0; place = 0; n = h.n; m = h.m; t = h.t; p = h.p }
+header_outcome (Err r) = record { accepted = false; code = number_of r; place = place_of r; n = 0; m = 0; t = 0; p = 0 }
 
 -- the outcome that an input must have
 abbrev pub check_input : List ℕ → HeaderOutcome
@@ -35,12 +36,6 @@ check_input bytes =
       t = if_accepted f (events_of ws);
       p = if_accepted f (share_of ws);
     }
-
--- the first k entries of the table are the numbers ws from i on, and the others stay
-pub record Filled (ws : List ℕ) (i k : ℕ) (a b : List ℕ) : Type 0 where
-  pub same : length b ≡ length a
-  pub inside : (j : ℕ) → j < k → get_or b j 0 ≡ get_or ws (i + j) 0
-  pub above : (j : ℕ) → k ≤ j → get_or b j 0 ≡ get_or a j 0
 
 -- the input is as long as its sizes n, m and t say, which are within the program's limits
 pub record Read (n m t : ℕ) (bytes : List ℕ) : Type 0 where

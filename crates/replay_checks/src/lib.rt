@@ -1,238 +1,128 @@
 // The checks of a replay, in document 01's order. They read the tables only.
 #![tactic(auto)]
 
-ghost use Rattle.std.specs.Prelude.{cond, ◌≡◌, ◌≤◌, ltb, length};
+ghost use Rattle.std.specs.Prelude.{[], ◌∷◌, cond, ◌≡◌, ◌≤◌, ltb, length, Result};
 ghost use Rattle.theory_graph.specs.Lists.{pairs};
 ghost use Rattle.call_open_set.specs.OpenSet.{is_open};
-ghost use Rattle.call_sizes.specs.Refusal.{by_two, first_fault};
-ghost use Rattle.theory_timeline.specs.Replay.{event_fault};
-ghost use Rattle.replay_checks.specs.Check.{CanCheckList, CheckedEvents, CheckedList, CheckedTables, bound_faults, tables_of};
+ghost use Rattle.call_sizes.specs.Numbers.{refused_by};
+ghost use Rattle.call_sizes.specs.Refusal.{first_fault};
+ghost use Rattle.replay_checks.specs.Check.{CanCheckList, CheckedEvents, CheckedList, CheckedTables, SizesFit, bound_faults, event_row, tables_of};
 
 use call_kinds::Kind;
-use call_sizes::Fault;
+use call_sizes::Refusal;
+use theory_timeline::EventList;
 
-// Internal: the first fault of a replay's input, its number and its place; where there is none, 0, 0 and how many segments are open at the end.
-#[derive(Drop)]
-pub struct Checked {
-    pub code: usize,
-    pub place: usize,
-    pub open: usize,
-}
-
-// The first fault of the events, or 0 and 0; the segments that are open after those before it.
-#[derive(Drop)]
-pub(crate) struct Held {
-    pub code: usize,
-    pub place: usize,
-    pub held: [u64; 128],
-}
-
-// The fault of an event that names segment y: 5 where there is no such segment, else `if_open` where it is open and `if_closed` where it is closed.
-fn segment_fault(m: usize, held: &[u64; 128], y: usize, if_open: usize, if_closed: usize) -> usize
+// Whether segment y is open, where the segments of `held` are; event i is refused by 5 where there is no such segment.
+fn is_segment_open(m: usize, held: &[u64; 128], y: usize, i: usize) -> Result<bool, Refusal>
     requires { length held.now ≡ 128 }
-    ensures { result ≡ cond (ltb y m) (cond (is_open held.now y) if_open if_closed) 5 }
+    ensures { result ≡ cond (ltb y m) (Ok (is_open held.now y)) (Err (Refusal.NamesNothing i)) }
 {
     if m <= y {
-        return 5;
+        return Err(Refusal::NamesNothing(i));
     }
-    let open = call_open_set::contains(held, y);
-    if open {
-        return if_open;
-    }
-    if_closed
+    Ok(call_open_set::contains(held, y))
 }
 
-// The fault of one event, where the segments of `held` are open before it: 0, 5, 6 or 7.
-fn event_fault(n: usize, m: usize, held: &[u64; 128], x: u16, y: usize) -> usize
+// Refusals 5, 6 and 7 of event i, where the segments of `held` are open before it.
+#[tactic(auto, unfolding(theory_timeline::specs::Replay::event_fault))]
+fn check_event(
+    n: usize,
+    m: usize,
+    held: &[u64; 128],
+    x: u16,
+    y: usize,
+    i: usize,
+) -> Result<(), Refusal>
     requires { length held.now ≡ 128 }
-    ensures { result ≡ event_fault n m (is_open held.now) (x, y) }
+    ensures { refused_by result ≡ first_fault (event_row n m (is_open held.now) (x, y) i ∷ []) }
 {
-    let kind = call_kinds::kind_of(x, n);
-    match kind {
+    match call_kinds::kind_of(x, n) {
         Kind::Query => {
             if y < n {
-                return 0;
+                return Ok(());
             }
-            return 5;
+            Err(Refusal::NamesNothing(i))
         }
         Kind::Opens => {
-            return segment_fault(m, held, y, 6, 0);
+            if is_segment_open(m, held, y, i)? {
+                return Err(Refusal::OpensOpen(i));
+            }
+            Ok(())
         }
         Kind::Closes => {
-            return segment_fault(m, held, y, 0, 7);
+            if is_segment_open(m, held, y, i)? {
+                return Ok(());
+            }
+            Err(Refusal::ClosesClosed(i))
         }
-        Kind::None => {
-            return 5;
-        }
+        Kind::None => Err(Refusal::NamesNothing(i)),
     }
 }
 
-// The first fault of the t events, where the segments of `first` are open before them: the open set is handed on from event to event.
-fn check_events(n: usize, m: usize, t: usize, x: &[u16], y: &[u16], first: [u64; 128]) -> Held
-    requires { (length x.now ≡ t) × (length y.now ≡ t) × (m ≤ 8192) }
-    ensures { CheckedEvents n m (is_open first) (pairs x.now y.now) t result.code result.place result.held }
+// The events, where the segments of `first` are open before them: the open set is handed on from event to event, and the one after the last is returned.
+fn check_events(l: EventList, first: [u64; 128]) -> Result<[u64; 128], Refusal>
+    requires { CanCheckList l }
+    ensures { CheckedEvents l.entry.n l.entry.m (is_open first) (pairs l.entry.x.now l.entry.y.now) l.entry.t result }
 {
     let mut held = first;
-    let mut i: usize = 0;
     // No event before i has a fault, and the set is what is open before i.
-    while i < t {
-        let event_x = x[i];
-        let s = y[i] as usize;
-        let code = event_fault(n, m, &held, event_x, s);
-        if code > 0 {
-            return Held {
-                code: code,
-                place: i,
-                held: held,
-            };
-        }
+    for (i, (&x, &y)) in l.x.iter().zip(l.y).enumerate() {
+        let y = y as usize;
+        check_event(l.n, l.m, &held, x, y, i)?;
         // The set is copied where it changes, and not at a query.
-        match call_kinds::kind_of(event_x, n) {
-            Kind::Query => {}
-            Kind::Opens => {
-                held = call_open_set::opened(held, s);
-            }
-            Kind::Closes => {
-                held = call_open_set::closed(held, s);
-            }
-            Kind::None => {}
+        match call_kinds::kind_of(x, l.n) {
+            Kind::Opens => held = call_open_set::opened(held, y),
+            Kind::Closes => held = call_open_set::closed(held, y),
+            Kind::Query | Kind::None => {}
         }
-        i += 1;
     }
-    Held {
-        code: 0,
-        place: 0,
-        held: held,
-    }
+    Ok(held)
 }
 
 // Refusals 2, 12 and 3, in this order: a table shorter than its least length, one that is only read longer than its size, the share below 4 or above 12.
-// `own` has, two by two, the lengths of the call's other tables and their least lengths.
-fn bounds_fault(
-    n: usize,
-    m: usize,
-    t: usize,
-    p: usize,
-    a: &[u16],
-    b: &[u16],
-    start: &[u16],
-    x: &[u16],
-    y: &[u16],
-    answers: &[u8],
-    own: &[usize],
-) -> Fault
-    ensures { (result.code, result.place) ≡ first_fault (bound_faults (by_two own.now) (tables_of n m t a.now b.now
-        start.now x.now y.now answers.now) p) }
+// `own` has the lengths of the call's other tables with their least lengths.
+fn check_bounds(l: EventList, answers: &[u8], own: &[(usize, usize)]) -> Result<(), Refusal>
+    ensures { refused_by result ≡ first_fault (bound_faults own.now (tables_of l.entry answers.now) l.entry.p) }
 {
-    // Two by two: the first number must not be below the second.
+    // In each pair the first number must not be below the second.
     let least = [
-        a.len(),
-        m,
-        b.len(),
-        m,
-        start.len(),
-        m,
-        x.len(),
-        t,
-        y.len(),
-        t,
-        answers.len(),
-        t,
+        (l.a.len(), l.m),
+        (l.b.len(), l.m),
+        (l.start.len(), l.m),
+        (l.x.len(), l.t),
+        (l.y.len(), l.t),
+        (answers.len(), l.t),
     ];
     let most = [
-        m,
-        a.len(),
-        m,
-        b.len(),
-        m,
-        start.len(),
-        t,
-        x.len(),
-        t,
-        y.len(),
+        (l.m, l.a.len()),
+        (l.m, l.b.len()),
+        (l.m, l.start.len()),
+        (l.t, l.x.len()),
+        (l.t, l.y.len()),
     ];
-    let share = [p, 4, 12, p];
-    let short = call_sizes::below_fault(2, &least);
-    if short.code > 0 {
-        return short;
-    }
-    let rest = call_sizes::below_fault(2, own);
-    if rest.code > 0 {
-        return rest;
-    }
-    let long = call_sizes::below_fault(12, &most);
-    if long.code > 0 {
-        return long;
-    }
-    call_sizes::below_fault(3, &share)
+    let share = [(l.p, 4), (12, l.p)];
+    call_sizes::check_pairs(&least, Refusal::ShortTable)?;
+    call_sizes::check_pairs(own, Refusal::ShortTable)?;
+    call_sizes::check_pairs(&most, Refusal::LongTable)?;
+    call_sizes::check_pairs(&share, Refusal::Share)
 }
 
 // The faults behind those: of the ends, the starting table and the events.
-fn check_list(
-    n: usize,
-    m: usize,
-    t: usize,
-    a: &[u16],
-    b: &[u16],
-    start: &[u16],
-    x: &[u16],
-    y: &[u16],
-) -> Checked
-    requires { CanCheckList n m t a.now b.now start.now x.now y.now }
-    ensures { CheckedList n m t a.now b.now start.now x.now y.now result }
+fn check_list(l: EventList) -> Result<usize, Refusal>
+    requires { CanCheckList l }
+    ensures { CheckedList l.entry result }
 {
-    let s = call_sizes::first_bad_ends(n, m, a, b);
-    if s < m {
-        return Checked {
-            code: 4,
-            place: s,
-            open: 0,
-        };
-    }
-    let u = call_sizes::first_bad_start(m, start);
-    if u < m {
-        return Checked {
-            code: 11,
-            place: u,
-            open: 0,
-        };
-    }
-    let first = call_open_set::from_table(m, start);
-    let e = check_events(n, m, t, x, y, first);
-    let held = e.held;
-    let open = call_open_set::count(held);
-    Checked {
-        code: e.code,
-        place: e.place,
-        open: open,
-    }
+    call_sizes::check_ends(l.n, l.m, l.a, l.b)?;
+    call_sizes::check_start(l.start)?;
+    let held = check_events(l, call_open_set::from_table(l.m, l.start))?;
+    Ok(call_open_set::count(held))
 }
 
-// Internal: the first fault of all, where the sizes have none.
-pub fn check(
-    n: usize,
-    m: usize,
-    t: usize,
-    p: usize,
-    a: &[u16],
-    b: &[u16],
-    start: &[u16],
-    x: &[u16],
-    y: &[u16],
-    answers: &[u8],
-    own: &[usize],
-) -> Checked
-    requires { (n ≤ 4096) × (m ≤ 8192) × (t ≤ 4096) }
-    ensures { CheckedTables (by_two own.now) (tables_of n m t a.now b.now start.now x.now
-        y.now answers.now) p result }
+// Internal: all checks behind that of the sizes, and where nothing is refused how many segments are open at the end.
+pub fn check(l: EventList, answers: &[u8], own: &[(usize, usize)]) -> Result<usize, Refusal>
+    requires { SizesFit l }
+    ensures { CheckedTables own.now (tables_of l.entry answers.now) l.entry.p result }
 {
-    let s = bounds_fault(n, m, t, p, a, b, start, x, y, answers, own);
-    if s.code > 0 {
-        return Checked {
-            code: s.code,
-            place: s.place,
-            open: 0,
-        };
-    }
-    check_list(n, m, t, a, b, start, x, y)
+    check_bounds(l, answers, own)?;
+    check_list(l)
 }

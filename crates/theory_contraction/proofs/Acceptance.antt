@@ -51,14 +51,14 @@ pub record Accepted (l : Lent) : Type 0 where
   pub ends : (s : ℕ) → s < l.m → (get_or l.from s 0 < l.n) × (get_or l.to s 0 < l.n)
   pub entries : (i : ℕ) → i < l.k → get_or l.active i 0 < l.n
 
-pub sizes_within : {n m k c p : ℕ} → (c, p) ≡ first_fault (size_faults n m 0 k) → c ≡ 0 → Within n m k
-sizes_within {n} {m} {k} e z =
-    let s = fault_silent (size_faults n m 0 k) (sizes_numbered n m 0 k) (sym (ap (λ (f : Refusal). f.0) e) ∙ z) in
+pub sizes_within : {n m k : ℕ} → (0, 0) ≡ first_fault (size_faults n m 0 k) → Within n m k
+sizes_within {n} {m} {k} e =
+    let s = fault_silent (size_faults n m 0 k) (sizes_numbered n m 0 k) (ap (λ (f : Refusal). f.0) (sym e)) in
     record { nodes = ltb-false 4096 n s.0; edges = ltb-false 8192 m s.1.0; entries = ltb-false 8192 k s.1.1.1.0 }
 
-pub lengths_long : (l : Lent) {c p : ℕ} → (c, p) ≡ first_fault (short_tables l) → c ≡ 0 → LongTables l
-lengths_long l e z =
-    let (from, (to, (names, (active, (map, (out_from, (out_to, (out_names, (pieces, (work, _)))))))))) = accepted_long (table_lengths l) (sym (ap (λ (f : Refusal). f.0) e) ∙ z) in
+pub lengths_long : (l : Lent) → (0, 0) ≡ first_fault (short_tables l) → LongTables l
+lengths_long l e =
+    let (from, (to, (names, (active, (map, (out_from, (out_to, (out_names, (pieces, (work, _)))))))))) = accepted_long (table_lengths l) (ap (λ (f : Refusal). f.0) (sym e)) in
     record {
       from_length = from;
       to_length = to;
@@ -92,8 +92,8 @@ module _ (l : Lent) where
       let t = silent_right sizes (short_tables l ++ placed) s in
       let u = silent_right (short_tables l) placed t in
       record {
-        within = sizes_within (sym (silent_fault sizes (silent_left sizes (short_tables l ++ placed) s))) refl;
-        long = lengths_long l (sym (silent_fault (short_tables l) (silent_left (short_tables l) placed t))) refl;
+        within = sizes_within (sym (silent_fault sizes (silent_left sizes (short_tables l ++ placed) s)));
+        long = lengths_long l (sym (silent_fault (short_tables l) (silent_left (short_tables l) placed t)));
         ends = λ i j.
             let x = get_or l.from i 0 in
             let y = get_or l.to i 0 in

@@ -3,6 +3,7 @@
 -- Assumes nothing.
 use mathlib.Core.Bool.{false, true}
 use mathlib.Core.List.{List, Memᴰ, [], ◌++◌, ◌∷◌}
+use Rattle.std.specs.Prelude.{Ok}
 use mathlib.Core.Path.{◌∙◌, ◌≡◌, ap, refl, subst, sym}
 use lib.ListN.{replicate}
 use native.Mathlib.Omega.{arith}
@@ -17,7 +18,6 @@ use Rattle.theory_timeline.specs.Events.{active_of, network_of, open_roads}
 use Rattle.theory_timeline.specs.Roads.{Apart, road, road_answer, same_ends}
 use Rattle.theory_timeline.specs.Replay.{Lent, given, replay}
 use Rattle.theory_timeline.specs.Windows.{active, network, small, stands, windows}
-use Rattle.theory_timeline.specs.declared.ReplayReply.TheVariants.{Done}
 use Rattle.call_kinds.specs.Kinds as K
 use Rattle.theory_timeline.specs.Windows as W
 use Rattle.theory_timeline.specs.Replay as R
@@ -94,7 +94,7 @@ abbrev eight : Call
 eight = record {
   share = 8;
   lends = triangle;
-  reply = Done (record { queries = 2; «open» = 3; kept = 19 });
+  reply = Ok (record { queries = 2; «open» = 3; kept = 19 });
   answers = 3 ∷ 3 ∷ 1 ∷ 3 ∷ 2 ∷ [];
   names = 65535 ∷ 65535 ∷ 0 ∷ 65535 ∷ 65535 ∷ 9 ∷ [];
   work = over (replicate 3448 0) (replicate 4096 7);
@@ -104,7 +104,7 @@ abbrev twelve : Call
 twelve = record {
   share = 12;
   lends = triangle;
-  reply = Done (record { queries = 2; «open» = 3; kept = 20 });
+  reply = Ok (record { queries = 2; «open» = 3; kept = 20 });
   answers = 3 ∷ 3 ∷ 1 ∷ 3 ∷ 2 ∷ [];
   names = 65535 ∷ 65535 ∷ 0 ∷ 65535 ∷ 65535 ∷ 9 ∷ [];
   work = over (replicate 3448 0) (replicate 4096 7);

@@ -1,12 +1,13 @@
 -- Demand 3: one statement about two replays, with its parts (a) to (e). Its proof is proofs/DemandThree.
--- It cites, of Replay: Lent, given, Outcome, replay; of Call: outcome, with the reply's type ReplayReply; of Windows: Timeline, Window, windows, network, active,
+-- It cites, of Replay: Lent, given, Outcome, replay; of Call: outcome, with the reply's type, Totals or a refusal; of Windows: Timeline, Window, windows, network, active,
 -- small, small_named, stands; of Roads: road_answer, the answer of two junctions by the loss of roads, DifferentRoads, Apart; of the crate theory_graph: Edge,
 -- answer, the answer of two nodes by the loss of edges, image, the edges of a list with their ends moved, different, the number of different entries, most_nodes,
 -- the bound 2k - 2 (k where k is below 2), and sum; of the crate theory_names: Named, a list of edges with names, plain, the edges alone, hangs, the smallest
 -- name of an edge whose loss parts two nodes, and image_named, the edges of a list with their ends moved and their names kept.
 -- Assumes nothing: these are definitions.
-use Rattle.std.specs.Prelude.{◌≤◌, ℕ, true, ◌↔◌, ◌≡◌, take}
+use Rattle.std.specs.Prelude.{◌≤◌, ℕ, true, ◌↔◌, ◌≡◌, Result, take}
 use mathlib.Core.List.{List, Memᴰ, ◌++◌, map}
+use Rattle.call_sizes.specs.declared.Refusal.{Refusal}
 use Rattle.theory_graph.specs.Graph.{Edge, answer}
 use Rattle.theory_graph.specs.Lists.{sum}
 use Rattle.theory_graph.specs.SmallGraph.{different, image, most_nodes}
@@ -16,7 +17,7 @@ use Rattle.theory_timeline.specs.Call.{outcome}
 use Rattle.theory_timeline.specs.Replay.{Lent, Outcome, given, replay}
 use Rattle.theory_timeline.specs.Roads.{Apart, DifferentRoads, road_answer}
 use Rattle.theory_timeline.specs.Windows.{Timeline, Window, active, network, small, small_named, stands, windows}
-use Rattle.theory_timeline.specs.declared.ReplayReply.{ReplayReply}
+use Rattle.theory_timeline.specs.declared.Totals.{Totals}
 
 -- ---- the words of the statement
 -- "The share p is 4 to 12"
@@ -78,7 +79,7 @@ KeepsDemand3 l p r = (k : Lent) (q : ℕ) → Allowed p → Allowed q → Demand
 pub record Call : Type 0 where
   pub share : ℕ
   pub lends : Lent
-  pub reply : ReplayReply
+  pub reply : Result Totals Refusal
   pub answers : List ℕ
   pub names : List ℕ
   pub work : List ℕ

@@ -1,8 +1,7 @@
--- `fill` meets its contract. The loop's invariant: the first j entries are filled, and nothing else has changed.
-use Prim.Native.Nat.{◌≤◌}
-use Rattle.program_reading.specs.Reading.{Filled}
+-- The entries before j are filled.
+use Rattle.std.proofs.Common.{◌≡◌, ◌+◌, ◌<◌, get_or, ℕ}
 use Rattle.theory_timeline.specs.Program.{words16}
 use Rattle.program_reading.proofs.fill.Given as goal
 
 abbrev pub invariant-loop-j : goal.invariant-loop-j
-invariant-loop-j l = (l.j ≤ l.k) × Filled (words16 l.input) l.i l.j l.initial.table l.table
+invariant-loop-j l = (k : ℕ) → k < l.j → get_or l.table k 0 ≡ get_or (words16 l.input) (l.i + k) 0

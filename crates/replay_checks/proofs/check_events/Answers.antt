@@ -1,37 +1,42 @@
-use mathlib.Core.Logic.{inl, inr}
-use mathlib.Core.Path.{◌∙◌, ap, sym}
-use native.Mathlib.Omega.{arith}
-use Rattle.call_open_set.specs.OpenSet.{bits}
-use Rattle.replay_checks.proofs.CheckLaws.{changed, event_fits, event_passes, event_refused, events_pass, passing_none}
+-- Event by event; the set changes as the event says.
+-- Assumes nothing.
+use Rattle.std.proofs.Common.{◌∙◌, inl, inr, length-append, subst, sym}
+use Rattle.replay_checks.proofs.CheckLaws.{all_met, event_fits, event_met, event_passes, event_refused, events_pass, refusal_returned, set_closed, set_kept, set_opened}
+use Rattle.replay_checks.specs.Check.{CheckedEvents}
 use Rattle.replay_checks.proofs.check_events.Goals as goal
-use Rattle.replay_checks.proofs.check_events.Goals.{in-Query, in-Opens, in-Closes, in-None}
 
-pub loop-i-init : goal.loop-i-init
-loop-i-init c =
-    passing_none _ _ _ _ _ _ c.well_formed.1.1.1.1.1.0.1.0.1
+pub returns-in_err-check_event : goal.returns-in_err-check_event
+returns-in_err-check_event c =
+    let l = c.args.l in
+    let e = event_met l.x.now l.y.now c.into_iter-i-iterator.result (cc) (cc) (cc) c.loop-i.yielded c.loop-i.i-iterator c.next.new.self c.loop-i.yielded_by _ c.next.ensures.steps _ c.in-Some.is in
+    subst (CheckedEvents _ _ _ _ _) (sym (refusal_returned _ _ c.from_residual.ensures.1)) (event_refused c.requires c.loop-i.invariant e c.in_err-check_event.ensures)
 
-pub event_fault-code-requires : goal.event_fault-code-requires
-event_fault-code-requires c =
-    c.loop-i.invariant.words
+pub loop-i-preserved-in-Opens : goal.loop-i-preserved-in-Opens
+loop-i-preserved-in-Opens c =
+    let l = c.args.l in
+    let e = event_met l.x.now l.y.now c.into_iter-i-iterator.result (cc) (cc) (cc) c.loop-i.yielded c.loop-i.i-iterator c.next.new.self c.loop-i.yielded_by _ c.next.ensures.steps _ c.in-Some.is in
+    let h = c.in_ok-check_event.ensures in
+    rw length-append (event_passes c.requires c.loop-i.invariant e h _
+    (set_opened (event_fits c.requires c.loop-i.invariant e h) (sym c.kind_of.ensures.value ∙ c.in-Opens.is) _ c.opened-held.ensures))
 
-pub returns-then-code-gt0 : goal.returns-then-code-gt0
-returns-then-code-gt0 c =
-    event_refused c.loop-i.invariant (omega arith) c.requires c.event_fault-code.result c.event_fault-code.ensures (omega arith)
+pub loop-i-preserved-in-Closes : goal.loop-i-preserved-in-Closes
+loop-i-preserved-in-Closes c =
+    let l = c.args.l in
+    let e = event_met l.x.now l.y.now c.into_iter-i-iterator.result (cc) (cc) (cc) c.loop-i.yielded c.loop-i.i-iterator c.next.new.self c.loop-i.yielded_by _ c.next.ensures.steps _ c.in-Some.is in
+    let h = c.in_ok-check_event.ensures in
+    rw length-append (event_passes c.requires c.loop-i.invariant e h _
+    (set_closed (event_fits c.requires c.loop-i.invariant e h) (sym c.kind_of.ensures.value ∙ c.in-Closes.is) _ c.closed-held.ensures))
 
 pub loop-i-preserved : goal.loop-i-preserved
 loop-i-preserved c =
-    let fault = c.event_fault-code in
-    let fits = event_fits c.loop-i.invariant (omega arith) c.requires fault.result fault.ensures (omega arith) in
-    let kind = sym c.kind_of.ensures.value in
-    let held = c.match-kind_of.held in
-    let (long, is) = changed fits held (elim c.match-kind_of.branch [
-      | in-Query w ↦ inl (kind ∙ w.in-Query.is, w.held-is)
-      | in-Opens w ↦ inr (inl (kind ∙ w.in-Opens.is, ap bits w.held-is ∙ w.opened-held.ensures))
-      | in-Closes w ↦ inr (inr (inl (kind ∙ w.in-Closes.is, ap bits w.held-is ∙ w.closed-held.ensures)))
-      | in-None w ↦ inr (inr (inr (kind ∙ w.in-None.is)))
-    ]) in
-    event_passes c.loop-i.invariant (omega arith) c.requires fault.result fault.ensures (omega arith) held long is
+    let l = c.args.l in
+    let e = event_met l.x.now l.y.now c.into_iter-i-iterator.result (cc) (cc) (cc) c.loop-i.yielded c.loop-i.i-iterator c.next.new.self c.loop-i.yielded_by _ c.next.ensures.steps _ c.in-Some.is in
+    let h = c.in_ok-check_event.ensures in
+    rw length-append (event_passes c.requires c.loop-i.invariant e h _ (set_kept (event_fits c.requires c.loop-i.invariant e h)
+    (elim c.in-Query.is [ inl k ↦ inl (sym c.kind_of.ensures.value ∙ k) | inr k ↦ inr (sym c.kind_of.ensures.value ∙ k) ])))
 
 pub returns : goal.returns
 returns c =
-    events_pass c.loop-i.invariant (omega (arith, c.loop-i.invariant.low)) c.requires.0 c.requires.1
+    let l = c.args.l in
+    events_pass c.requires c.loop-i.invariant
+    (all_met l.x.now l.y.now c.into_iter-i-iterator.result (cc) (cc) (cc) c.loop-i.yielded c.loop-i.i-iterator c.next.new.self c.loop-i.yielded_by _ c.next.ensures.steps c.in-None.is)

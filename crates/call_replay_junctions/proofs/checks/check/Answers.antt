@@ -1,23 +1,21 @@
 -- The sizes, then all else with the lengths of the call's own tables.
-use native.Mathlib.Omega.{arith}
-use Rattle.theory_junction_timeline.specs.JunctionCall.{junction_lent}
-use Rattle.theory_junction_timeline.specs.JunctionReplay.{junction_lengths}
-use Rattle.replay_checks.proofs.CheckLaws.{own_checked, refused_checked, size_refused, within}
+-- Assumes nothing.
+use Rattle.std.proofs.Common.{[], subst, sym}
+use Rattle.replay_checks.proofs.CheckLaws.{own_checked, refusal_returned, size_refused, within}
+use Rattle.call_replay_junctions.specs.JunctionList.{JunctionChecked}
 use Rattle.call_replay_junctions.proofs.checks.check.Goals as goal
 
-pub returns-then-f-gt0 : goal.returns-then-f-gt0
-returns-then-f-gt0 c =
-    refused_checked (junction_lengths (junction_lent c.args.n c.args.m c.args.t c.args.a.now c.args.b.now c.args.start.now c.args.x.now c.args.y.now c.args.answers.now c.args.work.now)) (junction_lent c.args.n c.args.m c.args.t c.args.a.now c.args.b.now c.args.start.now c.args.x.now c.args.y.now c.args.answers.now c.args.work.now) c.args.p _ _ _
-    (size_refused (junction_lengths (junction_lent c.args.n c.args.m c.args.t c.args.a.now c.args.b.now c.args.start.now c.args.x.now c.args.y.now c.args.answers.now c.args.work.now)) (junction_lent c.args.n c.args.m c.args.t c.args.a.now c.args.b.now c.args.start.now c.args.x.now c.args.y.now c.args.answers.now c.args.work.now) c.args.p _ c.size_fault-f.ensures (omega arith)) (omega arith)
+pub returns-in_err-check : goal.returns-in_err-check
+returns-in_err-check c =
+    let a = c.args in
+    subst (JunctionChecked _ _) (sym (refusal_returned _ _ c.from_residual.ensures.1))
+    (size_refused a.l _ _ a.answers.now [] a.work.now c.in_err-check.ensures.refused)
 
 pub required-requires : goal.required-requires
-required-requires c =
-    let (n, m, t) = within (junction_lengths (junction_lent c.args.n c.args.m c.args.t c.args.a.now c.args.b.now c.args.start.now c.args.x.now c.args.y.now c.args.answers.now c.args.work.now)) (junction_lent c.args.n c.args.m c.args.t c.args.a.now c.args.b.now c.args.start.now c.args.x.now c.args.y.now c.args.answers.now c.args.work.now) c.args.p _ c.size_fault-f.ensures (omega arith) in
-    (t, n, m)
+required-requires c = let s = within c.args.l c.in_ok-check.ensures.refused in (s.t_fits, s.n_fits, s.m_fits)
 
-pub check-requires : goal.check-requires
-check-requires c = within (junction_lengths (junction_lent c.args.n c.args.m c.args.t c.args.a.now c.args.b.now c.args.start.now c.args.x.now c.args.y.now c.args.answers.now c.args.work.now)) (junction_lent c.args.n c.args.m c.args.t c.args.a.now c.args.b.now c.args.start.now c.args.x.now c.args.y.now c.args.answers.now c.args.work.now) c.args.p _ c.size_fault-f.ensures (omega arith)
+pub check-requires-2 : goal.check-requires-2
+check-requires-2 c = within c.args.l c.in_ok-check.ensures.refused
 
 pub returns : goal.returns
-returns c =
-    own_checked (junction_lengths (junction_lent c.args.n c.args.m c.args.t c.args.a.now c.args.b.now c.args.start.now c.args.x.now c.args.y.now c.args.answers.now c.args.work.now)) (junction_lent c.args.n c.args.m c.args.t c.args.a.now c.args.b.now c.args.start.now c.args.x.now c.args.y.now c.args.answers.now c.args.work.now) c.args.p (rw (← c.required.ensures) c.check.ensures)
+returns c = let a = c.args in own_checked a.l _ _ a.answers.now [] a.work.now (rw (← c.required.ensures) c.check-2.ensures)

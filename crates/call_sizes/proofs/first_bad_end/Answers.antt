@@ -3,7 +3,7 @@
 use Rattle.std.proofs.Common.{arith, ◌∙◌}
 use Rattle.call_sizes.proofs.RefusalLaws.{good_ends, seek_more}
 use Rattle.call_sizes.specs.Refusal.{bad_ends}
-use Rattle.call_sizes.proofs.first_bad_ends.Goals as goal
+use Rattle.call_sizes.proofs.first_bad_end.Goals as goal
 
 pub loop-s-preserved : goal.loop-s-preserved
 loop-s-preserved c =
