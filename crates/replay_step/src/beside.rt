@@ -82,11 +82,9 @@ pub(crate) fn add_events(
     ensures { Added w part i j m work.old work.new result }
 {
     let mut k = m;
-    let mut e = i;
     // The events before e are added.
-    while e < j {
+    for e in i..j {
         k = add_event(w, part, e, work, k);
-        e += 1;
     }
     k
 }

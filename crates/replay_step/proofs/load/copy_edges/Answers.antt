@@ -5,15 +5,6 @@ use Rattle.replay_step.proofs.load.copy_edges.Goals as goal
 pub loop-j-init : goal.loop-j-init
 loop-j-init c = copying_none _ _ _ _ _ _
 
-pub bounds-work-from : goal.bounds-work-from
-bounds-work-from c = omega (arith, c.loop-j.invariant.long)
-
-pub bounds-work-from-in-loop-j : goal.bounds-work-from-in-loop-j
-bounds-work-from-in-loop-j c = omega (arith, c.loop-j.invariant.long)
-
-pub bounds-work-from-in-loop-j-2 : goal.bounds-work-from-in-loop-j-2
-bounds-work-from-in-loop-j-2 c = omega (arith, c.loop-j.invariant.long)
-
 pub slice_bounds-put_edge-count : goal.slice_bounds-put_edge-count
 slice_bounds-put_edge-count c = omega (arith, c.loop-j.invariant.long)
 

@@ -5,9 +5,6 @@ use Rattle.replay_step.proofs.load.enter_all.Goals as goal
 pub loop-i-init : goal.loop-i-init
 loop-i-init c = entering_none _ _ _ _ _ c.requires
 
-pub bounds-work-from : goal.bounds-work-from
-bounds-work-from c = omega (arith, c.loop-i.invariant.long)
-
 pub slice_bounds-enter-count : goal.slice_bounds-enter-count
 slice_bounds-enter-count c = omega (arith, c.loop-i.invariant.long)
 
