@@ -90,7 +90,7 @@ module _ {p : Part} {l : Graph} {w : List ℕ} (q : JunctionMakeReady p l w) whe
           marked = rw same_L e.marked;
           marks = rw same_L e.marks;
         };
-        room = rw (length-take, length-drop) (omega (arith, q.room));
+        room = rw (length-take, length-drop) (omega (arith, q.enough));
       }
 
   -- w₁: the reduction's words put back; then the places, the words of the events, and three runs of ends are written
@@ -102,7 +102,7 @@ module _ {p : Part} {l : Graph} {w : List ℕ} (q : JunctionMakeReady p l w) whe
     w₁ = put_mid s (length w - s) w zs
 
     high : s ≤ length w
-    high = omega (arith, q.room)
+    high = omega (arith, q.enough)
 
     behind_1 : drop s w₁ ≡ zs
     behind_1 = drop_back s w zs high
@@ -142,7 +142,7 @@ module _ {p : Part} {l : Graph} {w : List ℕ} (q : JunctionMakeReady p l w) whe
     map_need = (
       q.ready.places,
       omega (arith, q.behind),
-      omega (arith, q.room, length_1),
+      omega (arith, q.enough, length_1),
       λ i u. omega (arith, q.ready.nodes i u, front_get s (p.places + i) w w₁ front_1 (omega (arith, q.ready.places, q.behind))),
     )
 
@@ -152,7 +152,7 @@ module _ {p : Part} {l : Graph} {w : List ℕ} (q : JunctionMakeReady p l w) whe
 
     pub ends_need : (z : List ℕ) → length z ≡ length w
         → (A + 5 * c + e ≤ F) × (A + 13 * c + e ≤ F) × (A + 21 * c + e ≤ F) × (F + 6 * e ≤ length z)
-    ends_need z h = (omega (arith, few_out, q.behind), omega (arith, few_out, q.behind), omega (arith, few_out, q.behind), omega (arith, few_out, q.room))
+    ends_need z h = (omega (arith, few_out, q.behind), omega (arith, few_out, q.behind), omega (arith, few_out, q.behind), omega (arith, few_out, q.enough))
 
     module _ {w₂ w₃ w₄ w₅ w₆ : List ℕ} (e₂ : w₂ ≡ sets w₁ A (map (node MAPPED (drop s w₁)) (take (2 * c) (drop p.places w₁))))
         (e₃ : w₃ ≡ sets w₂ (A + 2 * c) (take (3 * c) (drop p.words w₂))) (e₄ : w₄ ≡ sets w₃ (A + 5 * c) (table (λ j. get_or w₃ (F + 6 * j) 0) 0 e))
