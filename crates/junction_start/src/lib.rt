@@ -26,6 +26,8 @@ impl Reduction for Junctions {
 
     ghost reduced = { JunctionArea };
 
+    ghost WINDOW = { 340 };
+
     ghost room = { junction_room };
 
     ghost made = { JunctionAreaMade };

@@ -163,7 +163,7 @@ module _ {w : Window} {p : Part} {v : List ℕ} (st : JunctionStepReady w p.at p
       stepped = stepped_of JunctionArea JunctionArea ip pl.front am r part_made
 
 -- ---- what the sibling's reduction owes: a part gets a reduced graph of its network
-pub reduces : Reduces JunctionArea JunctionArea 29 8 junction_room JunctionAreaMade
+pub reduces : Reduces JunctionArea JunctionArea 29 8 340 junction_room JunctionAreaMade
 reduces = record {
   fewer = λ n m k c h. omega arith;
   loads = λ w p v st ip. load_ready st ip;
@@ -181,4 +181,21 @@ reduces = record {
         };
         events = record { places = am.places ∙ ap (map am.σ) T; words = am.events ∙ W };
       };
+  own = λ g sound w some v h a. a;
+  enough = λ w p v q lo c z a b s e f.
+      let k = area_nodes q.sound q.inside v (omega (arith, q.enough)) q.area in
+      record {
+        g = q.g;
+        sound = q.sound;
+        inside = q.inside;
+        area = rw f q.area;
+        starts = a;
+        ends = b;
+        some = s;
+        room = omega (arith, q.enough, k.0, q.area.graph.few);
+        many = omega (arith, k.1);
+        much = q.much;
+      };
+  fits = λ c n h. omega arith;
+  nodes = λ w p v q. let k = area_nodes q.sound q.inside v (omega (arith, q.enough)) q.area in omega (arith, k.1);
 }

@@ -232,7 +232,7 @@ pick_few t i (e ∷ es) = go (t i) (pick_few t (suc i) es)
     go true h = omega arith
     go false h = omega arith
 
-module _ {A B : Timeline → Window → List ℕ → Type 0} {words edges : ℕ} {room : ℕ → ℕ → ℕ → ℕ} {Made : Part → Graph → List ℕ → List ℕ → Counts → Type 0} (o : Reduces A B words edges room Made)
+module _ {A B : Timeline → Window → List ℕ → Type 0} {words edges window : ℕ} {room : ℕ → ℕ → ℕ → ℕ} {Made : Part → Graph → List ℕ → List ℕ → Counts → Type 0} (o : Reduces A B words edges window room Made)
     {n t : ℕ} {a b : List ℕ} {counts area : ℕ} {v : List ℕ} (q : WholeReadyBy words room n t a b counts area v) {z : List ℕ} {l : Graph}
     (wl : WholeLoaded n (above t area (area + words * t)) a b counts v z l) (lz : length z ≡ length v) where
   few_loaded : l.edges ≤ length a

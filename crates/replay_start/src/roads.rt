@@ -24,6 +24,8 @@ impl Reduction for Roads {
 
     ghost reduced = { SmallArea };
 
+    ghost WINDOW = { 187 };
+
     ghost room = { road_room };
 
     ghost made = { AreaMade };

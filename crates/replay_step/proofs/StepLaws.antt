@@ -4,7 +4,7 @@ use Prim.Native.Nat.{◌*◌, ◌+◌, ◌-◌, ◌<◌, ◌≤◌, ℕ}
 use mathlib.Core.List.{List, Memᴰ, ◌++◌, map}
 use mathlib.Core.Path.{◌∙◌, ◌≡◌, ap, ap₂, refl, subst, sym}
 use lib.Dec.{ltb}
-use lib.ListN.{drop, get_or, length, take}
+use lib.ListN.{drop, get_or, length, length-take, take}
 use lib.Seq.{get_or-drop, get_or-take, length-take-le}
 use native.Mathlib.Omega.{arith}
 use borrow.Author.Tests.{ltb-true}
@@ -28,6 +28,7 @@ use Rattle.theory_timeline.specs.Steps as Steps
 use Rattle.theory_timeline.specs.Steps.{Sound, added}
 use Rattle.theory_timeline.specs.Tags.{key_of, word}
 use Rattle.theory_timeline.specs.Windows.{Timeline, active, changes_at, event, network, size}
+use Rattle.replay_step.proofs.AreaCounts.{area_nodes, area_of}
 use Rattle.replay_step.proofs.EdgeLaws.{area_runs, area_table, area_entry}
 use Rattle.replay_step.proofs.LoadLaws.{edges_are, places_are, window_length, words_are}
 use Rattle.replay_step.proofs.WordLaws.{low_map, take_less}
@@ -190,7 +191,7 @@ module _ {w : Window} {p : Part} {v : List ℕ} (st : StepReady w p.at p.events 
   stepped = stepped_of Area SmallArea ip pl.front am r part_made
 
 -- ---- what the replay's own reduction owes: the contraction makes a part's small graph
-pub reduces : Reduces Area SmallArea 17 4 road_room AreaMade
+pub reduces : Reduces Area SmallArea 17 4 187 road_room AreaMade
 reduces = record {
   fewer = λ n m k c h. omega arith;
   loads = λ w p v st ip. load_ready st ip;
@@ -202,6 +203,23 @@ reduces = record {
       small_area g sound (window_of p r)
       (subst (λ (G : Named). IsNamedSmallGraph G (active g (p.at, p.events)) r.nodes (area_edges p.events r.edges (take (17 * p.events) (drop p.area y))) am.graph.ρ am.σ) N s)
       (record { places = am.places ∙ ap (map am.σ) T; words = am.events ∙ W });
+  own = λ g sound w some v h a. area_of a some sound (rw length-take (omega arith));
+  enough = λ w p v q lo c z a b s e f.
+      let o = area_of q.area q.some q.sound (rw length-take (omega (arith, q.enough))) in
+      record {
+        g = q.g;
+        sound = q.sound;
+        inside = q.inside;
+        area = rw f o;
+        starts = a;
+        ends = b;
+        some = s;
+        room = omega (arith, q.enough, area_nodes q.area q.some, o.graph.few);
+        many = omega (arith, q.much, area_nodes q.area q.some);
+        much = q.much;
+      };
+  fits = λ c n h. omega arith;
+  nodes = λ w p v q. omega (arith, q.much, area_nodes q.area q.some);
 }
 
 -- ---- a step by any reduction
@@ -215,7 +233,7 @@ is_part {words} {w} a {c} {W} {W'} e f = record {
   scratch = ap₂ (λ (k l : ℕ). k * w.events + l * c) e f;
 }
 
-module _ {A B : Timeline → Window → List ℕ → Type 0} {words edges : ℕ} {room : ℕ → ℕ → ℕ → ℕ} {Made : Part → Graph → List ℕ → List ℕ → Counts → Type 0} (o : Reduces A B words edges room Made)
+module _ {A B : Timeline → Window → List ℕ → Type 0} {words edges window : ℕ} {room : ℕ → ℕ → ℕ → ℕ} {Made : Part → Graph → List ℕ → List ℕ → Counts → Type 0} (o : Reduces A B words edges window room Made)
     {w : Window} {p : Part} {v : List ℕ} (st : StepReadyBy A words room w p.at p.events v) (ip : IsPartOf (words_of words) w p) where
   -- the room for the window's edges
   pub edges_fit : 3 * (edges * w.events) ≤ length v

@@ -1,13 +1,14 @@
 -- What differs between the replay and its sibling, and what each owes so that its step and its whole list are made in one way (docs/algorithm.md, "Windows").
--- Areas have `words` words and room for `edges` edges, for each event. To reduce a graph of n nodes and m edges, for a part of c events, takes `room n m c` words.
+-- For each event of its window an area has `words` words and room for `edges` edges, and a window and all below it take `window` words. To reduce a graph of n
+-- nodes and m edges, for a part of c events, takes `room n m c` words.
 -- Assumes nothing: these are definitions.
-use Rattle.std.specs.Prelude.{◌*◌, ◌+◌, ◌≤◌, ℕ, List, ◌≡◌, drop, length, take}
+use Rattle.std.specs.Prelude.{◌*◌, ◌+◌, ◌<◌, ◌≤◌, ℕ, List, ◌≡◌, drop, length, take}
 use Rattle.core_reduce.specs.Core.{edges_in}
 use Rattle.core_reduce.specs.declared.Counts.{Counts}
 use Rattle.theory_timeline.specs.Steps.{Sound}
 use Rattle.theory_timeline.specs.Tags.{event_words}
 use Rattle.theory_timeline.specs.Windows.{Timeline, active, network}
-use Rattle.replay_step.specs.Area.{IsPartOf, StepReadyOf, SteppedOf}
+use Rattle.replay_step.specs.Area.{IsPartOf, StepReadyOf, SteppedOf, WindowReadyOf}
 use Rattle.replay_step.specs.Load.{BehindOf, LoadReady, MakeReady, PartLoaded}
 use Rattle.replay_step.specs.declared.Graph.{Graph}
 use Rattle.replay_step.specs.declared.Part.{Part}
@@ -32,7 +33,7 @@ abbrev pub StepReadyBy : (Timeline → Window → List ℕ → Type 0) → ℕ �
 StepReadyBy A words room w lo c v = StepReadyOf A (words_of words) (words * w.events + words * c + room w.nodes (w.edges + w.events) c) w lo c v
 
 -- What a reduction owes. A step asks of the window's area A, and makes the part's area B; `Made` is what stands in the words when a part's area is made.
-pub record Reduces (A B : Timeline → Window → List ℕ → Type 0) (words edges : ℕ) (room : ℕ → ℕ → ℕ → ℕ) (Made : Part → Graph → List ℕ → List ℕ → Counts → Type 0) : Type 0 where
+pub record Reduces (A B : Timeline → Window → List ℕ → Type 0) (words edges window : ℕ) (room : ℕ → ℕ → ℕ → ℕ) (Made : Part → Graph → List ℕ → List ℕ → Counts → Type 0) : Type 0 where
   -- fewer edges take no more room
   pub fewer : (n m k c : ℕ) → m ≤ k → room n m c ≤ room n k c
   -- the window's area is as what is loaded asks for
@@ -47,3 +48,12 @@ pub record Reduces (A B : Timeline → Window → List ℕ → Type 0) (words ed
       → take (2 * p.events) (drop p.places z) ≡ active g (p.at, p.events)
       → take (3 * p.events) (drop p.words z) ≡ event_words g p.at p.events
       → B g (window_of p r) (take (words * p.events) (drop p.area y))
+  -- an area that is made is one of which a step can be made
+  pub own : (g : Timeline) → Sound g → (w : Window) → 0 < w.events → (v : List ℕ) → words * w.events ≤ length v → B g w (take (words * w.events) v) → A g w (take (words * w.events) v)
+  -- with the words of a window there are enough for its steps
+  pub enough : (w : Window) (p : ℕ) (v : List ℕ) → WindowReadyOf B (words_of words) (words_of window) w p v → (lo c : ℕ) (z : List ℕ) → w.at ≤ lo → lo + c ≤ w.at + w.events → 0 < c
+      → length z ≡ length v → take (words * w.events) z ≡ take (words * w.events) v → StepReadyBy A words room w lo c z
+  -- and for a part, which has at most ten elevenths of the window's events, and all below it
+  pub fits : (c n : ℕ) → 11 * c ≤ 10 * n → words * n + window * c ≤ window * n
+  -- its graph has few nodes
+  pub nodes : (w : Window) (p : ℕ) (v : List ℕ) → WindowReadyOf B (words_of words) (words_of window) w p v → w.nodes ≤ 16384

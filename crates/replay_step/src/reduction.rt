@@ -24,6 +24,9 @@ pub trait Reduction {
 
     ghost reduced: { Timeline → Window → List ℕ → Type 0 };
 
+    // The words that a window and all below it take, for each of its events.
+    ghost WINDOW: { ℕ };
+
     // The words that it takes to reduce a graph of so many nodes and edges, for a part of so many events.
     ghost room: { ℕ → ℕ → ℕ → ℕ };
 
@@ -36,5 +39,5 @@ pub trait Reduction {
         ensures { made part l work.old work.new result };
 
     // With it a step and a whole list get the areas that they are to have.
-    ghost reduces: { Reduces carries reduced WORDS EDGES room made };
+    ghost reduces: { Reduces carries reduced WORDS EDGES WINDOW room made };
 }
