@@ -165,6 +165,7 @@ module _ {w : Window} {p : Part} {v : List ℕ} (st : JunctionStepReady w p.at p
 -- ---- what the sibling's reduction owes: a part gets a reduced graph of its network
 pub reduces : Reduces JunctionArea JunctionArea 29 8 340 junction_room JunctionAreaMade
 reduces = record {
+  least = λ n m c. omega arith;
   fewer = λ n m k c h. omega arith;
   loads = λ w p v st ip. load_ready st ip;
   steps = λ w p v st ip z l pl lz y r am. stepped st ip pl lz am;

@@ -2,7 +2,7 @@
 #![tactic(auto)]
 
 ghost use Rattle.std.specs.Prelude.{◌≡◌, ◌≤◌, length};
-ghost use Rattle.std.proofs.Common.{◌∙◌};
+ghost use Rattle.std.proofs.Common.{◌∙◌, refl};
 ghost use Rattle.junction_windows.specs.JunctionDescent.{JunctionReplied, junction_replied_both, long_shorter, long_still};
 
 use junction_start::Junctions;
@@ -30,6 +30,7 @@ impl Replies for JunctionReplies<'_> {
             shorter = λ d e t h l. long_shorter d e (length t.answers.now) h l;
             as_long = λ e t u s l. long_still e (length t.answers.now) (length u.answers.now) s.1 l;
             still = λ t u v a b. (b.0 ∙ a.0, b.1 ∙ a.1);
+            nothing = λ g p t. ((refl, refl), refl);
             both = λ g s p a w v two z c e t u x b k i j. junction_replied_both g p a w two c e t.answers.now u.answers.now x.answers.now i j;
         }
     };

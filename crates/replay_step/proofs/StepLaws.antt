@@ -193,6 +193,7 @@ module _ {w : Window} {p : Part} {v : List ℕ} (st : StepReady w p.at p.events 
 -- ---- what the replay's own reduction owes: the contraction makes a part's small graph
 pub reduces : Reduces Area SmallArea 17 4 187 road_room AreaMade
 reduces = record {
+  least = λ n m c. omega arith;
   fewer = λ n m k c h. omega arith;
   loads = λ w p v st ip. load_ready st ip;
   steps = λ w p v st ip z l pl lz y r am. stepped st ip pl lz am;

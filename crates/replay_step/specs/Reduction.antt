@@ -34,7 +34,8 @@ StepReadyBy A words room w lo c v = StepReadyOf A (words_of words) (words * w.ev
 
 -- What a reduction owes. A step asks of the window's area A, and makes the part's area B; `Made` is what stands in the words when a part's area is made.
 pub record Reduces (A B : Timeline → Window → List ℕ → Type 0) (words edges window : ℕ) (room : ℕ → ℕ → ℕ → ℕ) (Made : Part → Graph → List ℕ → List ℕ → Counts → Type 0) : Type 0 where
-  -- fewer edges take no more room
+  -- it takes no less room than the graph does, and fewer edges take no more
+  pub least : (n m c : ℕ) → 16 * n + 6 * m ≤ room n m c
   pub fewer : (n m k c : ℕ) → m ≤ k → room n m c ≤ room n k c
   -- the window's area is as what is loaded asks for
   pub loads : (w : Window) (p : Part) (v : List ℕ) → StepReadyBy A words room w p.at p.events v → IsPartOf (words_of words) w p → LoadReady w (edges * w.events) p v

@@ -2,7 +2,7 @@
 -- In order: either replay; the replay's own.
 -- Assumes nothing: these are definitions, and a law that they have.
 use Rattle.std.specs.Prelude.{◌*◌, ◌+◌, ◌-◌, ◌≤◌, ℕ, List, map, ◌≡◌}
-use Rattle.std.proofs.Common.{◌∙◌, ap₂, arith, sym}
+use Rattle.std.proofs.Common.{◌∙◌, ap₂, arith, refl, sym}
 use Rattle.std.proofs.lemmas.List.Edits.{sets}
 use Rattle.theory_graph.specs.Lists.{sum, table}
 use Rattle.theory_timeline.specs.DemandThree.{Allowed}
@@ -17,14 +17,16 @@ use Rattle.replay_step.specs.Reduction.{words_of}
 use Rattle.replay_step.specs.declared.Window.{Window}
 
 -- ---- either replay
--- What is written of events, in the tables T: `Long e` says that they have an entry for each event before the e-th, `Same` that they are the same tables with
+-- What is written of events, in tables that are a T: `Long e` says that they have an entry for each event before the e-th, `Same` that they are the same tables with
 -- other entries, and `Wrote g p at n before after kept` that the replies of the n events from `at` on are written, and that kept counts the nodes of their window
--- and of all below it by the share p. The two parts of a window with an area B make up its replies.
+-- and of all below it by the share p. Of no events nothing is written; the
+-- two parts of a window with an area B make up its replies.
 pub record WritesParts {T : Type 0} (B : Timeline → Window → List ℕ → Type 0) (Long : ℕ → T → Type 0) (Same : T → T → Type 0)
     (Wrote : Timeline → ℕ → ℕ → ℕ → T → T → ℕ → Type 0) : Type 0 where
   pub shorter : (d e : ℕ) (t : T) → d ≤ e → Long e t → Long d t
   pub as_long : (e : ℕ) (t u : T) → Same t u → Long e t → Long e u
   pub still : (t u v : T) → Same t u → Same u v → Same t v
+  pub nothing : (g : Timeline) (p : ℕ) (t : T) → Same t t × Wrote g p 0 0 t t 0
   pub both : (g : Timeline) → Sound g → (p : ℕ) → Allowed p → (w : Window) (v : List ℕ) → 2 ≤ w.events → B g w v → (c : ℕ) → c ≡ first_part p w.events
       → (before mid after : T) (b k : ℕ) → Wrote g p w.at c before mid b → Wrote g p (w.at + c) (w.events - c) mid after k
       → Wrote g p w.at w.events before after (w.nodes + b + k)
@@ -54,6 +56,11 @@ pub record Replied (g : Timeline) (at n p : ℕ) (before after : Written) (k : �
   pub answers : after.answers ≡ sets before.answers at (table (byte g) at n)
   pub names : after.names ≡ sets before.names at (table (name_at g) at n)
   pub kept : k ≡ sum (map (λ w. (small g w).nodes) (windows_from p n at n))
+
+-- those of no events
+pub replied_none : (g : Timeline) (p : ℕ) (t : Written) → Replied g 0 0 p t t 0
+unfolding windows_from
+replied_none g p t = record { answers = refl; names = refl; kept = refl }
 
 -- those of a window are those of its two parts
 pub replied_both : (g : Timeline) (p : ℕ) → Allowed p → (w : Window) (v : List ℕ) → 2 ≤ w.events → SmallArea g w v → (c : ℕ) → c ≡ first_part p w.events

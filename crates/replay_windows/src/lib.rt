@@ -1,6 +1,7 @@
 // The recursion over windows, in either replay. The area of a window is at the front of its work slice; each part works in the rest.
 #![tactic(auto)]
 
+pub mod list;
 pub mod roads;
 
 ghost use Rattle.std.specs.Prelude.{◌≡◌, ◌*◌, ◌+◌, ◌<◌, ◌≤◌, ℕ, List, length, set, take};
