@@ -6,6 +6,7 @@ pub mod area;
 mod beside;
 pub mod load;
 pub mod reduction;
+pub mod tag;
 
 ghost use Rattle.replay_step.specs.Area.{SteppedOf};
 ghost use Rattle.replay_step.specs.Load.{LoadReady, PartLoaded};
@@ -14,7 +15,7 @@ ghost use Rattle.replay_step.specs.Reduction.{StepReadyBy, words_of};
 use crate::reduction::Reduction;
 
 // Internal: a window of a list by its first event and its number of events, with the nodes and the edges of the graph in its area.
-#[derive(Clone, Copy)]
+#[derive(Clone, Copy, Debug, PartialEq, Eq)]
 pub struct Window {
     pub at: usize,
     pub events: usize,
@@ -24,7 +25,7 @@ pub struct Window {
 
 // Internal: a part whose area is to be made: its first event and its number of events; where its places and the words of its events stand; where its area
 // begins, and behind it the words of the graph that is loaded.
-#[derive(Clone, Copy)]
+#[derive(Clone, Copy, Debug, PartialEq, Eq)]
 pub struct Part {
     pub at: usize,
     pub events: usize,
@@ -35,7 +36,7 @@ pub struct Part {
 }
 
 // Internal: a graph that is loaded behind a part's area: its nodes, its edges, and how many different active nodes it has.
-#[derive(Clone, Copy)]
+#[derive(Clone, Copy, Debug, PartialEq, Eq)]
 pub struct Graph {
     pub nodes: usize,
     pub edges: usize,

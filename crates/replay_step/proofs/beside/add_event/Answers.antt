@@ -8,15 +8,15 @@ pub returns-then-not-adds : goal.returns-then-not-adds
 returns-then-not-adds c =
     add_none c.requires.0 (sym c.event_adds-adds.ensures ∙ c.if-not-adds.true)
 
-pub overflow_sub-c : goal.overflow_sub-c
-overflow_sub-c c =
-    omega (arith, c.word-tag.ensures.0, adds_tag c.requires.0 (sym c.event_adds-adds.ensures ∙ c.if-not-adds.false))
+pub key-requires : goal.key-requires
+key-requires c =
+    omega (arith, c.word.ensures.0, adds_tag c.requires.0 (sym c.event_adds-adds.ensures ∙ c.if-not-adds.false))
 
 pub put_edge-requires : goal.put_edge-requires
 put_edge-requires c =
-    add_need c.requires.0 _ _ _ c.word-a.ensures.0 c.word-b.ensures.0 c.word-tag.ensures.0
+    rw c.key.ensures (add_need c.requires.0 _ _ _ c.word-a.ensures.0 c.word-b.ensures.0 c.word.ensures.0)
 
 pub returns : goal.returns
 returns c =
     add_put c.requires.0 (sym c.event_adds-adds.ensures ∙ c.if-not-adds.false) _ _ _ c.word-a.ensures.0
-    c.word-b.ensures.0 c.word-tag.ensures.0 _ c.put_edge.ensures
+    c.word-b.ensures.0 c.word.ensures.0 _ (rw c.key.ensures at c.put_edge.ensures)

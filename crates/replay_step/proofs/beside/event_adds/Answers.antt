@@ -5,4 +5,4 @@ use Rattle.replay_step.proofs.beside.event_adds.Goals as goal
 
 pub returns : goal.returns
 returns c =
-    c.adds_key.ensures ∙ adds_same _ _ _ c.word-tag.ensures.0 c.word-next.ensures.0 c.word-last.ensures.0
+    c.adds_key.ensures ∙ adds_same _ _ _ c.word.ensures.0 c.word-next.ensures.0 c.word-last.ensures.0

@@ -17,4 +17,4 @@ loop-j-preserved c =
     copying_more c.requires c.loop-j.invariant (omega arith) c.put_edge.new.work c.put_edge.ensures
 
 pub returns : goal.returns
-returns c = copied c.loop-j.invariant (omega (arith, c.loop-j.invariant.low))
+returns c = copied c.loop-j.invariant (omega arith)

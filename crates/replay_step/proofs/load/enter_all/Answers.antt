@@ -17,4 +17,4 @@ loop-i-preserved c =
     entering_more c.requires c.loop-i.invariant (omega arith) c.enter-k.result c.enter-k.new.work c.enter-k.ensures
 
 pub returns : goal.returns
-returns c = entering_all c.loop-i.invariant (omega (arith, c.loop-i.invariant.low))
+returns c = entering_all c.loop-i.invariant (omega arith)
