@@ -2,7 +2,7 @@
 -- The area of a window of n events is 29 n words: for each event the nodes of its two junctions (2 n words) and its three words (3 n, theory_timeline's Tags),
 -- as in the replay; then the one ends of the edges (8 n), the other ends (8 n), and a word for each edge that nobody reads (8 n), where the replay has names.
 -- Assumes nothing: these are definitions.
-use Rattle.std.specs.Prelude.{◌*◌, ◌+◌, ◌<◌, ◌≤◌, ℕ, List, drop, get_or, length, take}
+use Rattle.std.specs.Prelude.{◌*◌, ◌+◌, ◌<◌, ◌≤◌, ℕ, List, drop, get_or, take}
 use Rattle.core_reduce.specs.Core.{edges_in}
 use Rattle.core_reduce.specs.declared.Counts.{Counts}
 use Rattle.theory_graph.specs.Graph.{Edge}

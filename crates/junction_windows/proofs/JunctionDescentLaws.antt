@@ -1,11 +1,11 @@
 -- The sibling's windows of one event: the byte. What both replays need of their recursion is in replay_windows, PartLaws.
 -- Assumes nothing.
-use Prim.Native.Nat.{◌*◌, ◌+◌, ◌-◌, ◌<◌, ◌≤◌, ℕ}
+use Prim.Native.Nat.{◌*◌, ◌+◌, ◌<◌, ◌≤◌, ℕ}
 use mathlib.Core.Bool.{Bool, cond, true}
 use mathlib.Core.List.{List}
-use mathlib.Core.Path.{◌∙◌, ◌≡◌, ap, ap₂, refl, subst, sym}
+use mathlib.Core.Path.{◌∙◌, ◌≡◌, ap, ap₂, subst, sym}
 use lib.Dec.{eqb}
-use lib.ListN.{drop, get_or, length, set, take}
+use lib.ListN.{get_or, length, set, take}
 use native.Mathlib.Omega.{arith}
 use borrow.Author.Tests.{eqb-false, eqb-true}
 use Rattle.theory_graph.proofs.Booleans.{on_bool}
@@ -15,7 +15,7 @@ use Rattle.theory_junctions.specs.Reply.{read_reply}
 use Rattle.theory_names.specs.Names.{Entry, plain}
 use Rattle.theory_timeline.specs.Steps.{Sound}
 use Rattle.theory_timeline.specs.Tags.{ends_at}
-use Rattle.theory_timeline.specs.Windows.{Timeline, active, asks_at, event, first_part, network, size}
+use Rattle.theory_timeline.specs.Windows.{Timeline, active, asks_at, event, network, size}
 use Rattle.theory_junction_timeline.proofs.JunctionNetworks.{change_byte, leaf_byte}
 use Rattle.theory_junction_timeline.specs.JunctionReplay.{junction_byte}
 use Rattle.theory_junctions.specs.ReducedGraph.{IsReducedGraph}

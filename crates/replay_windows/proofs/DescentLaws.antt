@@ -1,38 +1,28 @@
 -- The replay's windows of one event: the byte and the name. What both replays need of their recursion is in PartLaws.
 -- Assumes nothing.
-use Prim.Native.Nat.{◌*◌, ◌+◌, ◌-◌, ◌<◌, ◌≤◌, suc, zero, ℕ}
+use Prim.Native.Nat.{◌*◌, ◌+◌, ◌<◌, ◌≤◌, suc, zero, ℕ}
 use mathlib.Core.Bool.{Bool, cond, false, true}
-use mathlib.Core.List.{List, Memᴰ, [], ◌++◌, ◌∷◌, map}
-use mathlib.Core.Path.{◌∙◌, ◌≡◌, ap, ap₂, refl, subst, sym}
-use lib.Dec.{eqb, ltb}
-use lib.ListN.{drop, get_or, length, length-drop, length-map, length-take, set, take}
+use mathlib.Core.List.{List, Memᴰ, [], ◌∷◌}
+use mathlib.Core.Path.{◌∙◌, ◌≡◌, ap, refl, subst, sym}
+use lib.Dec.{eqb}
+use lib.ListN.{get_or, length, length-take, set, take}
 use lib.Seq.{get_or-take}
 use native.Mathlib.Omega.{arith}
-use borrow.Author.Tests.{eqb-false, eqb-true, ltb-false, ltb-true}
+use borrow.Author.Tests.{eqb-false, eqb-true}
 use Rattle.theory_graph.proofs.Booleans.{on_bool}
-use Rattle.theory_graph.proofs.EdgeCount.{firsts_most, small_edges, small_edges_most}
 use Rattle.theory_graph.proofs.Lists.{table_in, table_length}
-use Rattle.theory_graph.proofs.SmallGraphDefinition.{definition_small}
-use Rattle.theory_graph.proofs.TableLaws.{pairs_length}
 use Rattle.theory_graph.specs.Graph.{answer}
-use Rattle.theory_graph.specs.Lists.{pairs, sum, table}
-use Rattle.theory_graph.specs.SmallGraph.{different, most_nodes, read_off}
+use Rattle.theory_graph.specs.Lists.{table}
+use Rattle.theory_graph.specs.SmallGraph.{read_off}
 use Rattle.theory_names.proofs.Hangs.{hangs_none}
-use Rattle.theory_names.proofs.NamedSmallCuts.{named_small_carries, named_small_sixteen}
-use Rattle.theory_names.proofs.NamedUniqueness.{named_renumbered_small}
-use Rattle.theory_names.specs.Names.{Entry, Named, Sixteen, hangs, plain}
-use Rattle.theory_names.specs.NamedSmallGraph.{IsNamedSmallGraph, read_name}
-use Rattle.theory_timeline.proofs.Acceptance.{sound_good}
-use Rattle.theory_timeline.proofs.DemandThree.{named_is}
+use Rattle.theory_names.specs.Names.{Entry, Named, hangs, plain}
+use Rattle.theory_names.specs.NamedSmallGraph.{read_name}
 use Rattle.theory_timeline.proofs.Leaves.{alone, alone_name, during_one}
-use Rattle.theory_timeline.proofs.Networks.{network_sixteen}
-use Rattle.theory_timeline.proofs.WindowLaws.{large_one, small_one}
-use Rattle.theory_timeline.specs.DemandThree.{Allowed}
 use Rattle.theory_timeline.specs.Replay.{byte, name_at}
 use Rattle.theory_timeline.specs.Steps.{Sound}
-use Rattle.theory_timeline.specs.Windows.{Timeline, Window, active, asks_at, during, event, first_part, network, open_before, open_graph, size, small, windows_from}
+use Rattle.theory_timeline.specs.Windows.{Timeline, active, asks_at, during, event, network, open_before, open_graph, size, small}
 use Rattle.replay_step.proofs.AreaCounts.{area_is, area_of, area_small, graph}
-use Rattle.replay_step.proofs.EdgeLaws.{area_table, area_entry}
+use Rattle.replay_step.proofs.EdgeLaws.{area_entry}
 use Rattle.replay_step.proofs.LeafLaws.{leaf_asks, leaf_changes}
 use Rattle.replay_step.proofs.ShareLaws.{sum_one}
 use Rattle.replay_step.specs.Area.{SmallArea, WindowReadyOf, area_edges, span}

@@ -1,7 +1,7 @@
 -- What is loaded, and the area made out of it.
 use Prim.Native.Nat.{◌-◌}
 use native.Mathlib.Omega.{arith}
-use Rattle.replay_step.proofs.StepLaws.{edges_fit, is_part, make_ready, part_ready, stepped_by}
+use Rattle.replay_step.proofs.StepLaws.{edges_fit, is_part, part_ready, stepped_by}
 use Rattle.replay_step.proofs.step.Goals as goal
 
 pub overflow_mul-EDGES : goal.overflow_mul-EDGES
@@ -15,12 +15,6 @@ load_part-l-requires g c =
     let a = c.args.lo - c.args.w.at in
     let o = g.met.R.Reduction.reduces in
     rw c.EDGES.ensures (o.loads _ _ _ (part_ready c.requires a (omega arith)) (is_part a c.WORDS.ensures c.WORDS-2.ensures))
-
-pub make_area-small-requires : goal.make_area-small-requires
-make_area-small-requires g c =
-    let a = c.args.lo - c.args.w.at in
-    let l = rw c.EDGES.ensures at c.load_part-l.ensures in
-    make_ready g.met.R.Reduction.reduces (part_ready c.requires a (omega arith)) (is_part a c.WORDS.ensures c.WORDS-2.ensures) l (omega arith)
 
 pub returns : goal.returns
 returns g c =

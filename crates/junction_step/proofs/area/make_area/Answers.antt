@@ -3,15 +3,11 @@ use Prim.Native.Nat.{◌*◌, ◌+◌}
 use mathlib.Core.Path.{◌∙◌}
 use native.Mathlib.Omega.{arith}
 use Rattle.replay_step.proofs.WordLaws.{copied_words}
-use Rattle.junction_step.proofs.JunctionAreaLaws.{area_made, can_reduce, ends_need, map_need}
+use Rattle.junction_step.proofs.JunctionAreaLaws.{area_made, can_reduce, ends_need}
 use Rattle.junction_step.proofs.area.make_area.Goals as goal
 
 pub reduce-r-requires : goal.reduce-r-requires
 reduce-r-requires c = can_reduce c.requires
-
-pub put_map-requires : goal.put_map-requires
-put_map-requires c =
-    map_need c.requires c.reduce-r.ensures (omega arith)
 
 pub put_every-requires : goal.put_every-requires
 put_every-requires c =

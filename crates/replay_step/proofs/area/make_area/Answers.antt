@@ -3,16 +3,12 @@ use Prim.Native.Nat.{◌*◌, ◌+◌}
 use mathlib.Core.Path.{◌∙◌}
 use native.Mathlib.Omega.{arith}
 use Rattle.core_words.specs.Fields.{LOWER, NAMED, UPPER}
-use Rattle.replay_step.proofs.AreaLaws.{area_made, fields_need, loaded, map_need}
+use Rattle.replay_step.proofs.AreaLaws.{area_made, fields_need, loaded}
 use Rattle.replay_step.proofs.WordLaws.{copied_words, field_table}
 use Rattle.replay_step.proofs.area.make_area.Goals as goal
 
 pub reduce-r-requires : goal.reduce-r-requires
 reduce-r-requires c = loaded c.requires.0 c.requires.1
-
-pub put_map-requires : goal.put_map-requires
-put_map-requires c =
-    map_need c.requires.0 c.requires.1 c.reduce-r.ensures (omega arith)
 
 pub put_every-requires : goal.put_every-requires
 put_every-requires c =

@@ -1,13 +1,10 @@
-use mathlib.Core.Path.{◌∙◌, ◌≡◌, ap, refl, sym}
+use mathlib.Core.Path.{◌∙◌, ◌≡◌, ap, sym}
 use lib.ListN.{drop}
 use lib.Seq.{sets}
 use native.Mathlib.Omega.{arith}
 use Rattle.replay_step.proofs.WordLaws.{map_table, mapped_length, mapped_low, mapped_more}
 use Rattle.core_words.specs.Fields.{MAPPED, node}
 use Rattle.replay_step.proofs.area.put_map.Goals as goal
-
-pub loop-i-init : goal.loop-i-init
-loop-i-init c = record { written = refl }
 
 pub bounds-work-s : goal.bounds-work-s
 bounds-work-s c = omega (arith, mapped_low c.loop-i.invariant c.args.n (omega arith) (c.requires.3 c.loop-i.i (omega arith)), mapped_length c.loop-i.invariant)

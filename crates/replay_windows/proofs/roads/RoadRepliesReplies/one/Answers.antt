@@ -1,6 +1,5 @@
 -- The byte and the name, and then the tables with them.
 use mathlib.Core.Path.{◌∙◌, sym}
-use native.Mathlib.Omega.{arith}
 use Rattle.replay_windows.proofs.DescentLaws.{name_need, one_done}
 use Rattle.replay_windows.proofs.roads.RoadRepliesReplies.one.Goals as goal
 
