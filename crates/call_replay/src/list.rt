@@ -1,6 +1,8 @@
-// A list without a fault: its events and roads into words, the whole list's small graph, the windows.
+// A list without a fault, with the tables that it writes.
 ghost use Rattle.replay_windows.specs.Descent.{written};
 ghost use Rattle.call_replay.specs.List.{ListReady, ListReplied};
+
+use replay_windows::roads::RoadReplies;
 
 // The windows of the list, each table being as long as its size says: the bytes and the names of its events, and kept.
 pub(crate) fn replay_list(
@@ -19,15 +21,6 @@ pub(crate) fn replay_list(
     ensures { ListReplied n p a.now b.now start.now x.now y.now
         (written answers.old names.old) (written answers.new names.new) result }
 {
-    let t = x.len();
-    if t == 0 {
-        return 0;
-    }
-    let m = a.len();
-    replay_events::write_events(n, a, b, start, x, y, work);
-    // Behind the events' 5 t words stand the names of the roads, m words, then their counts.
-    let counts = 5 * t + m;
-    let area = counts + m;
-    let w = replay_start::whole(n, t, a, b, counts, area, work);
-    replay_windows::window(w, p, answers, names, &mut work[area..])
+    let mut replies = RoadReplies { answers, names };
+    replay_windows::list::replay_list(n, p, a, b, start, x, y, &mut replies, work)
 }

@@ -1,9 +1,9 @@
 -- The whole list and the public call of the sibling: from the events' words to the windows, and the outcome of an accepted call and of a refusal.
 -- In order of the code. Assumes nothing.
-use Prim.Native.Nat.{◌*◌, ◌+◌, ◌-◌, ◌<◌, ◌≤◌, ℕ}
+use Prim.Native.Nat.{◌<◌, ◌≤◌, ℕ}
 use mathlib.Core.Bool.{Bool, false, true}
 use mathlib.Core.List.{List, ◌++◌}
-use mathlib.Core.Path.{◌∙◌, ◌≡◌, ap, refl, subst, sym}
+use mathlib.Core.Path.{◌∙◌, ◌≡◌, ap, refl, sym}
 use lib.ListN.{drop, length, replicate, take}
 use lib.Seq.{sets}
 use native.Mathlib.Omega.{arith}
@@ -13,10 +13,8 @@ use Rattle.call_sizes.proofs.RefusalLaws.{number_positive}
 use Rattle.call_sizes.specs.Refusal.{Refusal}
 use Rattle.call_sizes.specs.declared.Refusal as declared
 use Rattle.replay_events.specs.Kinds.{queries_by}
-use Rattle.replay_events.specs.Writing.{EventsWritten, list_of}
-use Rattle.replay_start.proofs.ListLaws.{area_in, inside, list_ready_of, queries_are, table_is, whole_ready, window_ready}
+use Rattle.replay_start.proofs.ListLaws.{list_ready_of, queries_are, table_is}
 use Rattle.replay_step.proofs.WordLaws.{cleared}
-use Rattle.replay_step.specs.declared.Window.{Window}
 use Rattle.theory_graph.specs.Lists.{over, table}
 use Rattle.theory_timeline.proofs.Acceptance.{AcceptedList}
 use Rattle.theory_timeline.specs.Replay.{Lent, given, open_at_end, queries}
@@ -25,45 +23,7 @@ use Rattle.theory_junction_timeline.specs.JunctionCall.{junction_outcome}
 use Rattle.theory_junction_timeline.specs.JunctionDemand.{KeepsJunctionDemand}
 use Rattle.theory_junction_timeline.specs.JunctionReplay.{JunctionFaultless, JunctionOutcome, junction_byte, junction_bytes, junction_done, junction_fault, junction_refused, junction_required}
 use Rattle.theory_junction_timeline.specs.JunctionReplay.{replay_junctions}
-use Rattle.junction_start.specs.JunctionWhole.{JunctionWholeMade, JunctionWholeReady}
-use Rattle.junction_windows.specs.JunctionDescent.{JunctionWindowDone, JunctionWindowReady, junction_window_words}
 use Rattle.call_replay_junctions.specs.JunctionList.{JunctionChecked, JunctionListReady, JunctionListReplied}
-
--- ---- the list
-module _ {n p : ℕ} {a b start x y answers work : List ℕ} (q : JunctionListReady n p a b start x y answers work) where
-  abbrev t : ℕ
-  t = length x
-
-  -- the places of the counts of the roads and of the whole list's area
-  abbrev counts : ℕ
-  counts = 5 * length x + length a
-
-  abbrev area : ℕ
-  area = 5 * length x + length a + length a
-
-  -- a list without events
-  pub empty_replied : t ≡ 0 → JunctionListReplied n a b start x y answers answers
-  empty_replied z = subst (λ (k : ℕ). answers ≡ sets answers 0 (table (junction_byte (list_of n a b start x y)) 0 k)) (sym z) refl
-
-  module _ (some : 0 < t) {w : List ℕ} (e : EventsWritten n a b start x y w) (l : length w ≡ length work) where
-    pub whole_need : JunctionWholeReady n t a b counts area w
-    whole_need = record { ready = whole_ready q some e l (area + 29 * t) (omega arith) (omega (arith, q.room)); room = omega (arith, q.room) }
-
-    module _ {z : List ℕ} {r : Window} (m : JunctionWholeMade n t a b counts area w z r) (k : length z ≡ length work) where
-      fits : area + 29 * t ≤ length work
-      fits = omega (arith, q.room)
-
-      pub window_need : JunctionWindowReady r p answers (take (length z - area) (drop area z))
-      window_need = record {
-        ready = window_ready q some e l m k fits junction_window_words (omega (arith, q.room));
-        long = omega (arith, m.at, m.events, q.long);
-      }
-
-      pub list_replied : {after : List ℕ} → JunctionWindowDone r (take (29 * r.events) (take (length z - area) (drop area z))) answers after
-          → JunctionListReplied n a b start x y answers after
-      list_replied d =
-          let u = d (list_of n a b start x y) q.events.sound (omega (arith, m.at, m.events, inside q)) (area_in q some e l m k fits) in
-          rw (m.at, m.events) at u
 
 -- ---- an accepted call
 -- a list with k words of work; and what its windows leave

@@ -1,5 +1,7 @@
-// A list without a fault: its events and roads into words, the whole list's reduced graph, the windows.
+// A list without a fault, with the table that it writes.
 ghost use Rattle.call_replay_junctions.specs.JunctionList.{JunctionListReady, JunctionListReplied};
+
+use junction_windows::JunctionReplies;
 
 // The windows of the list, each table being as long as its size says: the bytes of its events.
 pub(crate) fn replay_list(
@@ -17,15 +19,7 @@ pub(crate) fn replay_list(
     ensures { JunctionListReplied n a.now b.now start.now x.now y.now
         answers.old answers.new }
 {
-    let t = x.len();
-    if t == 0 {
-        return;
-    }
-    let m = a.len();
-    replay_events::write_events(n, a, b, start, x, y, work);
-    // Behind the events' 5 t words stand the names of the roads, m words, then their counts.
-    let counts = 5 * t + m;
-    let area = counts + m;
-    let w = junction_start::whole(n, t, a, b, counts, area, work);
-    junction_windows::window(w, p, answers, &mut work[area..]);
+    let mut replies = JunctionReplies { answers };
+    // How many nodes the graphs of its windows have is no part of the sibling's reply.
+    replay_windows::list::replay_list(n, p, a, b, start, x, y, &mut replies, work);
 }

@@ -1,36 +1,40 @@
-// The whole list's graph for the sibling: loaded as in the replay (replay_start::load_whole), and reduced to blocks and cycles.
+// The sibling's own areas, by the loss of a junction: a part has a reduced graph of blocks and cycles. Its steps and its whole list are the replay's
+// (replay_step::step, replay_start::whole).
 #![tactic(auto)]
 
-ghost use Rattle.junction_start.specs.JunctionWhole.{JunctionWholeMade, JunctionWholeReady};
+ghost use Rattle.junction_step.proofs.JunctionStepLaws.{reduces};
+ghost use Rattle.junction_step.specs.JunctionArea.{JunctionArea, JunctionAreaMade, junction_room};
 
-// Internal: the junctions and the words of t events stand at the front of work, and from place `counts` on how many segments of each road are open at the
-// end; the whole list gets its area behind them.
-pub fn whole(
-    n: usize,
-    t: usize,
-    a: &[u16],
-    b: &[u16],
-    counts: usize,
-    area: usize,
-    work: &mut [u32],
-) -> replay_step::Window
-    requires { JunctionWholeReady n t a.now b.now counts area work.old }
-    ensures { JunctionWholeMade n t a.now b.now counts area work.old work.new result }
-{
-    let part = replay_step::Part {
-        at: 0,
-        events: t,
-        places: 0,
-        words: 2 * t,
-        area: area,
-        scratch: area + 29 * t,
-    };
-    let l = replay_start::load_whole(n, part, a, b, counts, work);
-    let r = junction_step::area::make_area(part, l, work);
-    replay_step::Window {
-        at: 0,
-        events: t,
-        nodes: r.nodes,
-        edges: r.edges,
+use core_reduce::Counts;
+use replay_step::reduction::Reduction;
+use replay_step::{Graph, Part};
+
+// Internal: what the sibling is by the loss of a junction.
+#[derive(Clone, Copy, Debug, PartialEq, Eq)]
+pub struct Junctions;
+
+impl Reduction for Junctions {
+    ghost WORDS = { 29 };
+
+    const WORDS: usize = 29;
+
+    ghost EDGES = { 8 };
+
+    const EDGES: usize = 8;
+
+    ghost carries = { JunctionArea };
+
+    ghost reduced = { JunctionArea };
+
+    ghost WINDOW = { 340 };
+
+    ghost room = { junction_room };
+
+    ghost made = { JunctionAreaMade };
+
+    ghost reduces = { reduces };
+
+    fn make_area(part: Part, l: Graph, work: &mut [u32]) -> Counts {
+        junction_step::area::make_area(part, l, work)
     }
 }

@@ -5,7 +5,7 @@ use mathlib.Core.Bool.{Bool, cond, false, true}
 use mathlib.Core.List.{List, Memᴰ, map}
 use mathlib.Core.Path.{◌∙◌, ◌≡◌, ap, ap₂, refl, subst, sym}
 use lib.Dec.{eqb, ltb}
-use lib.ListN.{drop, get_or, length, length-drop, length-map, length-take, set, take}
+use lib.ListN.{drop, get_or, length, length-drop, length-map, length-take, take}
 use lib.Seq.{drop-drop, get_or-drop, get_or-take, sets, take-take}
 use native.Mathlib.Omega.{arith}
 use borrow.Author.Tests.{ltb-true}
@@ -26,19 +26,11 @@ use Rattle.theory_graph.specs.SmallGraph.{different}
 use Rattle.theory_junctions.proofs.SameColourings.{same_labels}
 use Rattle.theory_names.specs.Names.{plain}
 use Rattle.theory_junctions.specs.ReducedGraph.{IsReducedGraph, most_edges, most_junctions}
-use Rattle.replay_step.proofs.WordLaws.{drop_back, fill_length, fill_more, front_get, get_or_sets_after, mid_before, mid_less, mid_take, take_less, take_whole}
+use Rattle.replay_step.proofs.WordLaws.{drop_back, fill_length, front_get, mid_before, mid_less, mid_take, take_less, take_whole}
 use Rattle.replay_step.specs.declared.Graph.{Graph}
 use Rattle.replay_step.specs.declared.Part.{Part}
 use Rattle.replay_step.proofs.RunLaws.{FiveRuns, behind_3, behind_4, behind_5, front_6, long_6, run_1, run_2, run_3, run_4, run_5}
 use Rattle.junction_step.specs.JunctionArea.{JunctionAreaMade, JunctionMakeReady, area_graph}
-
--- ---- the loop that writes a run of ends: i words are written
-pub ends_step : (l w : List ℕ) (from q i : ℕ) → w ≡ sets l q (table (λ j. get_or l (from + 6 * j) 0) 0 i) → q + i ≤ from
-    → set w (q + i) (get_or w (from + 6 * i) 0) ≡ sets l q (table (λ j. get_or l (from + 6 * j) 0) 0 (i + 1))
-ends_step l w from q i e h =
-    let f : ℕ → ℕ = λ j. get_or l (from + 6 * j) 0 in
-    let x : get_or w (from + 6 * i) 0 ≡ f i = ap (λ (u : List ℕ). get_or u (from + 6 * i) 0) e ∙ get_or_sets_after (table f 0 i) l q (from + 6 * i) (omega (arith, table_length f 0 i)) in
-    ap (λ (u : List ℕ). set u (q + i) (get_or w (from + 6 * i) 0)) e ∙ fill_more f l q i (get_or w (from + 6 * i) 0) x
 
 -- ---- the bounds
 pub most_four : (k : ℕ) → most_edges k ≤ 4 * k
@@ -98,7 +90,7 @@ module _ {p : Part} {l : Graph} {w : List ℕ} (q : JunctionMakeReady p l w) whe
           marked = rw same_L e.marked;
           marks = rw same_L e.marks;
         };
-        room = rw (length-take, length-drop) (omega (arith, q.room));
+        room = rw (length-take, length-drop) (omega (arith, q.enough));
       }
 
   -- w₁: the reduction's words put back; then the places, the words of the events, and three runs of ends are written
@@ -110,7 +102,7 @@ module _ {p : Part} {l : Graph} {w : List ℕ} (q : JunctionMakeReady p l w) whe
     w₁ = put_mid s (length w - s) w zs
 
     high : s ≤ length w
-    high = omega (arith, q.room)
+    high = omega (arith, q.enough)
 
     behind_1 : drop s w₁ ≡ zs
     behind_1 = drop_back s w zs high
@@ -150,7 +142,7 @@ module _ {p : Part} {l : Graph} {w : List ℕ} (q : JunctionMakeReady p l w) whe
     map_need = (
       q.ready.places,
       omega (arith, q.behind),
-      omega (arith, q.room, length_1),
+      omega (arith, q.enough, length_1),
       λ i u. omega (arith, q.ready.nodes i u, front_get s (p.places + i) w w₁ front_1 (omega (arith, q.ready.places, q.behind))),
     )
 
@@ -159,20 +151,8 @@ module _ {p : Part} {l : Graph} {w : List ℕ} (q : JunctionMakeReady p l w) whe
     F = s + 16 * n + 6 * m
 
     pub ends_need : (z : List ℕ) → length z ≡ length w
-        → (A + 5 * c + e ≤ F) × (A + 13 * c + e ≤ F) × (A + 21 * c + e ≤ F) × (F + 3 + 6 * e ≤ length z + 3)
-    ends_need z h = (omega (arith, few_out, q.behind), omega (arith, few_out, q.behind), omega (arith, few_out, q.behind), omega (arith, few_out, q.room))
-
-    -- before the last run is written: the words are as many as they were
-    pub names_need : {w₂ w₃ w₄ w₅ : List ℕ} → w₂ ≡ sets w₁ A (map (node MAPPED (drop s w₁)) (take (2 * c) (drop p.places w₁)))
-        → w₃ ≡ sets w₂ (A + 2 * c) (take (3 * c) (drop p.words w₂)) → w₄ ≡ sets w₃ (A + 5 * c) (table (λ j. get_or w₃ (F + 6 * j) 0) 0 e)
-        → w₅ ≡ sets w₄ (A + 13 * c) (table (λ j. get_or w₄ (F + 3 + 6 * j) 0) 0 e) → (A + 21 * c + e ≤ F) × (F + 6 * e ≤ length w₅ + 3)
-    names_need {w₂} {w₃} {w₄} {w₅} e₂ e₃ e₄ e₅ =
-        let l₂ = fill_length w₁ A (map (node MAPPED (drop s w₁)) (take (2 * c) (drop p.places w₁))) e₂ in
-        let l₃ = fill_length w₂ (A + 2 * c) (take (3 * c) (drop p.words w₂)) e₃ in
-        let l₄ = fill_length w₃ (A + 5 * c) (table (λ j. get_or w₃ (F + 6 * j) 0) 0 e) e₄ in
-        let l₅ = fill_length w₄ (A + 13 * c) (table (λ j. get_or w₄ (F + 3 + 6 * j) 0) 0 e) e₅ in
-        let l : length w₅ ≡ length w = l₅ ∙ l₄ ∙ l₃ ∙ l₂ ∙ length_1 in
-        let (_, _, a, b) = ends_need w₅ l in (a, omega arith)
+        → (A + 5 * c + e ≤ F) × (A + 13 * c + e ≤ F) × (A + 21 * c + e ≤ F) × (F + 6 * e ≤ length z)
+    ends_need z h = (omega (arith, few_out, q.behind), omega (arith, few_out, q.behind), omega (arith, few_out, q.behind), omega (arith, few_out, q.enough))
 
     module _ {w₂ w₃ w₄ w₅ w₆ : List ℕ} (e₂ : w₂ ≡ sets w₁ A (map (node MAPPED (drop s w₁)) (take (2 * c) (drop p.places w₁))))
         (e₃ : w₃ ≡ sets w₂ (A + 2 * c) (take (3 * c) (drop p.words w₂))) (e₄ : w₄ ≡ sets w₃ (A + 5 * c) (table (λ j. get_or w₃ (F + 6 * j) 0) 0 e))

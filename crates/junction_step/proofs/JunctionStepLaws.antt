@@ -20,7 +20,7 @@ use Rattle.theory_graph.specs.Graph.{Edge, NodeSet}
 use Rattle.theory_graph.specs.Lists.{firsts, range, table}
 use Rattle.theory_graph.specs.SmallGraph.{different, image}
 use Rattle.theory_names.proofs.NamedCuts.{plain_added, same_cuts}
-use Rattle.theory_names.specs.Names.{Entry, plain}
+use Rattle.theory_names.specs.Names.{Entry, Named, plain}
 use Rattle.theory_timeline.proofs.Acceptance.{sound_good}
 use Rattle.theory_timeline.specs.Steps as Steps
 use Rattle.theory_timeline.specs.Steps.{Sound, added}
@@ -28,14 +28,15 @@ use Rattle.theory_timeline.specs.Windows.{Timeline, active, size}
 use Rattle.theory_junction_timeline.proofs.JunctionNetworks.{distinct_pairwise, part_reduced, reduced_equal}
 use Rattle.theory_junctions.specs.ReducedGraph.{IsReducedGraph}
 use Rattle.replay_step.proofs.LoadLaws.{edges_are, places_are, window_length, words_are}
-use Rattle.replay_step.proofs.StepLaws.{keys_low, places_low, stepped_of, window_of}
+use Rattle.replay_step.proofs.StepLaws.{keys_low, places_low, stepped_of}
 use Rattle.replay_step.specs.Area.{span}
 use Rattle.replay_step.specs.Load.{LoadReady, PartLoaded, edge_at}
+use Rattle.replay_step.specs.Reduction.{Reduces, window_of}
 use Rattle.replay_step.specs.declared.Graph.{Graph}
 use Rattle.replay_step.specs.declared.Part.{Part}
 use Rattle.replay_step.specs.declared.Window.{Window}
 use Rattle.junction_step.proofs.JunctionAreaLaws.{most_four, most_three}
-use Rattle.junction_step.specs.JunctionArea.{IsJunctionPart, JunctionArea, JunctionAreaMade, JunctionMakeReady, JunctionStepReady, JunctionStepped, area_graph}
+use Rattle.junction_step.specs.JunctionArea.{IsJunctionPart, JunctionArea, JunctionAreaMade, JunctionStepReady, JunctionStepped, area_graph, junction_room}
 
 -- ---- how many junctions are active
 -- no more than there are junctions
@@ -118,13 +119,6 @@ module _ {w : Window} {p : Part} {v : List ℕ} (st : JunctionStepReady w p.at p
 
   -- ---- what is made
   module _ {z : List ℕ} {l : Graph} (pl : PartLoaded w (8 * w.events) p v z l) (lz : length z ≡ length v) where
-    pub make_ready : JunctionMakeReady p l z
-    make_ready = record {
-      ready = pl.ready;
-      behind = omega (arith, ip.area, ip.scratch);
-      room = omega (arith, st.room, ip.scratch, pl.nodes, pl.most_edges);
-    }
-
     module _ {y : List ℕ} {r : Counts} (am : JunctionAreaMade p l z y r) where
       abbrev c : ℕ
       c = p.events
@@ -165,5 +159,44 @@ module _ {w : Window} {p : Part} {v : List ℕ} (st : JunctionStepReady w p.at p
               };
             })
 
-      pub stepped : (lo : ℕ) → p.at ≡ lo → JunctionStepped w lo c v y (record { at = lo; events = c; nodes = r.nodes; edges = r.edges })
+      pub stepped : JunctionStepped w p.at c v y (window_of p r)
       stepped = stepped_of JunctionArea JunctionArea ip pl.front am r part_made
+
+-- ---- what the sibling's reduction owes: a part gets a reduced graph of its network
+pub reduces : Reduces JunctionArea JunctionArea 29 8 340 junction_room JunctionAreaMade
+reduces = record {
+  least = λ n m c. omega arith;
+  fewer = λ n m k c h. omega arith;
+  loads = λ w p v st ip. load_ready st ip;
+  steps = λ w p v st ip z l pl lz y r am. stepped st ip pl lz am;
+  whole = λ g sound p l z y r am N T W.
+      let s : IsReducedGraph (plain (edges_in l.nodes l.edges (drop p.scratch z))) (active g (p.at, p.events)) r.nodes
+      (area_graph p.events r.edges (take (29 * p.events) (drop p.area y))) am.σ =
+      rw T at am.graph.reduced in
+      record {
+        σ = am.σ;
+        graph = record {
+          reduced = subst (λ (G : Named). IsReducedGraph (plain G) (active g (p.at, p.events)) r.nodes (area_graph p.events r.edges (take (29 * p.events) (drop p.area y))) am.σ) N s;
+          few = am.graph.few;
+          sixteen = am.graph.sixteen;
+        };
+        events = record { places = am.places ∙ ap (map am.σ) T; words = am.events ∙ W };
+      };
+  own = λ g sound w some v h a. a;
+  enough = λ w p v q lo c z a b s e f.
+      let k = area_nodes q.sound q.inside v (omega (arith, q.enough)) q.area in
+      record {
+        g = q.g;
+        sound = q.sound;
+        inside = q.inside;
+        area = rw f q.area;
+        starts = a;
+        ends = b;
+        some = s;
+        room = omega (arith, q.enough, k.0, q.area.graph.few);
+        many = omega (arith, k.1);
+        much = q.much;
+      };
+  fits = λ c n h. omega arith;
+  nodes = λ w p v q. let k = area_nodes q.sound q.inside v (omega (arith, q.enough)) q.area in omega (arith, k.1);
+}

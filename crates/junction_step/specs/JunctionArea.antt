@@ -2,7 +2,7 @@
 -- The area of a window of n events is 29 n words: for each event the nodes of its two junctions (2 n words) and its three words (3 n, theory_timeline's Tags),
 -- as in the replay; then the one ends of the edges (8 n), the other ends (8 n), and a word for each edge that nobody reads (8 n), where the replay has names.
 -- Assumes nothing: these are definitions.
-use Rattle.std.specs.Prelude.{◌*◌, ◌+◌, ◌<◌, ◌≤◌, ℕ, List, drop, get_or, length, take}
+use Rattle.std.specs.Prelude.{◌*◌, ◌+◌, ◌<◌, ◌≤◌, ℕ, List, drop, get_or, take}
 use Rattle.core_reduce.specs.Core.{edges_in}
 use Rattle.core_reduce.specs.declared.Counts.{Counts}
 use Rattle.theory_graph.specs.Graph.{Edge}
@@ -10,8 +10,9 @@ use Rattle.theory_graph.specs.Lists.{pairs}
 use Rattle.theory_names.specs.Names.{plain}
 use Rattle.theory_timeline.specs.Windows.{Timeline, active, network}
 use Rattle.theory_junctions.specs.ReducedGraph.{IsReducedGraph}
-use Rattle.replay_step.specs.Area.{AreaOf, IsPartOf, StepReadyOf, SteppedOf, span}
-use Rattle.replay_step.specs.Load.{AreaMadeOf, BehindOf, MakeReady}
+use Rattle.replay_step.specs.Area.{AreaOf, IsPartOf, SteppedOf, span}
+use Rattle.replay_step.specs.Load.{AreaMadeOf}
+use Rattle.replay_step.specs.Reduction.{MakeReadyBy, StepReadyBy}
 use Rattle.replay_step.specs.declared.Graph.{Graph}
 use Rattle.replay_step.specs.declared.Part.{Part}
 use Rattle.replay_step.specs.declared.Window.{Window}
@@ -33,9 +34,13 @@ JunctionArea = AreaOf ReducedIn
 abbrev pub junction_words : ℕ → ℕ
 junction_words n = 29 * n
 
+-- the words that it takes to reduce a graph of n nodes and m edges, for a part of c events
+abbrev pub junction_room : ℕ → ℕ → ℕ → ℕ
+junction_room n m c = 28 * n + 6 * m + 48 * c
+
 -- ---- the step
 abbrev pub JunctionStepReady : Window → ℕ → ℕ → List ℕ → Type 0
-JunctionStepReady w lo c v = StepReadyOf JunctionArea junction_words (29 * w.events + 29 * c + 28 * w.nodes + 6 * (w.edges + w.events) + 48 * c) w lo c v
+JunctionStepReady = StepReadyBy JunctionArea 29 junction_room
 
 abbrev pub JunctionStepped : Window → ℕ → ℕ → List ℕ → List ℕ → Window → Type 0
 JunctionStepped = SteppedOf JunctionArea JunctionArea junction_words
@@ -45,10 +50,8 @@ IsJunctionPart = IsPartOf junction_words
 
 -- ---- the part's area
 -- a graph is loaded right behind it, and there is room for the reduction
-pub record JunctionMakeReady (p : Part) (l : Graph) (w : List ℕ) : Type 0 where
-  pub ready : MakeReady p l w
-  pub behind : BehindOf junction_words p
-  pub room : p.scratch + 28 * l.nodes + 6 * l.edges + 48 * p.events ≤ length w
+abbrev pub JunctionMakeReady : Part → Graph → List ℕ → Type 0
+JunctionMakeReady = MakeReadyBy 29 junction_room
 
 -- the reduced graph that is made of it
 pub record ReducedMade (p : Part) (l : Graph) (w : List ℕ) (r : Counts) (σ : ℕ → ℕ) (u : List ℕ) : Type 0 where

@@ -1,12 +1,11 @@
--- The sibling's recursion over windows: a window of one event, what a step and a part need, and how the two parts join to a window.
--- In order: a window of one event; a step; a window of two parts. What both replays need is in replay_windows, PartLaws.
+-- The sibling's windows of one event: the byte. What both replays need of their recursion is in replay_windows, PartLaws.
 -- Assumes nothing.
-use Prim.Native.Nat.{◌*◌, ◌+◌, ◌-◌, ◌<◌, ◌≤◌, ℕ}
+use Prim.Native.Nat.{◌*◌, ◌+◌, ◌<◌, ◌≤◌, ℕ}
 use mathlib.Core.Bool.{Bool, cond, true}
 use mathlib.Core.List.{List}
-use mathlib.Core.Path.{◌∙◌, ◌≡◌, ap, ap₂, refl, subst, sym}
+use mathlib.Core.Path.{◌∙◌, ◌≡◌, ap, ap₂, subst, sym}
 use lib.Dec.{eqb}
-use lib.ListN.{drop, get_or, length, set, take}
+use lib.ListN.{get_or, length, set, take}
 use native.Mathlib.Omega.{arith}
 use borrow.Author.Tests.{eqb-false, eqb-true}
 use Rattle.theory_graph.proofs.Booleans.{on_bool}
@@ -16,21 +15,20 @@ use Rattle.theory_junctions.specs.Reply.{read_reply}
 use Rattle.theory_names.specs.Names.{Entry, plain}
 use Rattle.theory_timeline.specs.Steps.{Sound}
 use Rattle.theory_timeline.specs.Tags.{ends_at}
-use Rattle.theory_timeline.specs.Windows.{Timeline, active, asks_at, event, first_part, network, size}
+use Rattle.theory_timeline.specs.Windows.{Timeline, active, asks_at, event, network, size}
 use Rattle.theory_junction_timeline.proofs.JunctionNetworks.{change_byte, leaf_byte}
 use Rattle.theory_junction_timeline.specs.JunctionReplay.{junction_byte}
 use Rattle.theory_junctions.specs.ReducedGraph.{IsReducedGraph}
 use Rattle.replay_step.proofs.LeafLaws.{leaf_asks, leaf_changes, leaf_nodes}
-use Rattle.replay_step.proofs.WordLaws.{sets_parts}
 use Rattle.replay_step.specs.Load.{edge_at}
 use Rattle.replay_step.specs.declared.Window.{Window}
-use Rattle.replay_windows.proofs.PartLaws.{Descends, Shares, first_ready, part_area, parts, second_ready}
 use Rattle.replay_step.specs.Area.{WindowReadyOf}
-use Rattle.junction_step.proofs.JunctionStepLaws.{area_nodes, graph_table}
-use Rattle.junction_step.specs.JunctionArea.{JunctionArea, JunctionStepReady, JunctionStepped, area_graph, junction_words}
+use Rattle.replay_step.specs.Reduction.{words_of}
+use Rattle.junction_step.proofs.JunctionStepLaws.{graph_table}
+use Rattle.junction_step.specs.JunctionArea.{JunctionArea, area_graph}
 use Rattle.junction_leaf.proofs.JunctionLeafLaws.{byte_3, byte_asked}
 use Rattle.junction_leaf.specs.JunctionLeaf.{byte_at, leaf_graph}
-use Rattle.junction_windows.specs.JunctionDescent.{JunctionOneDone, JunctionWindowDone, JunctionWindowReady, junction_window_words}
+use Rattle.junction_windows.specs.JunctionDescent.{JunctionReplied}
 
 -- ---- a window of one event
 module _ {w : Window} (v : List ℕ) (one : w.events ≡ 1) (l : 29 ≤ length v) (g : Timeline) (sound : Sound g) (i : w.at < size g) (a : JunctionArea g w (take 29 v)) where
@@ -62,59 +60,10 @@ module _ {w : Window} (v : List ℕ) (one : w.events ≡ 1) (l : 29 ≤ length v
       ∙ sym (leaf_byte g w.at i q w.nodes (leaf_graph w.edges v) a.σ G))
       (λ t. let h = eqb-false (get_or v 2 0) 0 t in sym (byte_3 w.edges v h) ∙ sym (change_byte g w.at (leaf_changes w one 29 v (omega arith) g sound i a.σ a.events h)))
 
-module _ {w : Window} {p : ℕ} {answers v : List ℕ} (r : JunctionWindowReady w p answers v) where
-  abbrev n : ℕ
-  n = w.events
+module _ {w : Window} {p : ℕ} {v : List ℕ} (q : WindowReadyOf JunctionArea (words_of 29) (words_of 340) w p v) (one : w.events ≡ 1) where
+  pub byte_need : (w.edges ≤ 8) × (29 ≤ length v)
+  byte_need = (omega (arith, q.area.graph.few), omega (arith, q.enough))
 
-  abbrev q : WindowReadyOf JunctionArea junction_words junction_window_words w p v
-  q = r.ready
-
-  pub byte_need : n ≡ 1 → (w.edges ≤ 8) × (29 ≤ length v)
-  byte_need one = (omega (arith, q.area.graph.few), omega (arith, q.enough))
-
-  pub one_done : n ≡ 1 → {after : List ℕ} (b : ℕ) → b ≡ byte_at w.edges v → after ≡ set answers w.at b → JunctionOneDone w (take 29 v) answers after
-  one_done one b e x g s i a = x ∙ ap (set answers w.at) (e ∙ byte_is v one (omega (arith, q.enough)) g s i a)
-
-  pub done_one : n ≡ 1 → (after : List ℕ) → JunctionOneDone w (take 29 v) answers after → JunctionWindowDone w (take (29 * n) v) answers after
-  done_one e after o g s i a = let z : 29 * n ≡ 29 = omega arith in o g s (omega arith) (rw z at a) ∙ rw e refl
-
-  -- ---- a step
-  pub descends : Descends JunctionArea JunctionArea junction_words junction_window_words w v
-  descends = record { own = λ g sound a. a; fits = λ c n h. omega arith }
-
-  pub step_ready : (lo c : ℕ) (z : List ℕ) → w.at ≤ lo → lo + c ≤ w.at + n → 0 < c → length z ≡ length v → take (29 * n) z ≡ take (29 * n) v → JunctionStepReady w lo c z
-  step_ready lo c z a b s e f =
-      let k = area_nodes q.sound q.inside v (omega (arith, q.enough)) q.area in
-      record {
-        g = q.g;
-        sound = q.sound;
-        inside = q.inside;
-        area = rw f q.area;
-        starts = a;
-        ends = b;
-        some = s;
-        room = omega (arith, q.enough, k.0, q.area.graph.few);
-        many = omega (arith, k.1);
-        much = q.much;
-      }
-
-  -- ---- a window of two parts
-  module _ (two : 2 ≤ n) {c : ℕ} (e : c ≡ first_part p n) {w₁ : List ℕ} {a : Window} (s : JunctionStepped w w.at c v w₁ a) (l₁ : length w₁ ≡ length v) where
-    half : Shares n c
-    half = parts q descends two e
-
-    pub first_window : (a.events < n) × JunctionWindowReady a p answers (take (length w₁ - 29 * n) (drop (29 * n) w₁))
-    first_window = let (l, y) = first_ready q descends two e s l₁ in (l, record { ready = y; long = omega (arith, r.long, s.at, s.events, half.less) })
-
-    module _ {w₂ w₃ : List ℕ} {d : Window} (f : take (29 * n) w₂ ≡ take (29 * n) v) (t : JunctionStepped w (w.at + c) (n - c) w₂ w₃ d) (l₃ : length w₃ ≡ length v) where
-      pub second_window : (mid : List ℕ) → length mid ≡ length answers → (d.events < n) × JunctionWindowReady d p mid (take (length w₃ - 29 * n) (drop (29 * n) w₃))
-      second_window mid k = let (l, y) = second_ready q descends two e s l₁ f t l₃ in (l, record { ready = y; long = omega (arith, r.long, t.at, t.events, half.less) })
-
-      pub done_two : {mid after : List ℕ} → JunctionWindowDone a (take (29 * a.events) (take (length w₁ - 29 * n) (drop (29 * n) w₁))) answers mid
-          → JunctionWindowDone d (take (29 * d.events) (take (length w₃ - 29 * n) (drop (29 * n) w₃))) mid after
-          → JunctionWindowDone w (take (29 * n) v) answers after
-      done_two {mid} {after} i j g o h z =
-          let cn : c ≤ n = omega (arith, half.less) in
-          let u = rw (s.at, s.events) at (i g o (omega (arith, s.at, s.events)) (part_area q descends s refl l₁ half.first g o h z)) in
-          let x = rw (t.at, t.events) at (j g o (omega (arith, t.at, t.events)) (part_area q descends t f l₃ half.second g o h z)) in
-          sets_parts (junction_byte g) w.at n c cn answers u x
+  pub one_done : (before : List ℕ) {after : List ℕ} (b : ℕ) → b ≡ byte_at w.edges v → after ≡ set before w.at b
+      → (g : Timeline) → Sound g → w.at < size g → JunctionArea g w (take 29 v) → JunctionReplied g w.at 1 before after
+  one_done before b e x g s i a = x ∙ ap (set before w.at) (e ∙ byte_is v one (omega (arith, q.enough)) g s i a)

@@ -1,28 +1,31 @@
--- What a window of the sibling promises: the bytes of its events.
--- Assumes nothing: these are definitions.
-use Rattle.std.specs.Prelude.{◌*◌, ◌+◌, ◌<◌, ◌≤◌, ℕ, List, ◌≡◌, length, set}
+-- What the sibling writes of the events of a window: their bytes.
+-- Assumes nothing: these are definitions, and laws that they have.
+use Rattle.std.specs.Prelude.{◌+◌, ◌-◌, ◌≤◌, ℕ, List, ◌≡◌}
+use Rattle.std.proofs.Common.{arith}
 use Rattle.std.proofs.lemmas.List.Edits.{sets}
 use Rattle.theory_graph.specs.Lists.{table}
-use Rattle.theory_timeline.specs.Steps.{Sound}
-use Rattle.theory_timeline.specs.Windows.{Timeline, size}
+use Rattle.theory_timeline.specs.DemandThree.{Allowed}
+use Rattle.theory_timeline.specs.Windows.{Timeline, first_part}
 use Rattle.theory_junction_timeline.specs.JunctionReplay.{junction_byte}
-use Rattle.junction_step.specs.JunctionArea.{JunctionArea, junction_words}
+use Rattle.replay_step.proofs.ShareLaws.{shares}
+use Rattle.replay_step.proofs.WordLaws.{sets_parts}
 use Rattle.replay_step.specs.declared.Window.{Window}
-use Rattle.replay_step.specs.Area.{WindowReadyOf}
 
--- ---- a window whose area is at the front of the words
-abbrev pub junction_window_words : ℕ → ℕ
-junction_window_words n = 340 * n
+-- the bytes of n events from `at` on are written
+abbrev pub JunctionReplied : Timeline → ℕ → ℕ → List ℕ → List ℕ → Type 0
+JunctionReplied g at n before after = after ≡ sets before at (table (junction_byte g) at n)
 
-pub record JunctionWindowReady (w : Window) (p : ℕ) (answers work : List ℕ) : Type 0 where
-  pub ready : WindowReadyOf JunctionArea junction_words junction_window_words w p work
-  pub long : w.at + w.events ≤ length answers
+-- those of a window are those of its two parts
+pub junction_replied_both : (g : Timeline) (p : ℕ) → Allowed p → (w : Window) → 2 ≤ w.events → (c : ℕ) → c ≡ first_part p w.events
+    → (before mid after : List ℕ) → JunctionReplied g w.at c before mid → JunctionReplied g (w.at + c) (w.events - c) mid after
+    → JunctionReplied g w.at w.events before after
+junction_replied_both g p s w two c e before mid after u x =
+    let h = shares p w.events two s in
+    sets_parts (junction_byte g) w.at w.events c (omega (arith, e, h.less)) before u x
 
--- its bytes are written
-abbrev pub JunctionWindowDone : Window → List ℕ → List ℕ → List ℕ → Type 0
-JunctionWindowDone w v before after = (g : Timeline) → Sound g → w.at + w.events ≤ size g → JunctionArea g w v
-    → after ≡ sets before w.at (table (junction_byte g) w.at w.events)
+-- a table that is long enough for more events is for fewer, and stays so with other entries
+pub long_shorter : (d e m : ℕ) → d ≤ e → e ≤ m → d ≤ m
+long_shorter d e m h l = omega arith
 
--- ---- a window of one event
-abbrev pub JunctionOneDone : Window → List ℕ → List ℕ → List ℕ → Type 0
-JunctionOneDone w v before after = (g : Timeline) → Sound g → w.at < size g → JunctionArea g w v → after ≡ set before w.at (junction_byte g w.at)
+pub long_still : (e m n : ℕ) → n ≡ m → e ≤ m → e ≤ n
+long_still e m n x l = omega arith

@@ -1,32 +1,42 @@
-// The sibling's recursion over windows. The area of a window is at the front of its work slice; each part works in the rest.
+// What the replay by the loss of a junction writes: of each event its byte. Its recursion over windows is the replay's (replay_windows::window).
 #![tactic(auto)]
 
-ghost use Rattle.std.specs.Prelude.{◌≡◌, ◌*◌, take};
-ghost use Rattle.junction_windows.specs.JunctionDescent.{JunctionOneDone, JunctionWindowDone, JunctionWindowReady};
+ghost use Rattle.std.specs.Prelude.{◌≡◌, ◌≤◌, length};
+ghost use Rattle.std.proofs.Common.{◌∙◌, refl};
+ghost use Rattle.junction_windows.specs.JunctionDescent.{JunctionReplied, junction_replied_both, long_shorter, long_still};
 
-// A window of one event.
-fn one(w: replay_step::Window, p: usize, answers: &mut [u8], work: &[u32])
-    requires { JunctionWindowReady w p answers.old work.now × (w.events ≡ 1) }
-    ensures { JunctionOneDone w (take 29 work.now) answers.old answers.new }
-{
-    let byte = junction_leaf::byte_of(work, w.edges);
-    replay_windows::put_byte(answers, w.at, byte);
+use junction_start::Junctions;
+use replay_step::Window;
+use replay_windows::Replies;
+
+// Internal: the table that it is lent.
+#[derive(Drop)]
+pub struct JunctionReplies<'a> {
+    pub answers: &'a mut [u8],
 }
 
-// Internal: the bytes of the window's events.
-pub fn window(w: replay_step::Window, p: usize, answers: &mut [u8], work: &mut [u32])
-    requires { JunctionWindowReady w p answers.old work.old }
-    ensures { JunctionWindowDone w (take (29 * w.events) work.old) answers.old answers.new }
-{
-    let n = w.events;
-    if n == 1 {
-        one(w, p, answers, work);
-        return;
+impl Replies for JunctionReplies<'_> {
+    type By = Junctions;
+
+    ghost long = { λ e t. e ≤ length t.answers.now };
+
+    ghost same = { λ t u. (u.answers.ghost_name ≡ t.answers.ghost_name) × (length u.answers.now ≡ length t.answers.now) };
+
+    // The nodes of its graphs are no part of its replies.
+    ghost wrote = { λ g p at n t u k. JunctionReplied g at n t.answers.now u.answers.now };
+
+    ghost parts = {
+        record {
+            shorter = λ d e t h l. long_shorter d e (length t.answers.now) h l;
+            as_long = λ e t u s l. long_still e (length t.answers.now) (length u.answers.now) s.1 l;
+            still = λ t u v a b. (b.0 ∙ a.0, b.1 ∙ a.1);
+            nothing = λ g p t. ((refl, refl), refl);
+            both = λ g s p a w v two z c e t u x b k i j. junction_replied_both g p a w two c e t.answers.now u.answers.now x.answers.now i j;
+        }
+    };
+
+    fn one(&mut self, w: Window, p: usize, work: &[u32]) {
+        let byte = junction_leaf::byte_of(work, w.edges);
+        replay_windows::put_byte(self.answers, w.at, byte);
     }
-    let c = replay_windows::first_part(n, p);
-    let q = 29 * n;
-    let a = junction_step::step(w, w.at, c, work);
-    window(a, p, answers, &mut work[q..]);
-    let d = junction_step::step(w, w.at + c, n - c, work);
-    window(d, p, answers, &mut work[q..]);
 }

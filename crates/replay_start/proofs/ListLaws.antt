@@ -9,7 +9,7 @@ use native.Mathlib.Omega.{arith}
 use Rattle.replay_events.proofs.QueryLaws.{queries_same}
 use Rattle.replay_events.proofs.WritingLaws.{size_is}
 use Rattle.replay_events.specs.Kinds.{queries_by}
-use Rattle.replay_events.specs.Writing.{EventsWritten, list_of}
+use Rattle.replay_events.specs.Writing.{CanWriteEvents, EventsWritten, list_of}
 use Rattle.replay_step.proofs.WordLaws.{lent_take, table_over}
 use Rattle.replay_step.specs.Area.{WindowReadyOf}
 use Rattle.replay_step.specs.declared.Window.{Window}
@@ -17,12 +17,13 @@ use Rattle.theory_graph.proofs.TableLaws.{pairs_at}
 use Rattle.theory_graph.specs.Lists.{over, range, table}
 use Rattle.theory_timeline.proofs.Acceptance.{AcceptedList, accepted_sound, events_length}
 use Rattle.theory_timeline.proofs.Counting.{count}
+use Rattle.theory_timeline.specs.DemandThree.{Allowed}
 use Rattle.theory_timeline.specs.Events.{Event}
 use Rattle.theory_timeline.specs.Replay.{Lent, given}
 use Rattle.theory_timeline.specs.Windows.{Timeline, asks_at, size}
 use Rattle.replay_start.specs.Whole.{ListIn, ListReadyOf, WholeMadeOf, WholeReady}
 
-module _ {need n p : ℕ} {a b start x y answers work : List ℕ} (q : ListReadyOf need n p a b start x y answers work) where
+module _ {n : ℕ} {a b start x y work : List ℕ} (q : CanWriteEvents n a b start x y work) where
   abbrev g : Timeline
   g = list_of n a b start x y
 
@@ -37,24 +38,24 @@ module _ {need n p : ℕ} {a b start x y answers work : List ℕ} (q : ListReady
   area = 5 * length x + length a + length a
 
   pub inside : 0 + t ≤ size g
-  inside = omega (arith, size_is q.events)
+  inside = omega (arith, size_is q)
 
   -- ---- the list in the words
   module _ (some : 0 < t) {w : List ℕ} (e : EventsWritten n a b start x y w) (l : length w ≡ length work) where
     pub list_in : ListIn n t a b counts w g
-    list_in = record { sound = q.events.sound; junctions = refl; segments = refl; all = size_is q.events; events = e.events; counted = e.counts }
+    list_in = record { sound = q.sound; junctions = refl; segments = refl; all = size_is q; events = e.events; counted = e.counts }
 
     pub whole_ready : (scratch : ℕ) → area ≤ scratch → scratch + 16 * n + 6 * length a ≤ length work → WholeReady n t a b counts area scratch w
     whole_ready scratch h r = record {
       g = g;
       list = list_in;
-      b_long = q.events.segments;
+      b_long = q.segments;
       some = some;
       front = omega arith;
       apart = omega arith;
       behind = h;
       room = omega arith;
-      much = q.events.much;
+      much = q.much;
     }
 
     -- ---- its area and its window
@@ -66,15 +67,15 @@ module _ {need n p : ℕ} {a b start x y answers work : List ℕ} (q : ListReady
           ap (λ (n : ℕ). take (words n) (drop area z)) (sym m.events) ∙ sym (lent_take area (words r.events) z (omega (arith, h, ap words m.events, k))) in
           subst (λ (v : List ℕ). A g r v) f (m.made g list_in)
 
-      pub window_ready : (room : ℕ → ℕ) → area + room t ≤ length work → WindowReadyOf A words room r p (take (length z - area) (drop area z))
-      window_ready room f = record {
+      pub window_ready : {p : ℕ} → Allowed p → (room : ℕ → ℕ) → area + room t ≤ length work → WindowReadyOf A words room r p (take (length z - area) (drop area z))
+      window_ready allowed room f = record {
         g = g;
-        sound = q.events.sound;
-        inside = omega (arith, m.at, m.events, size_is q.events);
+        sound = q.sound;
+        inside = omega (arith, m.at, m.events, size_is q);
         area = area_in;
         some = omega (arith, m.events);
-        much = omega (arith, m.at, m.events, q.events.much);
-        share = q.share;
+        much = omega (arith, m.at, m.events, q.much);
+        share = allowed;
         enough = rw (length-take, length-drop) (omega (arith, f, ap room m.events, k));
       }
 

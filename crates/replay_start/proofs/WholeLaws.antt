@@ -1,9 +1,9 @@
 -- The whole list: what its load needs and leaves, and its small graph.
 -- In order: what is loaded; what stands in the words and the tables of a list; its network; its small graph.
 -- Assumes nothing.
-use Prim.Native.Nat.{◌*◌, ◌+◌, ◌-◌, ◌<◌, ◌≤◌, ℕ}
+use Prim.Native.Nat.{◌*◌, ◌+◌, ◌-◌, ◌<◌, ◌≤◌, suc, ℕ}
 use mathlib.Core.Bool.{Bool, ◌&&◌, and-false, and-true, cond, not, true, false}
-use mathlib.Core.List.{List, map}
+use mathlib.Core.List.{List, [], ◌∷◌, map}
 use mathlib.Core.Path.{◌∙◌, ◌≡◌, ap, ap₂, refl, subst, subst₂, sym}
 use lib.Dec.{ltb}
 use lib.ListN.{drop, get_or, length, take}
@@ -12,31 +12,32 @@ use native.Mathlib.Omega.{arith}
 use borrow.Author.Tests.{le-ltb}
 use Rattle.core_reduce.specs.Core.{edges_in}
 use Rattle.core_reduce.specs.declared.Counts.{Counts}
-use Rattle.core_words.specs.Fields.{ACTIVE, MARK}
+use Rattle.core_words.specs.Fields.{ACTIVE, MARK, NAME, TO, half}
 use Rattle.replay_events.proofs.WritingLaws.{ends_low, names_tag_lem, same_front, word_key}
 use Rattle.replay_events.specs.Writing.{names_tag}
 use Rattle.replay_start.proofs.StartLaws.{any_same, pick_numbers}
 use Rattle.replay_start.specs.Start.{Cleared, LoadReady, fixed, named_by, segment, tags_from}
-use Rattle.replay_start.specs.Whole.{ListIn, StartReady, WholeLoaded, WholeMade, WholeReady}
+use Rattle.replay_start.specs.Whole.{ListIn, StartReady, WholeLoaded, WholeMadeOf, WholeReady, WholeReadyBy}
 use Rattle.replay_step.proofs.LoadLaws.{entered_same, window_length}
-use Rattle.replay_step.proofs.StepLaws.{small_area, window_of}
+use Rattle.replay_step.specs.Reduction.{MakeReadyBy, Reduces, window_of, words_of}
 use Rattle.replay_step.proofs.WordLaws.{front_get, low_map, map_self, mid_less, mid_take}
-use Rattle.replay_step.specs.Area.{area_edges}
-use Rattle.replay_step.specs.Load.{ActiveReady, Actives, AddedBy, AreaMade}
+use Rattle.replay_step.specs.Load.{ActiveReady, Actives, AddedBy}
 use Rattle.replay_step.specs.declared.Graph.{Graph}
 use Rattle.replay_step.specs.declared.Part.{Part}
+use Rattle.replay_step.specs.declared.Window.{Window}
+use Rattle.replay_roads.specs.Runs.{run}
 use Rattle.theory_graph.proofs.Booleans.{on_bool}
+use Rattle.theory_graph.proofs.Lists.{table_length}
 use Rattle.theory_graph.proofs.TableLaws.{pairs_at}
 use Rattle.theory_graph.specs.Graph.{Edge}
 use Rattle.theory_graph.specs.Lists.{any, pairs, range}
 use Rattle.theory_graph.specs.SmallGraph.{ends_in}
-use Rattle.theory_names.specs.Names.{Named}
-use Rattle.theory_names.specs.NamedSmallGraph.{IsNamedSmallGraph}
+use Rattle.theory_names.specs.Names.{Entry}
 use Rattle.theory_timeline.proofs.Acceptance.{pairs_equal, sound_good}
 use Rattle.theory_timeline.proofs.CountLaws.{road_open}
 use Rattle.theory_timeline.proofs.EventLaws.{pick_same}
 use Rattle.theory_timeline.proofs.TagLaws.{named_during, quiet, words_at}
-use Rattle.theory_timeline.specs.Events.{named_roads, network_of, pick}
+use Rattle.theory_timeline.specs.Events.{SegmentSet, named_roads, network_of, pick}
 use Rattle.theory_timeline.specs.Tags.{event_words, key_of, names_key, pick_events, word}
 use Rattle.theory_timeline.specs.Windows.{Timeline, active, during, network, open_before, roads_before}
 
@@ -222,19 +223,39 @@ module _ {n t : ℕ} {a b : List ℕ} {counts area scratch : ℕ} {v : List ℕ}
     pub whole_network : edges_in l.nodes l.edges (drop scratch z) ≡ network g (0, t)
     whole_network = wl.edges ∙ network_is e q.b_long
 
--- ---- its small graph
-pub whole_made : {n t : ℕ} {a b : List ℕ} {counts area : ℕ} {v : List ℕ} → WholeReady n t a b counts area (area + 17 * t) v → {z : List ℕ} {l : Graph}
-    → WholeLoaded n (above t area (area + 17 * t)) a b counts v z l → length z ≡ length v → {y : List ℕ} {r : Counts} → AreaMade (above t area (area + 17 * t)) l z y r
-    → WholeMade n t a b counts area v y (window_of (above t area (area + 17 * t)) r)
-whole_made {t = t} {area = area} q {z} {l} wl lz {y} {r} am = record {
-  at = refl;
-  events = refl;
-  made = λ g e.
-      let T = whole_places q wl lz e in
-      let s : IsNamedSmallGraph (edges_in l.nodes l.edges (drop (area + 17 * t) z)) (active g (0, t)) r.nodes
-      (area_edges t r.edges (take (17 * t) (drop area y))) am.graph.ρ am.σ =
-      rw T at am.graph.small in
-      small_area g e.sound (window_of (above t area (area + 17 * t)) r)
-      (subst (λ (G : Named). IsNamedSmallGraph G (active g (0, t)) r.nodes (area_edges t r.edges (take (17 * t) (drop area y))) am.graph.ρ am.σ) (whole_network q wl lz e) s)
-      (record { places = am.places ∙ ap (map am.σ) T; words = am.events ∙ whole_words q wl lz e });
-}
+-- ---- its area, by any reduction
+pick_few : (t : SegmentSet) (i : ℕ) (es : List Edge) → length (pick t i es) ≤ length es
+pick_few t i [] = omega arith
+pick_few t i (e ∷ es) = go (t i) (pick_few t (suc i) es)
+  where
+    go : (b : Bool) → length (pick t (suc i) es) ≤ length es → length (cond b ((e, i) ∷ pick t (suc i) es) (pick t (suc i) es)) ≤ suc (length es)
+    go true h = omega arith
+    go false h = omega arith
+
+module _ {A B : Timeline → Window → List ℕ → Type 0} {words edges window : ℕ} {room : ℕ → ℕ → ℕ → ℕ} {Made : Part → Graph → List ℕ → List ℕ → Counts → Type 0} (o : Reduces A B words edges window room Made)
+    {n t : ℕ} {a b : List ℕ} {counts area : ℕ} {v : List ℕ} (q : WholeReadyBy words room n t a b counts area v) {z : List ℕ} {l : Graph}
+    (wl : WholeLoaded n (above t area (area + words * t)) a b counts v z l) (lz : length z ≡ length v) where
+  few_loaded : l.edges ≤ length a
+  few_loaded =
+      omega (
+        arith,
+        table_length {A = Entry} (λ e. ((half l.nodes TO (drop (area + words * t) z) (2 * e), half l.nodes TO (drop (area + words * t) z) (2 * e + 1)), half l.nodes NAME (drop (area + words * t) z) (2 * e))) 0 l.edges,
+        ap length wl.edges,
+        pick_few (λ r. ltb 0 (run counts v r) && not (named_by (2 * t) 0 t v r)) 0 (pairs a b),
+        pairs_equal a b q.ready.b_long,
+      )
+
+  pub make_ready : MakeReadyBy words room (above t area (area + words * t)) l z
+  make_ready = record {
+    ready = wl.ready;
+    behind = refl;
+    enough = omega (arith, q.enough, ap (λ (k : ℕ). room k l.edges t) wl.nodes, o.fewer n l.edges (length a) t few_loaded, lz);
+  }
+
+  pub whole_made : {y : List ℕ} {r : Counts} → Made (above t area (area + words * t)) l z y r
+      → WholeMadeOf B (words_of words) n t a b counts area v y (window_of (above t area (area + words * t)) r)
+  whole_made {y} {r} am = record {
+    at = refl;
+    events = refl;
+    made = λ g e. o.whole g e.sound (above t area (area + words * t)) l z y r am (whole_network q.ready wl lz e) (whole_places q.ready wl lz e) (whole_words q.ready wl lz e);
+  }

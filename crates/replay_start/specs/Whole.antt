@@ -59,6 +59,11 @@ pub record WholeReady (n t : ℕ) (a b : List ℕ) (counts area scratch : ℕ) (
   pub room : scratch + 16 * n + 6 * length a ≤ length v
   pub much : t ≤ 4096
 
+-- in either replay: behind an area of `words` words an event, and with room to reduce it
+pub record WholeReadyBy (words : ℕ) (room : ℕ → ℕ → ℕ → ℕ) (n t : ℕ) (a b : List ℕ) (counts area : ℕ) (v : List ℕ) : Type 0 where
+  pub ready : WholeReady n t a b counts area (area + words * t) v
+  pub enough : area + words * t + room n (length a) t ≤ length v
+
 -- in either replay: an area A of `words t` words stands from `area` on, for every such list
 pub record WholeMadeOf (A : Timeline → Window → List ℕ → Type 0) (words : ℕ → ℕ) (n t : ℕ) (a b : List ℕ) (counts area : ℕ) (v z : List ℕ) (r : Window) : Type 0 where
   pub at : r.at ≡ 0

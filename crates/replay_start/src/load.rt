@@ -3,16 +3,20 @@ ghost use Rattle.std.specs.Prelude.{◌+◌, length};
 ghost use Rattle.replay_step.specs.Load.{AddedBy};
 ghost use Rattle.replay_start.specs.Start.{ClearReady, Cleared, LoadReady, fixed, segment};
 
+use replay_step::tag::Tag;
+
 // Event i: the count of the road that it names becomes 0.
 pub(crate) fn clear_event(from: usize, i: usize, counts: usize, work: &mut [u32])
     requires { ClearReady from (i + 1) counts work.old }
     ensures { Cleared from i (i + 1) counts work.old work.new }
 {
-    let tag = work[from + 3 * i] as usize;
-    if tag == 0 {
+    let tag = Tag {
+        word: work[from + 3 * i] as usize,
+    };
+    if tag.word == 0 {
         return;
     }
-    let key = (tag - 1) / 4;
+    let key = tag.key();
     work[counts + key] = 0;
 }
 
@@ -22,11 +26,9 @@ pub(crate) fn clear_named(from: usize, t: usize, counts: usize, work: &mut [u32]
     requires { ClearReady from t counts work.old }
     ensures { Cleared from 0 t counts work.old work.new }
 {
-    let mut i: usize = 0;
     // The roads of the first i events have no count.
-    while i < t {
+    for i in 0..t {
         clear_event(from, i, counts, work);
-        i += 1;
     }
 }
 
@@ -67,13 +69,10 @@ pub(crate) fn load_roads(
     ensures { AddedBy s n (fixed counts work.old) (segment a.now b.now) 0 (length a.now) 0
         work.old work.new result }
 {
-    let m = a.len();
     let mut k: usize = 0;
-    let mut j: usize = 0;
     // Of the roads with a name before j those that have a count are loaded.
-    while j < m {
+    for j in 0..a.len() {
         k = load_road(n, s, a, b, counts, work, j, k);
-        j += 1;
     }
     k
 }

@@ -124,18 +124,6 @@ module _ {p : Part} {l : Graph} {w : List ℕ} (q : MakeReady p l w) (far : p.sc
     pub fields_need : (z : List ℕ) → length z ≡ length w → (A + 5 * c + r.edges ≤ s) × (A + 9 * c + r.edges ≤ s) × (A + 13 * c + r.edges ≤ s) × (s + 16 * r.edges ≤ length z)
     fields_need z e = (omega (arith, few_out), omega (arith, few_out), omega (arith, few_out), omega (arith, q.room, reduced_low K))
 
-    -- before the last run is written: the words are as many as they were
-    pub names_need : {w₂ w₃ w₄ w₅ : List ℕ} → w₂ ≡ sets w₁ A (map (node MAPPED (drop s w₁)) (take (2 * c) (drop p.places w₁)))
-        → w₃ ≡ sets w₂ (A + 2 * c) (take (3 * c) (drop p.words w₂)) → w₄ ≡ sets w₃ (A + 5 * c) (table (node LOWER (drop s w₃)) 0 r.edges)
-        → w₅ ≡ sets w₄ (A + 9 * c) (table (node UPPER (drop s w₄)) 0 r.edges) → (A + 13 * c + r.edges ≤ s) × (s + 16 * r.edges ≤ length w₅)
-    names_need {w₂} {w₃} {w₄} {w₅} e₂ e₃ e₄ e₅ =
-        let l₂ = fill_length w₁ A (map (node MAPPED (drop s w₁)) (take (2 * c) (drop p.places w₁))) e₂ in
-        let l₃ = fill_length w₂ (A + 2 * c) (take (3 * c) (drop p.words w₂)) e₃ in
-        let l₄ = fill_length w₃ (A + 5 * c) (table (node LOWER (drop s w₃)) 0 r.edges) e₄ in
-        let l₅ = fill_length w₄ (A + 9 * c) (table (node UPPER (drop s w₄)) 0 r.edges) e₅ in
-        let l : length w₅ ≡ length w = l₅ ∙ l₄ ∙ l₃ ∙ l₂ ∙ length_1 in
-        let (_, _, a, b) = fields_need w₅ l in (a, b)
-
     module _ {w₂ w₃ w₄ w₅ w₆ : List ℕ} (e₂ : w₂ ≡ sets w₁ A (map (node MAPPED (drop s w₁)) (take (2 * c) (drop p.places w₁))))
         (e₃ : w₃ ≡ sets w₂ (A + 2 * c) (take (3 * c) (drop p.words w₂))) (e₄ : w₄ ≡ sets w₃ (A + 5 * c) (table (node LOWER (drop s w₃)) 0 r.edges))
         (e₅ : w₅ ≡ sets w₄ (A + 9 * c) (table (node UPPER (drop s w₄)) 0 r.edges)) (e₆ : w₆ ≡ sets w₅ (A + 13 * c) (table (node NAMED (drop s w₅)) 0 r.edges)) where

@@ -150,14 +150,12 @@ area_runs e m v h l =
 
 -- ---- the loop that copies: j edges so far
 pub record Copying (from q m s n : ℕ) (w z : List ℕ) (j : ℕ) : Type 0 where
-  pub low : j ≤ m
   pub long : length z ≡ length w
   pub edged : Edged s n j w z
   pub same : edges_in n j (drop s z) ≡ table (edge_at from q w) 0 j
 
 pub copying_none : (from q m s n : ℕ) (w : List ℕ) → Copying from q m s n w w 0
 copying_none from q m s n w = record {
-  low = omega arith;
   long = refl;
   edged = record { front = refl; nodes = λ i t v u. refl; ends = λ h u. absurd (omega arith); names = λ h u. absurd (omega arith) };
   same = refl;
@@ -195,7 +193,6 @@ module _ {from q m s n j : ℕ} {w z : List ℕ} (e : EdgesReady from q m s n w)
   copying_more zs p =
       let f : s ≤ length z = omega (arith, e.room, k.long) in
       record {
-        low = omega arith;
         long = same_len_mid s (length z - s) z zs p.same ∙ k.long;
         edged = edged_more k.edged p f copying_ends.0 copying_ends.1 copying_ends.2;
         same = edges_more k.edged p f ∙ ap₂ (λ (G : Named) (x : Entry). G ++ (x ∷ [])) k.same entry_read ∙ sym (table_more (edge_at from q w) j);

@@ -17,7 +17,6 @@ use Rattle.core_words.specs.Fields.{ACTIVE, MARK, node}
 
 -- ---- the loop: i words so far
 pub record EnteredSoFar (from count s n : ℕ) (w z : List ℕ) (k i : ℕ) : Type 0 where
-  pub low : i ≤ count
   pub long : length z ≡ length w
   pub front : take s z ≡ take s w
   pub entered : Entered n (take i (drop from w)) k (node MARK (drop s z)) (node ACTIVE (drop s z))
@@ -28,7 +27,6 @@ Needs from count s n w = ActiveReady from count s n w × Unmarked n (drop s w)
 pub entering_none : (from count s n : ℕ) (w : List ℕ) → Needs from count s n w → EnteredSoFar from count s n w w 0 0
 entering_none from count s n w q =
     record {
-      low = omega arith;
       long = refl;
       front = refl;
       entered = entered_none (node MARK (drop s w)) (node ACTIVE (drop s w)) q.1;
@@ -51,8 +49,7 @@ module _ {from count s n k i : ℕ} {w z : List ℕ} (q : Needs from count s n w
       ap (λ y. take i (drop from w) ++ (y ∷ [])) (reads ∙ sym (get_or-drop from w i 0))
       ∙ sym (ap (λ y. take y (drop from w)) (add-one i) ∙ take-suc (drop from w) i 0 (rw length-drop (omega (arith, q.0.front, q.0.room)))) in
       record {
-        low = omega arith;
-        long = same_len_mid s (length z - s) z zs f.same ∙ e.long;
+          long = same_len_mid s (length z - s) z zs f.same ∙ e.long;
         front = take_put s (length z - s) z zs h ∙ e.front;
         entered = rw (drop_back s z zs h, ← t) (f.more (take i (drop from w)) (rw take_whole e.entered));
       }

@@ -6,4 +6,6 @@ pub mod RunLaws
 pub mod AreaLaws
 pub mod LoadLaws
 pub mod LeafLaws
+pub mod AreaCounts
 pub mod StepLaws
+pub mod ShareLaws

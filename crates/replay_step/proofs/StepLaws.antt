@@ -4,7 +4,7 @@ use Prim.Native.Nat.{◌*◌, ◌+◌, ◌-◌, ◌<◌, ◌≤◌, ℕ}
 use mathlib.Core.List.{List, Memᴰ, ◌++◌, map}
 use mathlib.Core.Path.{◌∙◌, ◌≡◌, ap, ap₂, refl, subst, sym}
 use lib.Dec.{ltb}
-use lib.ListN.{drop, get_or, length, take}
+use lib.ListN.{drop, get_or, length, length-take, take}
 use lib.Seq.{get_or-drop, get_or-take, length-take-le}
 use native.Mathlib.Omega.{arith}
 use borrow.Author.Tests.{ltb-true}
@@ -28,11 +28,13 @@ use Rattle.theory_timeline.specs.Steps as Steps
 use Rattle.theory_timeline.specs.Steps.{Sound, added}
 use Rattle.theory_timeline.specs.Tags.{key_of, word}
 use Rattle.theory_timeline.specs.Windows.{Timeline, active, changes_at, event, network, size}
+use Rattle.replay_step.proofs.AreaCounts.{area_nodes, area_of}
 use Rattle.replay_step.proofs.EdgeLaws.{area_runs, area_table, area_entry}
 use Rattle.replay_step.proofs.LoadLaws.{edges_are, places_are, window_length, words_are}
 use Rattle.replay_step.proofs.WordLaws.{low_map, take_less}
-use Rattle.replay_step.specs.Area.{Area, EventsIn, IsPart, IsPartOf, SmallArea, StepReady, StepReadyOf, Stepped, SteppedOf, area_edges, span}
+use Rattle.replay_step.specs.Area.{Area, EventsIn, IsPart, IsPartOf, SmallArea, StepReady, StepReadyOf, Stepped, SteppedOf, area_edges, road_room, span}
 use Rattle.replay_step.specs.Load.{AreaMade, AreaMadeOf, LoadReady, PartLoaded}
+use Rattle.replay_step.specs.Reduction.{MakeReadyBy, Reduces, StepReadyBy, window_of, words_of}
 use Rattle.replay_step.specs.declared.Graph.{Graph}
 use Rattle.replay_step.specs.declared.Part.{Part}
 use Rattle.replay_step.specs.declared.Window.{Window}
@@ -121,22 +123,17 @@ part_ready st a l = record {
   much = st.much;
 }
 
--- the window of a part, with the counts of its area
-abbrev pub window_of : Part → Counts → Window
-window_of p r = record { at = p.at; events = p.events; nodes = r.nodes; edges = r.edges }
-
 -- what a step promises, by what it makes of the window's area
 pub stepped_of : (A B : Timeline → Window → List ℕ → Type 0) {words : ℕ → ℕ} {w : Window} {p : Part} → IsPartOf words w p → {v z : List ℕ} → take p.scratch z ≡ take p.scratch v
     → {Made : (ℕ → ℕ) → List ℕ → Type 0} {y : List ℕ} → AreaMadeOf Made words p z y → (r : Counts)
     → ((g : Timeline) → Sound g → w.at + w.events ≤ size g → A g w (take (words w.events) v) → B g (window_of p r) (take (words p.events) (drop (words w.events) y)))
-    → (lo : ℕ) → p.at ≡ lo → SteppedOf A B words w lo p.events v y (record { at = lo; events = p.events; nodes = r.nodes; edges = r.edges })
-stepped_of A B {words} {w} {p} ip {v} {z} front {y = y} am r made lo e =
-    subst (λ (k : ℕ). SteppedOf A B words w k p.events v y (record { at = k; events = p.events; nodes = r.nodes; edges = r.edges })) e (record {
-      at = refl;
-      events = refl;
-      front = ap (λ (k : ℕ). take k y) (sym ip.area) ∙ am.front ∙ take_less p.area p.scratch v z (omega (arith, ip.area, ip.scratch)) front ∙ ap (λ (k : ℕ). take k v) ip.area;
-      made = made;
-    })
+    → SteppedOf A B words w p.at p.events v y (window_of p r)
+stepped_of A B {words} {w} {p} ip {v} {z} front {y = y} am r made = record {
+  at = refl;
+  events = refl;
+  front = ap (λ (k : ℕ). take k y) (sym ip.area) ∙ am.front ∙ take_less p.area p.scratch v z (omega (arith, ip.area, ip.scratch)) front ∙ ap (λ (k : ℕ). take k v) ip.area;
+  made = made;
+}
 
 -- a small graph of a window's network, in the words that the reader knows
 pub small_area : (g : Timeline) → Sound g → (r : Window) {z : List ℕ} {ρ σ : ℕ → ℕ}
@@ -190,5 +187,69 @@ module _ {w : Window} {p : Part} {v : List ℕ} (st : StepReady w p.at p.events 
           words = am.events ∙ words_are (load_ready st ip) pl lz (17 * w.events) low high g sound inside a.σ a.events;
         }))
 
-  pub stepped : (lo : ℕ) → p.at ≡ lo → Stepped w lo c v y (record { at = lo; events = c; nodes = r.nodes; edges = r.edges })
+  pub stepped : Stepped w p.at c v y (window_of p r)
   stepped = stepped_of Area SmallArea ip pl.front am r part_made
+
+-- ---- what the replay's own reduction owes: the contraction makes a part's small graph
+pub reduces : Reduces Area SmallArea 17 4 187 road_room AreaMade
+reduces = record {
+  least = λ n m c. omega arith;
+  fewer = λ n m k c h. omega arith;
+  loads = λ w p v st ip. load_ready st ip;
+  steps = λ w p v st ip z l pl lz y r am. stepped st ip pl lz am;
+  whole = λ g sound p l z y r am N T W.
+      let s : IsNamedSmallGraph (edges_in l.nodes l.edges (drop p.scratch z)) (active g (p.at, p.events)) r.nodes
+      (area_edges p.events r.edges (take (17 * p.events) (drop p.area y))) am.graph.ρ am.σ =
+      rw T at am.graph.small in
+      small_area g sound (window_of p r)
+      (subst (λ (G : Named). IsNamedSmallGraph G (active g (p.at, p.events)) r.nodes (area_edges p.events r.edges (take (17 * p.events) (drop p.area y))) am.graph.ρ am.σ) N s)
+      (record { places = am.places ∙ ap (map am.σ) T; words = am.events ∙ W });
+  own = λ g sound w some v h a. area_of a some sound (rw length-take (omega arith));
+  enough = λ w p v q lo c z a b s e f.
+      let o = area_of q.area q.some q.sound (rw length-take (omega (arith, q.enough))) in
+      record {
+        g = q.g;
+        sound = q.sound;
+        inside = q.inside;
+        area = rw f o;
+        starts = a;
+        ends = b;
+        some = s;
+        room = omega (arith, q.enough, area_nodes q.area q.some, o.graph.few);
+        many = omega (arith, q.much, area_nodes q.area q.some);
+        much = q.much;
+      };
+  fits = λ c n h. omega arith;
+  nodes = λ w p v q. omega (arith, q.much, area_nodes q.area q.some);
+}
+
+-- ---- a step by any reduction
+-- where it takes its part from, and where it puts its area and what is loaded
+pub is_part : {words : ℕ} {w : Window} (a : ℕ) {c : ℕ} {W W' : ℕ} → W ≡ words → W' ≡ words
+    → IsPartOf (words_of words) w (record { at = w.at + a; events = c; places = 2 * a; words = 2 * w.events + 3 * a; area = W * w.events; scratch = W * w.events + W' * c })
+is_part {words} {w} a {c} {W} {W'} e f = record {
+  places = omega arith;
+  words_at = omega arith;
+  area = ap (λ (k : ℕ). k * w.events) e;
+  scratch = ap₂ (λ (k l : ℕ). k * w.events + l * c) e f;
+}
+
+module _ {A B : Timeline → Window → List ℕ → Type 0} {words edges window : ℕ} {room : ℕ → ℕ → ℕ → ℕ} {Made : Part → Graph → List ℕ → List ℕ → Counts → Type 0} (o : Reduces A B words edges window room Made)
+    {w : Window} {p : Part} {v : List ℕ} (st : StepReadyBy A words room w p.at p.events v) (ip : IsPartOf (words_of words) w p) where
+  -- the room for the window's edges
+  pub edges_fit : 3 * (edges * w.events) ≤ length v
+  edges_fit = omega (arith, (o.loads w p v st ip).front, ip.area, st.room)
+
+  module _ {z : List ℕ} {l : Graph} (pl : PartLoaded w (edges * w.events) p v z l) (lz : length z ≡ length v) where
+    pub make_ready : MakeReadyBy words room p l z
+    make_ready = record {
+      ready = pl.ready;
+      behind = omega (arith, ip.area, ip.scratch);
+      enough = omega (arith, st.room, ip.scratch, ap (λ (n : ℕ). room n l.edges p.events) pl.nodes, o.fewer w.nodes l.edges (w.edges + w.events) p.events pl.most_edges, lz);
+    }
+
+    pub stepped_by : {y : List ℕ} {r : Counts} → Made p l z y r → {lo : ℕ} → p.at ≡ lo
+        → SteppedOf A B (words_of words) w lo p.events v y (record { at = lo; events = p.events; nodes = r.nodes; edges = r.edges })
+    stepped_by {y} {r} am e =
+        subst (λ (k : ℕ). SteppedOf A B (words_of words) w k p.events v y (record { at = k; events = p.events; nodes = r.nodes; edges = r.edges })) e
+        (o.steps w p v st ip z l pl lz y r am)

@@ -6,11 +6,12 @@ use Prim.Native.Nat.{◌*◌, ◌+◌, ◌-◌, ◌<◌, ◌≤◌, suc, zero, �
 use mathlib.Core.List.{List, Memᴰ, [], ◌++◌, ◌∷◌, append_assoc, map}
 use mathlib.Core.Path.{◌∙◌, ◌≡◌, ap, ap₂, refl, sym}
 use lib.ListN.{drop, drop_of_length-le, get_or, length, length-drop, length-replicate, length-take, replicate, set, take}
-use lib.Seq.{drop_at, drop-cons, drop-set-lt, get_or-drop, get_or-set_other, get_or-take, length-sets, length-take-le, sets, sets-eq, take-add, take_all, take_at, take-set-le, take-take}
+use lib.Seq.{drop_at, drop-cons, drop-set-lt, get_or-drop, get_or-set_other, get_or-take, length-sets, length-take-le, paste, sets, sets-eq, take-add, take_all, take_at, take-set-le, take-take}
 use native.Mathlib.Omega.{arith}
 use borrow.Rule.Slice.PartMut.{put_mid}
 use Rattle.theory_graph.proofs.Lists.{table_length}
-use Rattle.theory_graph.proofs.TableLaws.{sets_append, table_append}
+use Rattle.std.specs.List.{copy_within}
+use Rattle.theory_graph.proofs.TableLaws.{sets_append, table_append, table_equal}
 use Rattle.theory_graph.specs.Lists.{over, range, table}
 use Rattle.core_words.specs.Fields.{MAPPED, node}
 
@@ -76,11 +77,22 @@ field_after k s i q vs l h =
 pub fill_length : (l : List ℕ) {w : List ℕ} (q : ℕ) (vs : List ℕ) → w ≡ sets l q vs → length w ≡ length l
 fill_length l q vs e = ap length e ∙ length-sets l q vs
 
-pub fill_step : (l w : List ℕ) (k s q i : ℕ) → w ≡ sets l q (table (node k (drop s l)) 0 i) → q + i ≤ s
-    → set w (q + i) (get_or w (s + 16 * i + k) 0) ≡ sets l q (table (node k (drop s l)) 0 (i + 1))
-fill_step l w k s q i e h =
-    let f = node k (drop s l) in
-    ap (λ v. set v (q + i) (get_or v (s + 16 * i + k) 0)) e ∙ fill_more f l q i _ (field_after k s i q (table f 0 i) l (omega (arith, table_length f 0 i)))
+-- every `step`-th word from `from` on, read behind those that are written
+pub every_step : (l w : List ℕ) (from step q i : ℕ) → w ≡ sets l q (table (λ j. get_or l (from + step * j) 0) 0 i) → q + i ≤ from
+    → set w (q + i) (get_or w (from + step * i) 0) ≡ sets l q (table (λ j. get_or l (from + step * j) 0) 0 (i + 1))
+every_step l w from step q i e h =
+    let f : ℕ → ℕ = λ j. get_or l (from + step * j) 0 in
+    let x : get_or w (from + step * i) 0 ≡ f i =
+    ap (λ (u : List ℕ). get_or u (from + step * i) 0) e ∙ get_or_sets_after (table f 0 i) l q (from + step * i) (omega (arith, table_length f 0 i)) in
+    ap (λ (u : List ℕ). set u (q + i) (get_or w (from + step * i) 0)) e ∙ fill_more f l q i (get_or w (from + step * i) 0) x
+
+-- every sixteenth word behind s is a field of a node
+pub field_table : (k s m q : ℕ) (l : List ℕ) {w : List ℕ} → w ≡ sets l q (table (λ i. get_or l (s + k + 16 * i) 0) 0 m) → w ≡ sets l q (table (node k (drop s l)) 0 m)
+unfolding node
+field_table k s m q l e =
+    e ∙ ap (sets l q) (table_equal _ _ 0 m (λ i a b.
+    let x : s + k + 16 * i ≡ s + (16 * i + k) = omega arith in
+    ap (λ (j : ℕ). get_or l j 0) x ∙ sym (get_or-drop s l (16 * i + k) 0)))
 
 -- ---- numbers of listed nodes
 pub map_table : (g : ℕ → ℕ) (w : List ℕ) (range count : ℕ) → range + count ≤ length w → map g (take count (drop range w)) ≡ table (λ j. g (get_or w (range + j) 0)) 0 count
@@ -147,23 +159,12 @@ pub front_get : (s j : ℕ) (w z : List ℕ) → take s z ≡ take s w → j < s
 front_get s j w z e l = sym (get_or-take s z j 0 l) ∙ ap (λ k. get_or k j 0) e ∙ get_or-take s w j 0 l
 
 -- ---- words copied
-pub part_table : (w : List ℕ) (from count : ℕ) → from + count ≤ length w → take count (drop from w) ≡ table (λ j. get_or w (from + j) 0) 0 count
-part_table w from count h = let z : from ≡ from + 0 = omega arith in ap (λ j. take count (drop j w)) z ∙ go count 0 (omega arith)
-  where
-    go : (count i : ℕ) → from + i + count ≤ length w → take count (drop (from + i) w) ≡ table (λ j. get_or w (from + j) 0) i count
-    go zero i h = refl
-    go (suc k) i h =
-        let z : suc (from + i) ≡ from + suc i = omega arith in
-        ap (take (suc k)) (drop-cons w (from + i) 0 (omega arith)) ∙ ap (λ l. get_or w (from + i) 0 ∷ l) (ap (λ j. take k (drop j w)) z ∙ go k (suc i) (omega arith))
-
-pub copy_step : (l w : List ℕ) (from q i : ℕ) → w ≡ sets l q (table (λ j. get_or l (from + j) 0) 0 i) → from + i < q
-    → set w (q + i) (get_or w (from + i) 0) ≡ sets l q (table (λ j. get_or l (from + j) 0) 0 (i + 1))
-copy_step l w from q i e h =
-    let f : ℕ → ℕ = λ j. get_or l (from + j) 0 in
-    ap (λ v. set v (q + i) (get_or v (from + i) 0)) e ∙ fill_more f l q i _ (get_d_sets_before (table f 0 i) l q (from + i) h)
-
-pub copy_length : (l : List ℕ) (from q i : ℕ) {w : List ℕ} → w ≡ sets l q (table (λ j. get_or l (from + j) 0) 0 i) → length w ≡ length l
-copy_length l from q i e = fill_length l q (table (λ j. get_or l (from + j) 0) 0 i) e
+pub copied_words : (from count q : ℕ) (w : List ℕ) → from + count ≤ length w → q + count ≤ length w → copy_within w from (from + count) q ≡ sets w q (take count (drop from w))
+copied_words from count q w h b =
+    let vs = take count (drop from w) in
+    let l : length vs ≡ count = rw (length-take, length-drop) (omega arith) in
+    let e : from + count - from ≡ count = omega arith in
+    ap (paste w q (drop from w)) e ∙ ap (λ (k : ℕ). take q w ++ vs ++ drop (q + k) w) (sym l) ∙ sym (sets-eq vs w q (omega arith))
 
 -- ---- nodes at which junctions stand themselves
 pub map_self : (S : List ℕ) → map (λ a. a) S ≡ S

@@ -100,8 +100,12 @@ pub record SmallIn (g : Timeline) (w : Window) (v : List ℕ) (σ : ℕ → ℕ)
 abbrev pub SmallArea : Timeline → Window → List ℕ → Type 0
 SmallArea = AreaOf SmallIn
 
+-- the words that the contraction of a graph of n nodes and m edges takes
+abbrev pub road_room : ℕ → ℕ → ℕ → ℕ
+road_room n m c = 16 * n + 6 * m
+
 abbrev pub StepReady : Window → ℕ → ℕ → List ℕ → Type 0
-StepReady w lo c v = StepReadyOf Area area_words (17 * w.events + 17 * c + 16 * w.nodes + 6 * (w.edges + w.events)) w lo c v
+StepReady w lo c v = StepReadyOf Area area_words (17 * w.events + 17 * c + road_room w.nodes (w.edges + w.events) c) w lo c v
 
 abbrev pub Stepped : Window → ℕ → ℕ → List ℕ → List ℕ → Window → Type 0
 Stepped = SteppedOf Area SmallArea area_words

@@ -12,41 +12,21 @@ pub fn put_map(work: &mut [u32], from: usize, count: usize, s: usize, q: usize, 
     ensures { work.new ≡ sets work.old q
         (map (node MAPPED (drop s work.old)) (take count (drop from work.old))) }
 {
-    let mut i: usize = 0;
     // The first i numbers are written; before and behind them nothing has changed.
-    while i < count {
+    for i in 0..count {
         let v = work[from + i] as usize;
-        let x = work[s + 16 * v + core_words::MAPPED];
-        work[q + i] = x;
-        i += 1;
+        work[q + i] = work[s + 16 * v + core_words::MAPPED];
     }
 }
 
-// Writes field k of the first m nodes, at q.
-pub(crate) fn put_field(work: &mut [u32], m: usize, k: usize, s: usize, q: usize)
-    requires { (q + m ≤ s) × (k < 16) × (s + 16 * m ≤ length work.old) }
-    ensures { work.new ≡ sets work.old q (table (node k (drop s work.old)) 0 m) }
+// Internal: writes every `step`-th word from `from` on, `count` of them, at q.
+pub fn put_every(work: &mut [u32], from: usize, step: usize, count: usize, q: usize)
+    requires { (q + count ≤ from) × ((i : ℕ) → i < count → from + step * i < length work.old) }
+    ensures { work.new ≡ sets work.old q (table (λ i. get_or work.old (from + step * i) 0) 0 count) }
 {
-    let mut i: usize = 0;
-    // The field of the first i nodes is written.
-    while i < m {
-        let x = work[s + 16 * i + k];
-        work[q + i] = x;
-        i += 1;
-    }
-}
-
-// Internal: copies the `count` words from `from` on, to q.
-pub fn copy_words(work: &mut [u32], from: usize, count: usize, q: usize)
-    requires { (from + count ≤ q) × (q + count ≤ length work.old) }
-    ensures { work.new ≡ sets work.old q (take count (drop from work.old)) }
-{
-    let mut i: usize = 0;
     // The first i words are written.
-    while i < count {
-        let x = work[from + i];
-        work[q + i] = x;
-        i += 1;
+    for i in 0..count {
+        work[q + i] = work[from + step * i];
     }
 }
 
@@ -62,9 +42,9 @@ pub fn make_area(part: crate::Part, l: crate::Graph, work: &mut [u32]) -> core_r
     let n = l.nodes;
     let r = core_reduce::reduce(&mut work[s..], n, l.edges, l.active);
     put_map(work, part.places, 2 * c, s, q, n);
-    copy_words(work, part.words, 3 * c, q + 2 * c);
-    put_field(work, r.edges, core_words::LOWER, s, q + 5 * c);
-    put_field(work, r.edges, core_words::UPPER, s, q + 9 * c);
-    put_field(work, r.edges, core_words::NAMED, s, names);
+    work.copy_within(part.words..part.words + 3 * c, q + 2 * c);
+    put_every(work, s + core_words::LOWER, 16, r.edges, q + 5 * c);
+    put_every(work, s + core_words::UPPER, 16, r.edges, q + 9 * c);
+    put_every(work, s + core_words::NAMED, 16, r.edges, names);
     r
 }

@@ -5,31 +5,33 @@ ghost use Rattle.theory_timeline.specs.Tags.{adds};
 ghost use Rattle.replay_step.specs.Area.{span};
 ghost use Rattle.replay_step.specs.Load.{AddReady, Added, adds_in};
 
+use crate::tag::Tag;
+
 // Whether event e of the window, beside the part, adds its key, by its three words.
 pub(crate) fn adds_key(
     w: crate::Window,
     part: crate::Part,
     e: usize,
-    tag: usize,
+    tag: Tag,
     next: usize,
     last: usize,
 ) -> bool
     requires { part.at + part.events ≤ 4096 }
-    ensures { result ≡ adds (span w) (part.at, part.events) e tag next last }
+    ensures { result ≡ adds (span w) (part.at, part.events) e tag.word next last }
 {
-    if tag == 0 {
+    if tag.word == 0 {
         return false;
     }
     if e < part.at {
         if next < part.at + part.events {
             return false;
         }
-        return (tag - 1) % 2 == 1;
+        return tag.is_open_after();
     }
     if w.at < last {
         return false;
     }
-    (tag - 1) / 2 % 2 == 1
+    tag.was_open()
 }
 
 // Whether event i of the window does, by its words in the area.
@@ -38,7 +40,9 @@ pub(crate) fn event_adds(w: crate::Window, part: crate::Part, i: usize, work: &[
     ensures { result ≡ adds_in w part work.now i }
 {
     let at = 2 * w.events + 3 * i;
-    let tag = core_words::word(work, at);
+    let tag = Tag {
+        word: core_words::word(work, at),
+    };
     let next = core_words::word(work, at + 1);
     let last = core_words::word(work, at + 2);
     adds_key(w, part, w.at + i, tag, next, last)
@@ -61,11 +65,12 @@ pub(crate) fn add_event(
     }
     let a = core_words::word(work, 2 * i);
     let b = core_words::word(work, 2 * i + 1);
-    let tag = core_words::word(work, 2 * w.events + 3 * i);
-    let c = (tag - 1) / 4;
+    let tag = Tag {
+        word: core_words::word(work, 2 * w.events + 3 * i),
+    };
     let s = part.scratch;
     let n = w.nodes;
-    core_loading::put_edge(&mut work[s..], n, m, a, b, c);
+    core_loading::put_edge(&mut work[s..], n, m, a, b, tag.key());
     m + 1
 }
 
@@ -82,11 +87,9 @@ pub(crate) fn add_events(
     ensures { Added w part i j m work.old work.new result }
 {
     let mut k = m;
-    let mut e = i;
     // The events before e are added.
-    while e < j {
+    for e in i..j {
         k = add_event(w, part, e, work, k);
-        e += 1;
     }
     k
 }

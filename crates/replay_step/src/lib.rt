@@ -5,12 +5,17 @@
 pub mod area;
 mod beside;
 pub mod load;
+pub mod reduction;
+pub mod tag;
 
-ghost use Rattle.replay_step.specs.Area.{StepReady, Stepped};
+ghost use Rattle.replay_step.specs.Area.{SteppedOf};
 ghost use Rattle.replay_step.specs.Load.{LoadReady, PartLoaded};
+ghost use Rattle.replay_step.specs.Reduction.{StepReadyBy, words_of};
+
+use crate::reduction::Reduction;
 
 // Internal: a window of a list by its first event and its number of events, with the nodes and the edges of the graph in its area.
-#[derive(Clone, Copy)]
+#[derive(Clone, Copy, Debug, PartialEq, Eq)]
 pub struct Window {
     pub at: usize,
     pub events: usize,
@@ -20,7 +25,7 @@ pub struct Window {
 
 // Internal: a part whose area is to be made: its first event and its number of events; where its places and the words of its events stand; where its area
 // begins, and behind it the words of the graph that is loaded.
-#[derive(Clone, Copy)]
+#[derive(Clone, Copy, Debug, PartialEq, Eq)]
 pub struct Part {
     pub at: usize,
     pub events: usize,
@@ -31,7 +36,7 @@ pub struct Part {
 }
 
 // Internal: a graph that is loaded behind a part's area: its nodes, its edges, and how many different active nodes it has.
-#[derive(Clone, Copy)]
+#[derive(Clone, Copy, Debug, PartialEq, Eq)]
 pub struct Graph {
     pub nodes: usize,
     pub edges: usize,
@@ -59,21 +64,22 @@ pub fn load_part(w: Window, most: usize, part: Part, work: &mut [u32]) -> Graph
 }
 
 // Internal: the window has its area at the front of work; its part of c events from `lo` on gets its area behind that.
-pub fn step(w: Window, lo: usize, c: usize, work: &mut [u32]) -> Window
-    requires { StepReady w lo c work.old }
-    ensures { Stepped w lo c work.old work.new result }
+pub fn step<R: Reduction>(w: Window, lo: usize, c: usize, work: &mut [u32]) -> Window
+    requires { StepReadyBy R.carries R.WORDS R.room w lo c work.old }
+    ensures { SteppedOf R.carries R.reduced (words_of R.WORDS) w lo c work.old work.new result }
 {
     let a = lo - w.at;
+    let area = R::WORDS * w.events;
     let part = Part {
         at: w.at + a,
         events: c,
         places: 2 * a,
         words: 2 * w.events + 3 * a,
-        area: 17 * w.events,
-        scratch: 17 * w.events + 17 * c,
+        area: area,
+        scratch: area + R::WORDS * c,
     };
-    let l = load_part(w, 4 * w.events, part, work);
-    let small = area::make_area(part, l, work);
+    let l = load_part(w, R::EDGES * w.events, part, work);
+    let small = R::make_area(part, l, work);
     Window {
         at: lo,
         events: c,

@@ -9,12 +9,10 @@ pub(crate) fn enter_all(work: &mut [u32], from: usize, count: usize, s: usize, n
     ensures { Actives from count s n work.old work.new result }
 {
     let mut k: usize = 0;
-    let mut i: usize = 0;
     // The k nodes that are entered are those of the first i words, each once.
-    while i < count {
+    for i in 0..count {
         let v = work[from + i] as usize;
         k = core_loading::enter(&mut work[s..], n, k, v);
-        i += 1;
     }
     k
 }
@@ -33,13 +31,11 @@ pub(crate) fn copy_edges(work: &mut [u32], from: usize, q: usize, m: usize, s: u
     requires { EdgesReady from q m s n work.old }
     ensures { Copied from q m s n work.old work.new }
 {
-    let mut j: usize = 0;
     // The first j edges are loaded; the front and the nodes' fields are as they were.
-    while j < m {
+    for j in 0..m {
         let a = work[from + j] as usize;
         let b = work[from + q + j] as usize;
         let c = work[from + 2 * q + j] as usize;
         core_loading::put_edge(&mut work[s..], n, j, a, b, c);
-        j += 1;
     }
 }

@@ -1,2 +1,3 @@
 pub mod PartLaws
 pub mod DescentLaws
+pub mod WholeListLaws

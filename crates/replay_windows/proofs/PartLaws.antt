@@ -1,84 +1,129 @@
--- The recursion over windows, in either replay: the two parts of a window by its share, and what a step leaves for a part.
--- In order: the parts of a share; a step and a part; the two parts of a window.
+-- The recursion over windows, in either replay: what a step leaves for a part, and how the two parts of a window join to it.
+-- In order: a step and a part; the two parts of a window; what is written.
 -- Assumes nothing.
 use Prim.Native.Nat.{◌*◌, ◌+◌, ◌-◌, ◌<◌, ◌≤◌, ℕ}
 use mathlib.Core.List.{List}
 use mathlib.Core.Path.{◌∙◌, ◌≡◌, ap, refl, subst, sym}
 use lib.ListN.{drop, length, length-drop, length-take, take}
-use native.Mathlib.Nat.{mul-le-mul_left}
 use native.Mathlib.Omega.{arith}
 use borrow.Rule.Slice.PartMut.{put_mid, take_put}
+use Rattle.core_reduce.specs.declared.Counts.{Counts}
+use Rattle.replay_step.proofs.ShareLaws.{Shares, shares}
 use Rattle.replay_step.proofs.WordLaws.{lent_take}
 use Rattle.replay_step.specs.Area.{SteppedOf, WindowReadyOf}
+use Rattle.replay_step.specs.Reduction.{Reduces, StepReadyBy, words_of}
+use Rattle.replay_step.specs.declared.Graph.{Graph}
+use Rattle.replay_step.specs.declared.Part.{Part}
 use Rattle.replay_step.specs.declared.Window.{Window}
-use Rattle.theory_timeline.specs.DemandThree.{Allowed}
 use Rattle.theory_timeline.specs.Steps.{Sound}
 use Rattle.theory_timeline.specs.Windows.{Timeline, first_part, size}
+use Rattle.replay_windows.specs.Descent.{WindowDone, WritesParts}
 
--- ---- the parts of a share
-pub record Shares (n c : ℕ) : Type 0 where
-  pub some : 1 ≤ c
-  pub less : c < n
-  pub first : 11 * c ≤ 10 * n
-  pub second : 11 * (n - c) ≤ 10 * n
-
-pub shares : (p n : ℕ) → 2 ≤ n → Allowed p → Shares n (first_part p n)
-shares p n h a =
-    let l : n * 4 ≤ n * p = mul-le-mul_left n a.0 in
-    let u : n * p ≤ n * 12 = mul-le-mul_left n a.1 in
-    record { some = omega arith; less = omega arith; first = omega arith; second = omega arith }
-
--- ---- a step and a part
--- what a replay gives for its own windows: a window's area B is one of which a step can be made, A; and a part, which has at most ten elevenths of the events,
--- has room behind the window's area
-pub record Descends (A B : Timeline → Window → List ℕ → Type 0) (words room : ℕ → ℕ) (w : Window) (v : List ℕ) : Type 0 where
-  pub own : (g : Timeline) → Sound g → B g w (take (words w.events) v) → A g w (take (words w.events) v)
-  pub fits : (c n : ℕ) → 11 * c ≤ 10 * n → words n + room c ≤ room n
-
-module _ {A B : Timeline → Window → List ℕ → Type 0} {words room : ℕ → ℕ} {w : Window} {p : ℕ} {v : List ℕ} (r : WindowReadyOf B words room w p v) (o : Descends A B words room w v) where
+module _ {A B : Timeline → Window → List ℕ → Type 0} {words edges window : ℕ} {room : ℕ → ℕ → ℕ → ℕ} {Made : Part → Graph → List ℕ → List ℕ → Counts → Type 0}
+    (o : Reduces A B words edges window room Made) {w : Window} {p : ℕ} {v : List ℕ} (r : WindowReadyOf B (words_of words) (words_of window) w p v) where
   abbrev n : ℕ
   n = w.events
 
-  -- the words that are lent on
-  abbrev lent_on : List ℕ → List ℕ
-  lent_on z = take (length z - words n) (drop (words n) z)
+  abbrev full : ℕ
+  full = words * w.events
 
-  module _ {lo c : ℕ} {y z : List ℕ} {k : Window} (t : SteppedOf A B words w lo c y z k) (f : take (words n) y ≡ take (words n) v) (e : length z ≡ length v) (h : 11 * c ≤ 10 * n) where
-    pub part_area : (g : Timeline) → Sound g → w.at + n ≤ size g → B g w (take (words n) v) → B g k (take (words k.events) (lent_on z))
-    part_area g sound i a =
-        let x : words n + words k.events ≤ length z = omega (arith, r.enough, o.fits c n h, o.fits 0 c (omega arith), ap words t.events, e) in
-        let q : take (words c) (drop (words n) z) ≡ take (words k.events) (lent_on z) =
-        ap (λ (m : ℕ). take (words m) (drop (words n) z)) (sym t.events) ∙ sym (lent_take (words n) (words k.events) z x) in
-        subst (λ (v : List ℕ). B g k v) q (t.made g sound i (rw f (o.own g sound a)))
+  pub area_fits : full ≤ length v
+  area_fits = omega (arith, r.enough, o.fits 0 n (omega arith))
 
-    part_ready : w.at ≤ lo → lo + c ≤ w.at + n → 0 < c → WindowReadyOf B words room k p (lent_on z)
-    part_ready a b s = record {
-      g = r.g;
-      sound = r.sound;
-      inside = omega (arith, r.inside, t.at, t.events);
-      area = part_area r.g r.sound r.inside r.area;
-      some = omega (arith, t.events);
-      much = omega (arith, r.much, t.at, t.events);
-      share = r.share;
-      enough = rw (length-take, length-drop) (omega (arith, r.enough, o.fits c n h, ap room t.events, e));
-    }
+  -- a window of one event
+  pub done_one : {T : Type 0} {Same : T → T → Type 0} {Wrote : Timeline → ℕ → ℕ → ℕ → T → T → ℕ → Type 0} {before after : T} → n ≡ 1 → Same before after
+      → ((g : Timeline) → Sound g → w.at < size g → B g w (take words v) → Wrote g p w.at 1 before after w.nodes)
+      → WindowDone B Same Wrote w p (take full v) before after w.nodes
+  done_one one same f = record {
+    few = omega (arith, o.nodes w p v r);
+    same = same;
+    replied = λ g sound h a.
+        let z : full ≡ words = ap (λ (k : ℕ). words * k) one ∙ omega arith in
+        let b : B g w (take words v) = rw z at a in
+        rw one (f g sound (omega arith) b);
+  }
 
-  -- ---- the two parts of a window
-  module _ (two : 2 ≤ n) {c : ℕ} (q : c ≡ first_part p n) where
-    pub parts : Shares n c
-    parts = rw q (shares p n two r.share)
+  -- ---- the words that are lent on, behind the area; its width an event is read as W
+  module _ {W : ℕ} (at : W ≡ words) where
+    abbrev q : ℕ
+    q = W * w.events
 
-    module _ {w₁ : List ℕ} {a : Window} (s : SteppedOf A B words w w.at c v w₁ a) (l₁ : length w₁ ≡ length v) where
-      pub first_ready : (a.events < n) × WindowReadyOf B words room a p (lent_on w₁)
-      first_ready = (omega (arith, s.events, parts.less), part_ready s refl l₁ parts.first (omega arith) (omega (arith, parts.less)) parts.some)
+    abbrev lent_on : List ℕ → List ℕ
+    lent_on z = take (length z - q) (drop q z)
 
-      -- the words after the first part: the window's area is as it was
-      pub area_kept : (zs : List ℕ) → take (words n) (put_mid (words n) (length w₁ - words n) w₁ zs) ≡ take (words n) v
-      area_kept zs = take_put (words n) (length w₁ - words n) w₁ zs (omega (arith, r.enough, o.fits 0 n (omega arith), l₁)) ∙ s.front
+    pub lent_fits : q ≤ length v
+    lent_fits = rw at area_fits
 
-      module _ {w₂ w₃ : List ℕ} {d : Window} (f : take (words n) w₂ ≡ take (words n) v) (t : SteppedOf A B words w (w.at + c) (n - c) w₂ w₃ d) (l₃ : length w₃ ≡ length v) where
-        pub second_ready : (d.events < n) × WindowReadyOf B words room d p (lent_on w₃)
-        second_ready = (
-          omega (arith, t.events, parts.some, two),
-          part_ready t f l₃ parts.second (omega arith) (omega (arith, parts.less)) (omega (arith, parts.less)),
-        )
+    -- ---- a step and a part
+    module _ {lo c : ℕ} {y z : List ℕ} {k : Window} (t : SteppedOf A B (words_of words) w lo c y z k) (f : take full y ≡ take full v) (e : length z ≡ length v) (h : 11 * c ≤ 10 * n) where
+      part_area : (g : Timeline) → Sound g → w.at + n ≤ size g → B g w (take full v) → B g k (take (words * k.events) (lent_on z))
+      part_area g sound i a =
+          let x : full + words * k.events ≤ length z = omega (arith, r.enough, o.fits c n h, o.fits 0 c (omega arith), ap (words_of words) t.events, e) in
+          let u : take (words * c) (drop full z) ≡ take (words * k.events) (take (length z - full) (drop full z)) =
+          ap (λ (m : ℕ). take (words * m) (drop full z)) (sym t.events) ∙ sym (lent_take full (words * k.events) z x) in
+          rw at (subst (λ (v : List ℕ). B g k v) u (t.made g sound i (rw f (o.own g sound w r.some v area_fits a))))
+
+      part_ready : w.at ≤ lo → lo + c ≤ w.at + n → 0 < c → WindowReadyOf B (words_of words) (words_of window) k p (lent_on z)
+      part_ready a b s = record {
+        g = r.g;
+        sound = r.sound;
+        inside = omega (arith, r.inside, t.at, t.events);
+        area = part_area r.g r.sound r.inside r.area;
+        some = omega (arith, t.events);
+        much = omega (arith, r.much, t.at, t.events);
+        share = r.share;
+        enough = rw (length-take, length-drop) (omega (arith, r.enough, o.fits c n h, ap (words_of window) t.events, ap (λ (k : ℕ). k * w.events) at, e));
+      }
+
+    -- ---- the two parts of a window that is cut
+    module _ (cut : ¬ (n ≡ 1)) {c : ℕ} (first : c ≡ first_part p n) where
+      two : 2 ≤ n
+      two = omega (arith, r.some)
+
+      parts : Shares n c
+      parts = rw first (shares p n two r.share)
+
+      pub first_step : StepReadyBy A words room w w.at c v
+      first_step = o.enough w p v r w.at c v (omega arith) (omega (arith, parts.less)) (omega (arith, parts.some)) refl refl
+
+      module _ {w₁ : List ℕ} {a : Window} (s : SteppedOf A B (words_of words) w w.at c v w₁ a) (l₁ : length w₁ ≡ length v) where
+        pub first_ready : (a.events < n) × WindowReadyOf B (words_of words) (words_of window) a p (lent_on w₁)
+        first_ready = (omega (arith, s.events, parts.less), part_ready s refl l₁ parts.first (omega arith) (omega (arith, parts.less)) parts.some)
+
+        pub first_long : a.at + a.events ≤ w.at + n
+        first_long = omega (arith, s.at, s.events, parts.less)
+
+        -- the words after the first part: the window's area is as it was
+        module _ (zs : List ℕ) where
+          abbrev w₂ : List ℕ
+          w₂ = put_mid q (length w₁ - q) w₁ zs
+
+          kept : take full w₂ ≡ take full v
+          kept = rw at (take_put full (length w₁ - full) w₁ zs (omega (arith, area_fits, l₁))) ∙ s.front
+
+          pub second_step : length w₂ ≡ length v → StepReadyBy A words room w (w.at + c) (n - c) w₂
+          second_step l₂ = o.enough w p v r (w.at + c) (n - c) w₂ (omega arith) (omega (arith, parts.less)) (omega (arith, parts.less)) l₂ kept
+
+          module _ {w₃ : List ℕ} {d : Window} (t : SteppedOf A B (words_of words) w (w.at + c) (n - c) w₂ w₃ d) (l₃ : length w₃ ≡ length v) where
+            pub second_ready : (d.events < n) × WindowReadyOf B (words_of words) (words_of window) d p (lent_on w₃)
+            second_ready = (
+              omega (arith, t.events, parts.some, two),
+              part_ready t kept l₃ parts.second (omega arith) (omega (arith, parts.less)) (omega (arith, parts.less)),
+            )
+
+            pub second_long : d.at + d.events ≤ w.at + n
+            second_long = omega (arith, t.at, t.events, parts.less)
+
+            -- ---- what is written
+            pub done_two : {T : Type 0} {Long : ℕ → T → Type 0} {Same : T → T → Type 0} {Wrote : Timeline → ℕ → ℕ → ℕ → T → T → ℕ → Type 0} → WritesParts B Long Same Wrote
+                → {before mid after : T} {b k : ℕ} → WindowDone B Same Wrote a p (take (words * a.events) (lent_on w₁)) before mid b
+                → WindowDone B Same Wrote d p (take (words * d.events) (lent_on w₃)) mid after k
+                → WindowDone B Same Wrote w p (take full v) before after (w.nodes + b + k)
+            done_two m {before} {mid} {after} {b} {k} i j = record {
+              few = omega (arith, o.nodes w p v r, i.few, j.few, s.events, t.events, parts.less);
+              same = m.still before mid after i.same j.same;
+              replied = λ g sound h z.
+                  let u = rw (s.at, s.events) at (i.replied g sound (omega (arith, s.at, s.events, parts.less)) (part_area s refl l₁ parts.first g sound h z)) in
+                  let x = rw (t.at, t.events) at (j.replied g sound (omega (arith, t.at, t.events, parts.less)) (part_area t kept l₃ parts.second g sound h z)) in
+                  m.both g sound p r.share w (take full v) two z c first before mid after b k u x;
+            }

@@ -1,1 +1,2 @@
 pub mod Descent
+pub mod List

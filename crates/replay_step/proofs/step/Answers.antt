@@ -1,17 +1,24 @@
 -- What is loaded, and the area made out of it.
-use mathlib.Core.Path.{refl}
+use Prim.Native.Nat.{◌-◌}
 use native.Mathlib.Omega.{arith}
-use Rattle.replay_step.proofs.StepLaws.{load_ready, part_ready, stepped}
+use Rattle.replay_step.proofs.StepLaws.{edges_fit, is_part, part_ready, stepped_by}
 use Rattle.replay_step.proofs.step.Goals as goal
 
-pub load_part-l-requires : goal.load_part-l-requires
-load_part-l-requires c =
-    load_ready (part_ready c.requires _ (omega arith)) (record { places = omega arith; words_at = omega arith; area = refl; scratch = refl })
+pub overflow_mul-EDGES : goal.overflow_mul-EDGES
+overflow_mul-EDGES g c =
+    let a = c.args.lo - c.args.w.at in
+    let h = edges_fit g.met.R.Reduction.reduces (part_ready c.requires a (omega arith)) (is_part a c.WORDS.ensures c.WORDS-2.ensures) in
+    rw c.EDGES.ensures (omega (arith, h))
 
-pub make_area-small-requires : goal.make_area-small-requires
-make_area-small-requires c = (c.load_part-l.ensures.ready, refl)
+pub load_part-l-requires : goal.load_part-l-requires
+load_part-l-requires g c =
+    let a = c.args.lo - c.args.w.at in
+    let o = g.met.R.Reduction.reduces in
+    rw c.EDGES.ensures (o.loads _ _ _ (part_ready c.requires a (omega arith)) (is_part a c.WORDS.ensures c.WORDS-2.ensures))
 
 pub returns : goal.returns
-returns c =
-    stepped (part_ready c.requires _ (omega arith)) (record { places = omega arith; words_at = omega arith; area = refl; scratch = refl })
-    c.load_part-l.ensures (omega arith) c.make_area-small.ensures _ (omega (arith, c.requires.starts))
+returns g c =
+    let a = c.args.lo - c.args.w.at in
+    let l = rw c.EDGES.ensures at c.load_part-l.ensures in
+    stepped_by g.met.R.Reduction.reduces (part_ready c.requires a (omega arith)) (is_part a c.WORDS.ensures c.WORDS-2.ensures) l (omega arith)
+    c.make_area-small.ensures (omega (arith, c.requires.starts))

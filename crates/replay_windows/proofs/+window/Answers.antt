@@ -1,79 +1,67 @@
 -- The moments of a window that is cut: the split, a step and a window for the first part, a step and a window for the second.
--- What several goals ask for is stated here over plain variables.
-use Prim.Native.Nat.{◌≤◌, ℕ}
-use mathlib.Core.List.{List}
-use mathlib.Core.Path.{◌≡◌, refl, subst, sym}
-use lib.ListN.{length}
 use native.Mathlib.Omega.{arith}
-use Rattle.theory_timeline.specs.Windows.{first_part}
-use Rattle.replay_step.specs.declared.Window as W
-use Rattle.replay_windows.proofs.DescentLaws.{descends, done_one, done_two, first_window, second_window, step_ready}
-use Rattle.replay_windows.proofs.PartLaws.{Shares, area_kept, shares}
-use Rattle.replay_windows.specs.Descent.{WindowReady}
+use Rattle.replay_windows.proofs.PartLaws.{done_one, done_two, first_long, first_ready, first_step, lent_fits, second_long, second_ready, second_step}
 use Rattle.replay_windows.proofs.+window.Goals as goal
 
--- a window that is cut has two events
-two : {w : W.Window} {p : ℕ} {answers names v : List ℕ} → WindowReady w p answers names v → (w.events ≡ 1 → ⊥) → 2 ≤ w.events
-two r n = omega (arith, r.ready.some)
-
--- each part has an event, and at most ten elevenths of the window's
-parts : {w : W.Window} {p : ℕ} {answers names v : List ℕ} {c : ℕ} → WindowReady w p answers names v → (w.events ≡ 1 → ⊥) → c ≡ first_part p w.events
-    → Shares w.events c
-parts {w} {p} r n e = subst (λ (c : ℕ). Shares w.events c) (sym e) (shares p w.events (two r n) r.ready.share)
-
 pub returns-then-n-eq1 : goal.returns-then-n-eq1
-returns-then-n-eq1 t c = done_one c.requires c.if-n-eq1.true _ c.one.ensures
+returns-then-n-eq1 g t c =
+    done_one g.met.D.By.Reduction.reduces c.requires.0 c.if-n-eq1.true c.one.ensures.still c.one.ensures.replied
+
+pub overflow_mul-q : goal.overflow_mul-q
+overflow_mul-q g t c = omega (arith, lent_fits g.met.D.By.Reduction.reduces c.requires.0 c.WORDS.ensures)
 
 pub step-a-requires : goal.step-a-requires
-step-a-requires t c =
-    let s = parts c.requires c.if-n-eq1.false c.first_part-c.ensures in
-    step_ready c.requires _ _ _ (omega arith) (omega (arith, s.less)) (omega (arith, s.some)) refl refl
+step-a-requires g t c =
+    first_step g.met.D.By.Reduction.reduces c.requires.0 c.WORDS.ensures c.if-n-eq1.false c.first_part-c.ensures
+
+pub offset_bounds-work-q : goal.offset_bounds-work-q
+offset_bounds-work-q g t c = omega (arith, lent_fits g.met.D.By.Reduction.reduces c.requires.0 c.WORDS.ensures)
+
+pub slice_bounds-window-count : goal.slice_bounds-window-count
+slice_bounds-window-count g t c = omega (arith, lent_fits g.met.D.By.Reduction.reduces c.requires.0 c.WORDS.ensures)
+
+pub slice_bounds-window-start : goal.slice_bounds-window-start
+slice_bounds-window-start g t c = omega (arith, lent_fits g.met.D.By.Reduction.reduces c.requires.0 c.WORDS.ensures)
 
 pub window-b-requires : goal.window-b-requires
-window-b-requires t c =
-    let (a, b) = first_window c.requires (two c.requires c.if-n-eq1.false) c.first_part-c.ensures c.step-a.ensures c.step-a.auto.work in
-    (omega (arith, a, c.decreases), b)
+window-b-requires g t c κs within =
+    let o = g.met.D.By.Reduction.reduces in
+    let r = c.requires.0 in
+    let (a, b) = first_ready o r c.WORDS.ensures c.if-n-eq1.false c.first_part-c.ensures c.step-a.ensures c.step-a.auto.work in
+    let l = first_long o r c.WORDS.ensures c.if-n-eq1.false c.first_part-c.ensures c.step-a.ensures c.step-a.auto.work in
+    (omega (arith, a, c.decreases), (within.0, (within.1, (b, g.met.D.Replies.parts.shorter _ _ _ l c.requires.1))))
 
 pub step-d-requires : goal.step-d-requires
-step-d-requires t c =
-    let r = c.requires in
-    let z = two r c.if-n-eq1.false in
-    let s = parts r c.if-n-eq1.false c.first_part-c.ensures in
-    let kept = area_kept r.ready (descends r) z c.first_part-c.ensures c.step-a.ensures c.step-a.auto.work c.window-b.new.work in
-    step_ready r _ _ _ (omega arith) (omega (arith, s.less)) (omega (arith, s.less)) (omega arith) kept
+step-d-requires g t c =
+    second_step g.met.D.By.Reduction.reduces c.requires.0 c.WORDS.ensures c.if-n-eq1.false c.first_part-c.ensures c.step-a.ensures c.step-a.auto.work
+    c.window-b.new.work (omega arith)
+
+pub offset_bounds-work-q-2 : goal.offset_bounds-work-q-2
+offset_bounds-work-q-2 g t c = omega (arith, lent_fits g.met.D.By.Reduction.reduces c.requires.0 c.WORDS.ensures)
+
+pub slice_bounds-window-count-2 : goal.slice_bounds-window-count-2
+slice_bounds-window-count-2 g t c = omega (arith, lent_fits g.met.D.By.Reduction.reduces c.requires.0 c.WORDS.ensures)
+
+pub slice_bounds-window-start-2 : goal.slice_bounds-window-start-2
+slice_bounds-window-start-2 g t c = omega (arith, lent_fits g.met.D.By.Reduction.reduces c.requires.0 c.WORDS.ensures)
 
 pub window-e-requires : goal.window-e-requires
-window-e-requires t c =
-    let r = c.requires in
-    let z = two r c.if-n-eq1.false in
-    let kept = area_kept r.ready (descends r) z c.first_part-c.ensures c.step-a.ensures c.step-a.auto.work c.window-b.new.work in
-    let long : length c.step-d.new.work ≡ length c.args.work.now = omega arith in
-    let (a, b) = second_window r z c.first_part-c.ensures c.step-a.ensures c.step-a.auto.work kept c.step-d.ensures long c.window-b.new.answers c.window-b.new.names
-    c.window-b.auto.answers c.window-b.auto.names in
-    (omega (arith, a, c.decreases), b)
+window-e-requires g t c κs within =
+    let o = g.met.D.By.Reduction.reduces in
+    let r = c.requires.0 in
+    let m = g.met.D.Replies.parts in
+    let (a, b) = second_ready o r c.WORDS.ensures c.if-n-eq1.false c.first_part-c.ensures c.step-a.ensures c.step-a.auto.work c.window-b.new.work c.step-d.ensures (omega arith) in
+    let l = second_long o r c.WORDS.ensures c.if-n-eq1.false c.first_part-c.ensures c.step-a.ensures c.step-a.auto.work c.window-b.new.work c.step-d.ensures (omega arith) in
+    (omega (arith, a, c.decreases), (within.0, (within.1, (b, m.as_long _ _ _ c.window-b.ensures.same (m.shorter _ _ _ l c.requires.1)))))
 
 pub returns : goal.returns
-returns t c =
-    let r = c.requires in
-    let z = two r c.if-n-eq1.false in
-    let kept = area_kept r.ready (descends r) z c.first_part-c.ensures c.step-a.ensures c.step-a.auto.work c.window-b.new.work in
-    let long : length c.step-d.new.work ≡ length c.args.work.now = omega arith in
-    done_two r z c.first_part-c.ensures c.step-a.ensures c.step-a.auto.work kept c.step-d.ensures long c.window-b.ensures c.window-e.ensures
+returns g t c =
+    done_two g.met.D.By.Reduction.reduces c.requires.0 c.WORDS.ensures c.if-n-eq1.false c.first_part-c.ensures c.step-a.ensures c.step-a.auto.work
+    c.window-b.new.work c.step-d.ensures (omega arith) g.met.D.Replies.parts c.window-b.ensures c.window-e.ensures
 
+-- kept is small enough for its two sums
 pub overflow_add-result : goal.overflow_add-result
-overflow_add-result t c =
-    let r = c.requires in
-    let z = two r c.if-n-eq1.false in
-    let kept = area_kept r.ready (descends r) z c.first_part-c.ensures c.step-a.ensures c.step-a.auto.work c.window-b.new.work in
-    let long : length c.step-d.new.work ≡ length c.args.work.now = omega arith in
-    let d = done_two r z c.first_part-c.ensures c.step-a.ensures c.step-a.auto.work kept c.step-d.ensures long c.window-b.ensures c.window-e.ensures in
-    omega (arith, d.few, r.ready.much)
+overflow_add-result g t c = omega (arith, (returns g t c).few, c.requires.0.much)
 
 pub overflow_add-result-2 : goal.overflow_add-result-2
-overflow_add-result-2 t c =
-    let r = c.requires in
-    let z = two r c.if-n-eq1.false in
-    let kept = area_kept r.ready (descends r) z c.first_part-c.ensures c.step-a.ensures c.step-a.auto.work c.window-b.new.work in
-    let long : length c.step-d.new.work ≡ length c.args.work.now = omega arith in
-    let d = done_two r z c.first_part-c.ensures c.step-a.ensures c.step-a.auto.work kept c.step-d.ensures long c.window-b.ensures c.window-e.ensures in
-    omega (arith, d.few, r.ready.much)
+overflow_add-result-2 g t c = omega (arith, (returns g t c).few, c.requires.0.much)

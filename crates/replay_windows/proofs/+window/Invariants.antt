@@ -2,4 +2,4 @@
 use Rattle.replay_windows.proofs.+window.Given as goal
 
 abbrev pub decreases-window : goal.decreases-window
-decreases-window l = l.w.events
+decreases-window g l = l.w.events

@@ -1,10 +1,6 @@
 -- Each edge of the runs is written behind the front.
-use Prim.Native.Nat.{◌-◌}
 use Rattle.replay_step.proofs.EdgeLaws.{Copying}
 use Rattle.replay_step.proofs.load.copy_edges.Given as goal
 
 abbrev pub invariant-loop-j : goal.invariant-loop-j
 invariant-loop-j l = Copying l.from l.q l.m l.s l.n l.initial.work l.work l.j
-
-abbrev pub decreases-loop-j : goal.decreases-loop-j
-decreases-loop-j l = l.m - l.j
