@@ -163,5 +163,5 @@ module _ {n seen v : ℕ} (i : ℕ) {a w : List ℕ} (g : CanCount n seen a) (h 
       let m = count_reported i g.tree h.branches v_fits v_at (rw e6 at s.top) (rw (at_j EDGE (omega arith) refl) at s.has_edge) s.live in
       record { rest = only_then h.rest s.rest; branches = rw (s.lives, s.children, s.others, e5, e6) m })
 
-pub counting_down : {n seen i : ℕ} {a w : List ℕ} → (i ≡ 0 → ⊥) → Counting n seen a i w → Counting n seen a (i - 1 + 1) w
-counting_down {i = i} ne h = let e : i - 1 + 1 ≡ i = omega arith in rw e h
+pub counting_down : {n seen i : ℕ} {a w : List ℕ} → 0 < i → Counting n seen a i w → Counting n seen a (i - 1 + 1) w
+counting_down {i = i} l h = let e : i - 1 + 1 ≡ i = omega arith in rw e h

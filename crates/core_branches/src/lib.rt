@@ -2,7 +2,7 @@
 // from each kept class to the nearest one above, with the smallest name along it.
 #![tactic(auto)]
 
-ghost use Rattle.std.specs.Prelude.{◌≡◌, ◌+◌, min};
+ghost use Rattle.std.specs.Prelude.{◌≡◌, ◌+◌};
 ghost use Rattle.core_branches.specs.BranchCounts.{CanReport, Report, CanCount, Counting};
 ghost use Rattle.core_branches.specs.Numbers.{CanAssign, Assigned, CanNumber, ActiveStep, CanNumberActives, NumberingActives};
 ghost use Rattle.core_branches.specs.Numbers.{OtherStep, CanNumberOthers, NumberingOthers};
@@ -79,10 +79,8 @@ fn count_branches(work: &mut [u32], n: usize, seen: usize)
     requires { CanCount n seen work.old }
     ensures { Counting n seen work.old 0 work.new }
 {
-    let mut i = seen;
-    // The nodes of the order from place i on have reported.
-    while i != 0 {
-        i -= 1;
+    // The nodes of the order from the place after i on have reported.
+    for i in (0..seen).rev() {
         let v = core_words::get(work, i, ORDER);
         report_branch(work, n, v);
     }
@@ -123,18 +121,8 @@ fn number_others(work: &mut [u32], n: usize, h: usize) -> usize
     r
 }
 
-// The smaller of two names.
-fn smaller(a: usize, b: usize) -> usize
-    ensures { result ≡ min a b }
-{
-    if a < b {
-        return a;
-    }
-    b
-}
-
 // One class up: the name of the tree edge, the top of the class above, and one more than its number, 0 where it has none.
-#[derive(Drop)]
+#[derive(Clone, Copy, Debug, PartialEq, Eq)]
 struct StepUp {
     name: usize,
     top: usize,
@@ -158,7 +146,7 @@ fn step_up(work: &[u32], n: usize, m: usize, v: usize) -> StepUp
 }
 
 // The way up from a class: one more than the number of the nearest kept class above, and the smallest name on the way to it.
-#[derive(Drop)]
+#[derive(Clone, Copy, Debug, PartialEq, Eq)]
 struct Way {
     number: usize,
     name: usize,
@@ -178,7 +166,7 @@ fn way_up(work: &[u32], n: usize, m: usize, v: usize) -> Way
         let next = step_up(work, n, m, q);
         q = next.top;
         x = next.number;
-        c = smaller(c, next.name);
+        c = c.min(next.name);
     }
     Way { number: x, name: c }
 }

@@ -43,8 +43,8 @@ pub pushing_then : {n h i j : ℕ} {a b c : List ℕ} → Pushing n h a b i → 
 pushing_then k l = record { ready = l.ready; rest = only_then k.rest l.rest; lists = l.lists }
 
 -- one number down
-pub pushing_down : {n h i : ℕ} {a w : List ℕ} → (i ≡ 0 → ⊥) → Pushing n h a w i → Pushing n h w w (i - 1 + 1)
-pushing_down {i = i} ne k = let e : i - 1 + 1 ≡ i = omega arith in rw e (pushing_self k)
+pub pushing_down : {n h i : ℕ} {a w : List ℕ} → 0 < i → Pushing n h a w i → Pushing n h w w (i - 1 + 1)
+pushing_down {i = i} l k = let e : i - 1 + 1 ≡ i = omega arith in rw e (pushing_self k)
 
 -- the lists are empty
 pub pushing_cleared : {n h : ℕ} {a w : List ℕ} → CanList n h a → Cleared (CHILD ∷ []) n h a w → Pushing n h a w h

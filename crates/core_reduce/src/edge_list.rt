@@ -66,10 +66,8 @@ fn push_children(work: &mut [u32], n: usize, h: usize)
     requires { Pushing n h work.old work.old h }
     ensures { Pushing n h work.old work.new 0 }
 {
-    let mut x = h;
-    // The numbers from x on stand in the lists of their parents, where these are smaller, and each list ascends.
-    while x != 0 {
-        x -= 1;
+    // The numbers after x stand in the lists of their parents, where these are smaller, and each list ascends.
+    for x in (0..h).rev() {
         push_child(work, n, h, x);
     }
 }

@@ -35,7 +35,7 @@ ghost use Rattle.core_reduce.specs.Core.{Loaded, Reduced, start_fields};
 use core_words::*;
 
 // The nodes and the edges of a small graph.
-#[derive(Drop)]
+#[derive(Clone, Copy, Debug, PartialEq, Eq)]
 pub struct Counts {
     pub nodes: usize,
     pub edges: usize,
@@ -101,8 +101,5 @@ pub fn reduce(work: &mut [u32], n: usize, m: usize, k: usize) -> Counts
     let edges = edge_list::list_edges(work, n, nodes);
     core_names::name_edges(work, n, edges);
     write_numbers(work, n, k);
-    Counts {
-        nodes: nodes,
-        edges: edges,
-    }
+    Counts { nodes, edges }
 }

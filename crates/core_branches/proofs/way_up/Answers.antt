@@ -1,3 +1,4 @@
+use native.Mathlib.Omega.{arith}
 use Rattle.core_branches.proofs.WayLaws.{can_more, can_start, going_less, going_more, going_start, way_found}
 use Rattle.core_branches.proofs.way_up.Goals as goal
 
@@ -17,7 +18,7 @@ loop-x-smaller c =
 
 pub loop-x-preserved : goal.loop-x-preserved
 loop-x-preserved c =
-    going_more c.requires c.loop-x.invariant c.loop-x-test.true c.step_up-next.ensures c.smaller-c.ensures
+    going_more c.requires c.loop-x.invariant c.loop-x-test.true c.step_up-next.ensures (omega arith)
 
 pub returns : goal.returns
 returns c =
