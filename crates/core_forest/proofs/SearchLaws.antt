@@ -16,43 +16,10 @@ use Rattle.core_forest.specs.Forest.{ForestAt, HasParent, Root}
 use Rattle.core_forest.specs.Search.{Appended, BetweenTrees, CanAppend, CanVisit, Growing, Grown, Scanning, Search, SearchAt, SearchKeeps, TreeEdge, Visited}
 use Rattle.theory_graph.specs.Lists.{member}
 use Rattle.theory_graph.proofs.Booleans.{on_bool}
-use Rattle.core_words.proofs.ChangeLaws.{only_none, only_put, only_then, only_then_put}
+use Rattle.core_words.proofs.ChangeLaws.{only_none, only_then}
 use Rattle.core_words.proofs.FieldLaws.{update_at, update_other, update_same}
 use Rattle.core_words.specs.Changes.{OnlyFields}
-use Rattle.core_words.specs.Fields.{ACTIVE, EDGE, HEAD, MARK, NEXT, ORDER, PARENT, POSITION, ROOT, TO, Put, half, node, update}
-
-pub appended : {n seen v p t r : ℕ} {a b c d e f : List ℕ} → CanAppend n a seen v p t r → Put ORDER seen v a b → Put POSITION v (seen + 1) b c → Put PARENT v p c d
-    → Put EDGE v t d e → Put ROOT v r e f
-    → Appended n seen v p t r a f
-appended {n} {seen} {v} {p} {t} {r} {a} {b} {c} {d} {e} {f} g p3 p4 p5 p13 p12 = record {
-  rest = only_then_put refl g.fit (only_then_put refl g.fit (only_then_put refl g.fit (only_then_put refl g.fit (only_put refl g.less p3) p4) p5) p13) p12;
-  ord = step12 ORDER (omega arith) (λ e. omega arith) ∙ step13 ORDER (omega arith) (λ e. omega arith) ∙ step5 ORDER (omega arith) (λ e. omega arith)
-      ∙ step4 ORDER (omega arith) (λ e. omega arith) ∙ p3.here;
-  pos = step12 POSITION (omega arith) (λ e. omega arith) ∙ step13 POSITION (omega arith) (λ e. omega arith) ∙ step5 POSITION (omega arith) (λ e. omega arith)
-      ∙ p4.here ∙ ap (λ g. update g v (seen + 1)) (step3 POSITION (omega arith) (λ e. omega arith));
-  par = step12 PARENT (omega arith) (λ e. omega arith) ∙ step13 PARENT (omega arith) (λ e. omega arith) ∙ p5.here
-      ∙ ap (λ g. update g v p) (step4 PARENT (omega arith) (λ e. omega arith) ∙ step3 PARENT (omega arith) (λ e. omega arith));
-  te = step12 EDGE (omega arith) (λ e. omega arith) ∙ p13.here
-      ∙ ap (λ g. update g v t) (step5 EDGE (omega arith) (λ e. omega arith) ∙ step4 EDGE (omega arith) (λ e. omega arith) ∙ step3 EDGE (omega arith) (λ e. omega arith));
-  root = p12.here ∙ ap (λ g. update g v r)
-      (step13 ROOT (omega arith) (λ e. omega arith) ∙ step5 ROOT (omega arith) (λ e. omega arith) ∙ step4 ROOT (omega arith) (λ e. omega arith)
-      ∙ step3 ROOT (omega arith) (λ e. omega arith));
-}
-  where
-    step3 : (j : ℕ) → j < 16 → (j ≡ 3 → ⊥) → node j b ≡ node j a
-    step3 = p3.else
-
-    step4 : (j : ℕ) → j < 16 → (j ≡ 4 → ⊥) → node j c ≡ node j b
-    step4 = p4.else
-
-    step5 : (j : ℕ) → j < 16 → (j ≡ 5 → ⊥) → node j d ≡ node j c
-    step5 = p5.else
-
-    step13 : (j : ℕ) → j < 16 → (j ≡ 13 → ⊥) → node j e ≡ node j d
-    step13 = p13.else
-
-    step12 : (j : ℕ) → j < 16 → (j ≡ 12 → ⊥) → node j f ≡ node j e
-    step12 = p12.else
+use Rattle.core_words.specs.Fields.{ACTIVE, EDGE, HEAD, MARK, NEXT, ORDER, PARENT, POSITION, ROOT, TO, half, node, update}
 
 module _ {n m : ℕ} {mark to ord pos par te root : ℕ → ℕ} {done seen r : ℕ} (s : Search n m mark to ord pos par te root done seen r)
     (v p t : ℕ) (l : v < n) (z : pos v ≡ 0) (mr : 0 < mark r)
@@ -283,32 +250,34 @@ scan_none {n} {m} {done} {seen} {r} {v} {c} {w} g l ev ec =
     }
 
 module _ {n m done r v seen cur : ℕ} {w₀ w : List ℕ} (g : ScanLoop n m done r v w₀ seen cur w) where
-  pub scan_can : (cur ≡ 0 → ⊥) → CanVisit n m w done seen r v (cur - 1)
-  scan_can ne =
-      let e : cur - 1 + 1 ≡ cur = omega arith in
-      record { scan = rw e g.scan; less = omega (arith, g.low); leaves = g.leaves (omega arith) }
+  module _ (h : ℕ) (e : cur ≡ h + 1) where
+    leaves_v : origin (half n TO w) h ≡ v
+    leaves_v = let d : cur - 1 ≡ h = omega arith in rw d at (g.leaves (omega arith))
 
-  pub scan_more : (cur ≡ 0 → ⊥) → {seen' c : ℕ} {w' : List ℕ} → Visited n m w w' done seen' r v (cur - 1) → c ≡ half n NEXT w' (cur - 1) → ScanLoop n m done r v w₀ seen' c w' × (c < cur)
-  scan_more ne {seen'} {c} {w'} k ec =
-      let s = k.1 in
-      let b : origin (half n TO w') (cur - 1) ≡ v = rw (k.0.rest.halves TO) (g.leaves (omega arith)) in
-      let h : LastFrom (origin (half n TO w')) v (cur - 1) c = rw (ec, ← b) (s.lists.nexts (cur - 1) (omega (arith, g.low))) in (
-        record {
-          keeps = keeps_then g.keeps k.0;
-          scan = record {
-            lists = s.lists;
-            search = s.search;
-            fit = s.fit;
-            fit_r = s.fit_r;
-            mark = s.mark;
-            at = s.at;
-            part = λ j i l e. on_bool (ltb j (cur - 1)) (λ q. absurd (h.gap j i (ltb-true j (cur - 1) q) e)) (λ q. s.part j (ltb-false j (cur - 1) q) l e);
-          };
-          low = omega (arith, h.below, g.low);
-          leaves = h.at;
-        },
-        omega (arith, h.below),
-      )
+    pub scan_can : CanVisit n m w done seen r v h
+    scan_can = record { scan = rw (← e) g.scan; less = omega (arith, g.low); leaves = leaves_v }
+
+    pub scan_more : {seen' c : ℕ} {w' : List ℕ} → Visited n m w w' done seen' r v h → c ≡ half n NEXT w' h → ScanLoop n m done r v w₀ seen' c w' × (c < cur)
+    scan_more {seen'} {c} {w'} k ec =
+        let s = k.1 in
+        let b : origin (half n TO w') h ≡ v = rw (k.0.rest.halves TO) leaves_v in
+        let next : LastFrom (origin (half n TO w')) v h c = rw (ec, ← b) (s.lists.nexts h (omega (arith, g.low))) in (
+          record {
+            keeps = keeps_then g.keeps k.0;
+            scan = record {
+              lists = s.lists;
+              search = s.search;
+              fit = s.fit;
+              fit_r = s.fit_r;
+              mark = s.mark;
+              at = s.at;
+              part = λ j i l f. on_bool (ltb j h) (λ q. absurd (next.gap j i (ltb-true j h q) f)) (λ q. s.part j (ltb-false j h q) l f);
+            };
+            low = omega (arith, next.below, g.low);
+            leaves = next.at;
+          },
+          omega (arith, next.below),
+        )
 
   pub scan_done : cur ≡ 0 → Grown n m w₀ w (done + 1) seen r
   scan_done z = record {

@@ -1,0 +1,27 @@
+-- Laws of the words that name something or nothing: what `is_some` and `is_none` say of the word.
+-- Assumes nothing.
+use Rattle.std.proofs.Common.{◌≡◌, ◌∙◌, ap, sym, refl, ℕ, ◌<◌, Bool, false, true, not, Option, Some, None, arith}
+use Rattle.std.specs.Option.{is_some}
+use Rattle.core_words.specs.Links.{link_word}
+
+some_positive : (x : Option ℕ) → is_some x ≡ true → 0 < link_word x
+some_positive (Some x) e = omega arith
+some_positive None e = cc
+
+none_zero : (x : Option ℕ) → is_some x ≡ false → link_word x ≡ 0
+none_zero (Some x) e = cc
+none_zero None e = refl
+
+-- of `is_some`
+pub link_some : (x : Option ℕ) {b : Bool} → b ≡ is_some x → b ≡ true → 0 < link_word x
+link_some x e t = some_positive x (sym e ∙ t)
+
+pub link_none : (x : Option ℕ) {b : Bool} → b ≡ is_some x → b ≡ false → link_word x ≡ 0
+link_none x e f = none_zero x (sym e ∙ f)
+
+-- of `is_none`
+pub not_none : (x : Option ℕ) {b : Bool} → is_some x ≡ not b → b ≡ false → 0 < link_word x
+not_none x e f = some_positive x (e ∙ ap not f)
+
+pub is_none : (x : Option ℕ) {b : Bool} → is_some x ≡ not b → b ≡ true → link_word x ≡ 0
+is_none x e t = none_zero x (e ∙ ap not t)
