@@ -223,31 +223,8 @@ pub record ScanLoop (n m done r v : ℕ) (w₀ : List ℕ) (seen cur : ℕ) (w :
   pub low : cur ≤ 2 * m
   pub leaves : 0 < cur → origin (half n TO w) (cur - 1) ≡ v
 
-pub keeps_none : (n : ℕ) (w : List ℕ) → SearchKeeps n w w
-keeps_none n w = record { rest = only_none n w; more = λ u _ i. i }
-
 pub keeps_then : {n : ℕ} {a b c : List ℕ} → SearchKeeps n a b → SearchKeeps n b c → SearchKeeps n a c
 keeps_then g h = record { rest = only_then g.rest h.rest; more = λ u l i. h.more u l (g.more u l i) }
-
-pub scan_none : {n m done seen r v c : ℕ} {w : List ℕ} → Growing n m w done seen r → done < seen → v ≡ node ORDER w done → c ≡ node HEAD w v → ScanLoop n m done r v w seen c w
-scan_none {n} {m} {done} {seen} {r} {v} {c} {w} g l ev ec =
-    let p = g.search.place done l in
-    let fit : v < n = rw ev p.0 in
-    let h : LastFrom (origin (half n TO w)) v (2 * m) c = rw ec (g.lists.heads v fit) in
-    record {
-      keeps = keeps_none n w;
-      scan = record {
-        lists = g.lists;
-        search = g.search;
-        fit = fit;
-        fit_r = g.fit_r;
-        mark = g.mark;
-        at = rw ev p.1;
-        part = λ j a b e. absurd (h.gap j a b e);
-      };
-      low = h.below;
-      leaves = h.at;
-    }
 
 module _ {n m done r v seen cur : ℕ} {w₀ w : List ℕ} (g : ScanLoop n m done r v w₀ seen cur w) where
   module _ (h : ℕ) (e : cur ≡ h + 1) where
@@ -314,16 +291,6 @@ module _ {n m done r v seen cur : ℕ} {w₀ w : List ℕ} (g : ScanLoop n m don
       one : (u : ℕ) → u < n → 0 < node POSITION w u → node POSITION w u ≡ done + 1 → u ≡ v
       one u l i e = sym (s.place_of u l i).1 ∙ ap (λ k. node ORDER w (k - 1)) (e ∙ sym at) ∙ (s.place_of v fit (omega (arith, at))).1
 
-pub grown_none : {n m done seen r : ℕ} {w : List ℕ} → Growing n m w done seen r → Grown n m w w done seen r
-grown_none {n} {w = w} g = record { keeps = keeps_none n w; search = g.search }
-
-pub grown_then : {n m d d' s s' r : ℕ} {w₀ w w' : List ℕ} → Grown n m w₀ w d s r → Grown n m w w' d' s' r → Grown n m w₀ w' d' s' r
-grown_then a b = record { keeps = keeps_then a.keeps b.keeps; search = b.search }
-
--- the tree of r is still searched at w
-pub growing_still : {n m d₀ s₀ done seen r : ℕ} {w₀ w : List ℕ} → Growing n m w₀ d₀ s₀ r → Grown n m w₀ w done seen r → Growing n m w done seen r
-growing_still g a = record { lists = lists_still refl a.keeps.rest g.lists; search = a.search; fit_r = g.fit_r; mark = rw (a.keeps.rest.nodes MARK (omega arith) refl) g.mark }
-
 pub grown_less : {n m d s r : ℕ} {w₀ w : List ℕ} → Grown n m w₀ w d s r → s ≤ n
 grown_less a = seen_less a.search
 
@@ -352,9 +319,6 @@ module _ {n m k seen j r p : ℕ} {w : List ℕ} (b : BetweenTrees n m k w seen 
   have_more {w'} g h = rw (g.rest.nodes ACTIVE (omega arith) refl) (below_more (λ i. 0 < node POSITION w' (node ACTIVE w i)) j
       (λ i q. g.more (node ACTIVE w i) (b.active i (omega arith)).0 (b.have i q))
       (rw er at h))
-
-  pub start_seen : (p ≡ 0 → ⊥) → SearchKeeps n w w × BetweenTrees n m k w seen (j + 1)
-  start_seen ne = (keeps_none n w, record { lists = b.lists; active = b.active; all = b.all; search = b.search; have = have_more (keeps_none n w) (omega arith) })
 
   module _ (z : p ≡ 0) where
     r_new : node POSITION w r ≡ 0
