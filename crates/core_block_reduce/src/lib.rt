@@ -17,8 +17,5 @@ pub fn reduce(work: &mut [u32], n: usize, m: usize, k: usize) -> Counts
     let nodes = core_cycles::number_nodes(work, n, m, k, seen);
     let edges = core_cycles::write_cycles(work, n, m, k, seen, nodes);
     core_cycles::map_actives(work, n, k);
-    Counts {
-        nodes: nodes,
-        edges: edges,
-    }
+    Counts { nodes, edges }
 }

@@ -8,12 +8,12 @@ use mathlib.Core.Path.{◌∙◌, ◌≡◌, ap, refl, sym}
 use lib.Dec.{eqb}
 use native.Mathlib.Omega.{arith}
 use borrow.Author.Tests.{eqb-false, eqb-true}
-use Rattle.core_branches.specs.BranchCounts.{Branches, CanCount, CanReport, Child, Counting, Report, TreeOrder}
+use Rattle.core_branches.specs.BranchCounts.{Branches, CanCount, Child, Counting, Report, TreeOrder}
 use Rattle.theory_graph.specs.Lists.{member}
 use Rattle.theory_graph.proofs.Booleans.{on_bool}
-use Rattle.core_words.proofs.ChangeLaws.{only_none, only_put, only_then, only_then_put}
+use Rattle.core_words.proofs.ChangeLaws.{only_then}
 use Rattle.core_words.proofs.FieldLaws.{update_at, update_other, update_same}
-use Rattle.core_words.specs.Fields.{BRANCH, EDGE, LIVE, ORDER, OTHER, PARENT, POSITION, TOP, Put, node, update}
+use Rattle.core_words.specs.Fields.{BRANCH, EDGE, LIVE, ORDER, OTHER, PARENT, POSITION, TOP, node, update}
 
 module _ {n seen : ℕ} {ord pos par te top live₀ live child other : ℕ → ℕ} (i : ℕ) {v : ℕ} (g : TreeOrder n seen ord pos par te top)
     (w : Branches n pos par te top live₀ live child other (i + 1)) (fit : v < n) (at : pos v ≡ i + 1) where
@@ -99,42 +99,6 @@ module _ {n seen : ℕ} {ord pos par te top live₀ live child other : ℕ → �
           ));
     }
 
-module _ {n v q p : ℕ} {a : List ℕ} (g : CanReport n a v) (ep : p ≡ node PARENT a v) (eq : q ≡ node TOP a p) where
-  pub p_fits : p < n
-  p_fits = rw ep g.par_fit
-
-  q_is : node TOP a (node PARENT a v) ≡ q
-  q_is = sym (eq ∙ ap (node TOP a) ep)
-
-  pub q_fits : q < n
-  q_fits = rw (← q_is) g.top_fit
-
-  pub reported : {t e l old : ℕ} {b c d : List ℕ} → t ≡ node TOP a v → (t ≡ v) → e ≡ node EDGE a v → (e ≡ 0 → ⊥) → l ≡ node LIVE a v → (l ≡ 0 → ⊥)
-      → old ≡ node BRANCH a q → Put LIVE q l a b → Put OTHER q old b c → Put BRANCH q (v + 1) c d
-      → Report n v a d
-  reported {l = l} {old} et tv ee ne el nl eo p7 p9 p8 = inr (rw q_is (record {
-    is = q_is;
-    top = sym et ∙ tv;
-    has_edge = λ z. ne (ee ∙ z);
-    live = λ z. nl (el ∙ z);
-    rest = only_then_put refl q_fits (only_then_put refl q_fits (only_put refl q_fits p7) p9) p8;
-    lives = p8.else LIVE (omega arith) (λ e. omega arith) ∙ p9.else LIVE (omega arith) (λ e. omega arith) ∙ p7.here ∙ ap (update (node LIVE a) q) el;
-    children = p8.here ∙ ap (λ f. update f q (v + 1)) (p9.else BRANCH (omega arith) (λ e. omega arith) ∙ p7.else BRANCH (omega arith) (λ e. omega arith));
-    others = p8.else OTHER (omega arith) (λ e. omega arith) ∙ p9.here ∙ ap (λ f. update f q old) (p7.else OTHER (omega arith) (λ e. omega arith)) ∙ ap (update (node OTHER a) q) eo;
-  }))
-
-pub counting_none : {n seen : ℕ} {w : List ℕ} → CanCount n seen w → Counting n seen w seen w
-counting_none {n} {seen} {w} g = record {
-  rest = only_none n w;
-  branches = record {
-    witness = λ P up st. st;
-    still = λ t a. a;
-    one = λ t l a. absurd (a (g.none t l).0);
-    two = λ t l a. absurd (a (g.none t l).1);
-    all = λ t c l k p a. absurd (omega (arith, (g.tree.place_of c k.fit k.seen).0));
-  };
-}
-
 module _ {n seen v : ℕ} (i : ℕ) {a w : List ℕ} (g : CanCount n seen a) (h : Counting n seen a (i + 1) w) (l : i < seen) (ev : v ≡ node ORDER w i) where
   at_j : (j : ℕ) → j < 16 → member (LIVE ∷ BRANCH ∷ OTHER ∷ []) j ≡ false → node j w ≡ node j a
   at_j = h.rest.nodes
@@ -145,15 +109,6 @@ module _ {n seen v : ℕ} (i : ℕ) {a w : List ℕ} (g : CanCount n seen a) (h 
   v_at : node POSITION a v ≡ i + 1
   v_at = rw (ev, at_j ORDER (omega arith) refl) (g.tree.place i l).1
 
-  pub counting_can : CanReport n w v
-  counting_can = record {
-    few = g.few;
-    room = rw h.rest.same g.room;
-    fit = v_fits;
-    par_fit = rw (at_j PARENT (omega arith) refl) (g.tree.par_fit v v_fits (omega (arith, v_at)));
-    top_fit = rw (at_j PARENT (omega arith) refl, at_j TOP (omega arith) refl) (g.tree.top_fit (node PARENT a v) (g.tree.par_fit v v_fits (omega (arith, v_at))));
-  }
-
   pub counting_more : {w' : List ℕ} → Report n v w w' → Counting n seen a i w'
   counting_more {w'} = ⊎_elim
       (λ s. rw s.0 (record { rest = h.rest; branches = count_skip i g.tree h.branches v_fits v_at (rw (at_j TOP (omega arith) refl, at_j EDGE (omega arith) refl) at s.1) }))
@@ -163,5 +118,5 @@ module _ {n seen v : ℕ} (i : ℕ) {a w : List ℕ} (g : CanCount n seen a) (h 
       let m = count_reported i g.tree h.branches v_fits v_at (rw e6 at s.top) (rw (at_j EDGE (omega arith) refl) at s.has_edge) s.live in
       record { rest = only_then h.rest s.rest; branches = rw (s.lives, s.children, s.others, e5, e6) m })
 
-pub counting_down : {n seen i : ℕ} {a w : List ℕ} → (i ≡ 0 → ⊥) → Counting n seen a i w → Counting n seen a (i - 1 + 1) w
-counting_down {i = i} ne h = let e : i - 1 + 1 ≡ i = omega arith in rw e h
+pub counting_down : {n seen i : ℕ} {a w : List ℕ} → 0 < i → Counting n seen a i w → Counting n seen a (i - 1 + 1) w
+counting_down {i = i} l h = let e : i - 1 + 1 ≡ i = omega arith in rw e h

@@ -12,7 +12,7 @@ use Rattle.core_branches.proofs.SmallForestOf.{root_place, small_canonical, smal
 use Rattle.core_branches.proofs.WayLaws.{ParentNumbers, nearest, nearest_numbers, parent_numbers}
 use Rattle.core_branches.specs.BranchCounts.{Branches, CanCount, Counting, TreeOrderAt}
 use Rattle.core_branches.specs.Classes.{CanNumberClasses, ClassNumbers, class_fields}
-use Rattle.core_branches.specs.Numbers.{CanNumberActives, CanNumberOthers, NumberingActives, NumberingOthers, OtherNumbers}
+use Rattle.core_branches.specs.Numbers.{CanNumberOthers, NumberingActives, NumberingOthers, OtherNumbers}
 use Rattle.core_branches.specs.Ways.{CanSetParents, ParentLoop, ParentWays, WayTree}
 use Rattle.core_forest.proofs.Counting.{count_le}
 use Rattle.core_forest.proofs.SearchLaws.{seen_less}
@@ -56,16 +56,6 @@ module _ {n m k seen : ℕ} {w₀ : List ℕ} (s : CanNumberClasses n m k seen w
     o.nodes EDGE (omega arith) refl,
     o.nodes TOP (omega arith) refl,
   ) tree_order
-
-  pub can_number_actives : CanNumberActives n k w₀
-  can_number_actives = record {
-    few = few;
-    room = room;
-    less = s.search.all;
-    active = λ i l. (s.search.active i l).0;
-    top_fit = s.final.tops.fit;
-    none = λ v l. ((s.none v l).3, (s.none v l).0);
-  }
 
   module _ {g : ℕ} {w₁ : List ℕ} (a : NumberingActives n k w₀ k g w₁) where
     rest₁ : OnlyFields class_fields n w₀ w₁

@@ -1,19 +1,19 @@
 -- Laws of numbering: classes with an active node in order of first appearance, the others by their smallest nodes; over functions first, then at the words.
 -- Assumes nothing.
 use Prim.Native.Nat.{◌+◌, ◌-◌, ◌<◌, ◌≤◌, ℕ}
-use mathlib.Core.List.{List, [], ◌∷◌}
+use mathlib.Core.List.{List}
 use mathlib.Core.Logic.{◌⊎◌, inl, inr, ⊎_elim}
 use mathlib.Core.Path.{◌∙◌, ◌≡◌, ap, refl, subst, sym}
 use lib.Dec.{eqb, ltb}
 use native.Mathlib.Omega.{arith}
 use borrow.Author.Tests.{eqb-false, eqb-true, ltb-false, ltb-true}
-use Rattle.core_branches.specs.Numbers.{ActiveNumbers, ActiveStep, Assigned, CanAssign, CanNumber, CanNumberActives, CanNumberOthers}
+use Rattle.core_branches.specs.Numbers.{ActiveNumbers, ActiveStep, CanAssign, CanNumber, CanNumberActives, CanNumberOthers}
 use Rattle.core_branches.specs.Numbers.{NumberingActives, NumberingOthers, Numbers, OtherNumbers, OtherStep, Prior}
 use Rattle.core_forest.proofs.Counting.{count_less, count_more, count_none}
 use Rattle.theory_graph.proofs.Booleans.{on_bool}
-use Rattle.core_words.proofs.ChangeLaws.{only_more, only_none, only_put, only_then}
+use Rattle.core_words.proofs.ChangeLaws.{only_none, only_then}
 use Rattle.core_words.proofs.FieldLaws.{update_at, update_other, update_same}
-use Rattle.core_words.specs.Fields.{ACTIVE, LIVE, MEMBER, NUMBER, OTHER, POSITION, TOP, Put, node, update}
+use Rattle.core_words.specs.Fields.{ACTIVE, NUMBER, OTHER, POSITION, TOP, node, update}
 
 -- ---- numbers, over functions
 pub numbers_none : {n : ℕ} {top nr rep : ℕ → ℕ} → ((v : ℕ) → v < n → nr v ≡ 0) → Numbers n 0 top nr rep
@@ -108,17 +108,6 @@ module _ {n i h : ℕ} {act top nr rep live : ℕ → ℕ} (g : ActiveNumbers n 
       stays j l = update_stays nr (top (act i)) (h + 1) (top (act j)) new (g.done j l)
 
 -- ---- the other classes
-pub other_none : {n h : ℕ} {pos top other nr rep : ℕ → ℕ} → Numbers n h top nr rep → OtherNumbers n h 0 h pos top other nr nr rep rep
-other_none g = record {
-  numbers = g;
-  more = omega arith;
-  still = λ c a. refl;
-  old = λ i l. refl;
-  done = λ u l. absurd (omega arith);
-  late = λ i p q. absurd (omega arith);
-  least = λ i p q. absurd (omega arith);
-  rises = λ i j p q r. absurd (omega arith);
-}
 
 module _ {n h₀ v h : ℕ} {pos top other nr₀ nr rep₀ rep : ℕ → ℕ} (g : OtherNumbers n h₀ v h pos top other nr₀ nr rep₀ rep) where
   pub other_skip : (¬ (pos v ≡ 0) → ¬ (other (top v) ≡ 0) → ¬ (nr (top v) ≡ 0)) → OtherNumbers n h₀ (v + 1) h pos top other nr₀ nr rep₀ rep
@@ -168,12 +157,6 @@ module _ {n h₀ v h : ℕ} {pos top other nr₀ nr rep₀ rep : ℕ → ℕ} (g
   }
 
 -- ---- at the words
-pub assigned : {n h v t : ℕ} {a b c : List ℕ} → CanAssign n h a v t → Put MEMBER h v a b → Put NUMBER t (h + 1) b c → Assigned n h v t a c
-assigned {n} {h} {v} {t} g p q = record {
-  rest = only_then (only_put refl g.less p) (only_put refl g.top_fit q);
-  numbers = q.here ∙ ap (λ f. update f t (h + 1)) (p.else NUMBER (omega arith) (λ e. omega arith));
-  reps = q.else MEMBER (omega arith) (λ e. omega arith) ∙ p.here;
-}
 
 module _ {n h v : ℕ} {a : List ℕ} (g : CanNumber n h a v) {t x : ℕ} (et : t ≡ node TOP a v) (ex : x ≡ node NUMBER a t) where
   new_is : x ≡ 0 → node NUMBER a (node TOP a v) ≡ 0
@@ -184,28 +167,6 @@ module _ {n h v : ℕ} {a : List ℕ} (g : CanNumber n h a v) {t x : ℕ} (et : 
 
   pub can_assign : x ≡ 0 → CanAssign n h a v t
   can_assign z = record { few = g.few; room = g.room; less = room_more z; fit = g.fit; top_fit = rw et g.top_fit }
-
-  pub has_number : ¬ (x ≡ 0) → ¬ (node NUMBER a (node TOP a v) ≡ 0)
-  has_number ne z = ne (ex ∙ ap (node NUMBER a) et ∙ z)
-
-  pub active_assigned : {b c : List ℕ} → x ≡ 0 → Assigned n h v t a b → Put LIVE t (v + 1) b c → ActiveStep n h v a c (h + 1)
-  active_assigned {b} {c} z m p = inr (record {
-    new = new_is z;
-    more = refl;
-    rest = only_then (only_more (NUMBER ∷ MEMBER ∷ []) refl m.rest) (only_put refl (can_assign z).top_fit p);
-    numbers = p.else NUMBER (omega arith) (λ e. omega arith) ∙ m.numbers ∙ ap (λ i. update (node NUMBER a) i (h + 1)) et;
-    reps = p.else MEMBER (omega arith) (λ e. omega arith) ∙ m.reps;
-    lives = p.here ∙ ap (λ f. update f t (v + 1)) (m.rest.nodes LIVE (omega arith) refl) ∙ ap (λ i. update (node LIVE a) i (v + 1)) et;
-  })
-
-  pub other_assigned : {b : List ℕ} {p o : ℕ} → x ≡ 0 → p ≡ node POSITION a v → ¬ (p ≡ 0) → o ≡ node OTHER a t → ¬ (o ≡ 0) → Assigned n h v t a b → OtherStep n h v a b (h + 1)
-  other_assigned {b} z ep np eo no' m = inr (record {
-    new = new_is z;
-    seen = λ y. np (ep ∙ y);
-    two = λ y. no' (eo ∙ ap (node OTHER a) et ∙ y);
-    more = refl;
-    is = subst (λ (i : ℕ). Assigned n h v i a b) et m;
-  })
 
 module _ {n k : ℕ} {a : List ℕ} (g : CanNumberActives n k a) where
   pub actives_none : NumberingActives n k a 0 0 a
@@ -218,15 +179,6 @@ module _ {n k : ℕ} {a : List ℕ} (g : CanNumberActives n k a) where
     e6 : node TOP w ≡ node TOP a
     e6 = s.rest.nodes TOP (omega arith) refl
 
-    pub actives_can : CanNumber n h w v
-    actives_can = record {
-      few = g.few;
-      room = rw s.rest.same g.room;
-      numbers = rw e6 s.actives.numbers;
-      fit = rw v_is (g.active i l);
-      top_fit = rw (e6, v_is) (g.top_fit (node ACTIVE a i) (g.active i l));
-    }
-
     pub actives_more : {w' : List ℕ} {h' : ℕ} → ActiveStep n h v w w' h' → NumberingActives n k a (i + 1) h' w'
     actives_more {w'} {h'} = ⊎_elim
         (λ (e, eh, old). rw (e, eh) (record { rest = s.rest; actives = active_skip s.actives (g.active i l) (g.top_fit (node ACTIVE a i) (g.active i l)) (rw (e6, v_is) at old) }))
@@ -236,9 +188,6 @@ module _ {n k : ℕ} {a : List ℕ} (g : CanNumberActives n k a) where
         }))
 
 module _ {n h₀ : ℕ} {a : List ℕ} (g : CanNumberOthers n h₀ a) where
-  pub others_none : NumberingOthers n h₀ a 0 h₀ a
-  others_none = record { rest = only_none n a; others = other_none g.numbers }
-
   module _ {v h : ℕ} {w : List ℕ} (s : NumberingOthers n h₀ a v h w) (l : v < n) where
     f4 : node POSITION w ≡ node POSITION a
     f4 = s.rest.nodes POSITION (omega arith) refl
@@ -248,9 +197,6 @@ module _ {n h₀ : ℕ} {a : List ℕ} (g : CanNumberOthers n h₀ a) where
 
     f9 : node OTHER w ≡ node OTHER a
     f9 = s.rest.nodes OTHER (omega arith) refl
-
-    pub others_can : CanNumber n h w v
-    others_can = record { few = g.few; room = rw s.rest.same g.room; numbers = rw f6 s.others.numbers; fit = l; top_fit = rw f6 (g.top_fit v l) }
 
     pub others_more : {w' : List ℕ} {h' : ℕ} → OtherStep n h v w w' h' → NumberingOthers n h₀ a (v + 1) h' w'
     others_more {w'} {h'} = ⊎_elim

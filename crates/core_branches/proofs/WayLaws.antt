@@ -3,19 +3,19 @@
 use Prim.Native.Nat.{◌*◌, ◌+◌, ◌-◌, ◌<◌, ◌≤◌, min, suc, zero, ℕ}
 use mathlib.Core.Bool.{cond, false}
 use mathlib.Core.List.{List, [], ◌∷◌}
-use mathlib.Core.Logic.{inl, inr, ⊎_elim}
+use mathlib.Core.Logic.{⊎_elim}
 use mathlib.Core.Path.{◌∙◌, ◌≡◌, ap, refl, sym}
 use lib.Dec.{eqb}
 use native.Mathlib.Omega.{arith}
 use borrow.Author.Tests.{eqb-true}
-use Rattle.core_branches.specs.Ways.{CanGoUp, CanSetParent, CanSetParents, CanStepUp, ClassAbove, ParentLoop, ParentStep, ParentWays, SteppedUp, WayFound}
+use Rattle.core_branches.specs.Ways.{CanGoUp, CanSetParents, ClassAbove, ParentLoop, ParentStep, ParentWays, SteppedUp}
 use Rattle.core_branches.specs.Ways.{WayTree, way_from, way_up}
 use Rattle.theory_graph.proofs.Booleans.{on_bool}
 use Rattle.theory_graph.proofs.SpanningForest.{on_eq}
 use Rattle.theory_graph.specs.Lists.{member}
-use Rattle.core_words.proofs.ChangeLaws.{only_none, only_put, only_then, only_then_put}
+use Rattle.core_words.proofs.ChangeLaws.{only_then}
 use Rattle.core_words.proofs.FieldLaws.{update_at}
-use Rattle.core_words.specs.Fields.{ABOVE, EDGE, LEAST, MEMBER, NAME, NUMBER, PARENT, POSITION, TOP, Put, half, node}
+use Rattle.core_words.specs.Fields.{ABOVE, EDGE, LEAST, MEMBER, NAME, NUMBER, PARENT, POSITION, TOP, half, node}
 
 -- ---- over functions
 -- `near` of a top is one more than the number of the nearest kept class at or above
@@ -90,18 +90,7 @@ module _ {n m : ℕ} (nm : ℕ → ℕ) {pos par te top nr : ℕ → ℕ} (T : W
     some = λ x l ne. u.some x l ne ∙ way_nearest (top (rep x)) (fits x l).0 (fits x l).1 ne;
   }
 
--- ---- at the words: one class up
-module _ {n m v : ℕ} {w : List ℕ} (g : CanStepUp n m w v) {p q : ℕ} (ep : p ≡ node PARENT w v) (eq : q ≡ node TOP w p) where
-  above_is : q ≡ node TOP w (node PARENT w v)
-  above_is = eq ∙ ap (node TOP w) ep
-
-  pub above_fits : q < n
-  above_fits = rw above_is g.top_fit
-
-  pub stepped_up : {e c x : ℕ} → e ≡ node EDGE w v → c ≡ half n NAME w (2 * (e - 1)) → c < 4294967296 → x ≡ node NUMBER w q → x < 4294967296 → SteppedUp n w v c q x
-  stepped_up ee ec lc ex lx = record { name = ec ∙ ap (λ e. half n NAME w (2 * (e - 1))) ee; top = above_is; number = ex; words = (lc, lx) }
-
--- ---- the whole way: at the top q, whose class has the number x - 1, or none where x is 0, with c the smallest name so far
+-- ---- at the words, the whole way: at the top q, whose class has the number x - 1, or none where x is 0, with c the smallest name so far
 pub record GoingUp (n v : ℕ) (w : List ℕ) (q x c : ℕ) : Type 0 where
   pub fit : q < n
   pub seen : 0 < node POSITION w q
@@ -112,21 +101,6 @@ pub record GoingUp (n v : ℕ) (w : List ℕ) (q x c : ℕ) : Type 0 where
   pub over : x ≡ 0 → way_up n w v ≡ ((way_up n w q).0, min c (way_up n w q).1)
 
 module _ {n m v : ℕ} {w : List ℕ} (g : CanGoUp n m w v) where
-  can_step : (u : ℕ) → u < n → 0 < node POSITION w u → ¬ (node EDGE w u ≡ 0) → CanStepUp n m w u
-  can_step u l p ne = let k = g.tree.above u l p ne in record {
-    few = g.few;
-    much = g.much;
-    room = g.room;
-    fit = l;
-    some = ne;
-    edge_fit = g.tree.edge_fit u l p;
-    par_fit = k.par_fit;
-    top_fit = k.fit;
-  }
-
-  pub can_start : CanStepUp n m w v
-  can_start = can_step v g.fit g.seen g.some
-
   module _ {c q x : ℕ} (s : SteppedUp n w v c q x) where
     above : ClassAbove n (node POSITION w) (node PARENT w) (node TOP w) v
     above = g.tree.above v g.fit g.seen g.some
@@ -145,9 +119,6 @@ module _ {n m v : ℕ} {w : List ℕ} (g : CanGoUp n m w v) where
   module _ {q x c : ℕ} (s : GoingUp n v w q x c) (z : x ≡ 0) where
     no_root : ¬ (node EDGE w q ≡ 0)
     no_root = g.tree.no_root q s.fit s.seen s.flat (sym s.number ∙ z)
-
-    pub can_more : CanStepUp n m w q
-    can_more = can_step q s.fit s.seen no_root
 
     module _ {d p y : ℕ} (t : SteppedUp n w q d p y) where
       over_q : ClassAbove n (node POSITION w) (node PARENT w) (node TOP w) q
@@ -175,48 +146,7 @@ module _ {n m v : ℕ} {w : List ℕ} (g : CanGoUp n m w v) where
           min_three : (a b d : ℕ) → min a (min b d) ≡ min (min a b) d
           min_three a b d = omega arith
 
-  pub way_found : {q x c : ℕ} → GoingUp n v w q x c → ¬ (x ≡ 0) → WayFound n w v x c
-  way_found s nz = record { number = ap (λ r. r.0) (sym (s.there nz)); name = ap (λ r. r.1) (sym (s.there nz)); words = s.words }
-
 -- ---- from each number
-module _ {n m x : ℕ} {a : List ℕ} (g : CanSetParent n m a x) {v t e : ℕ} (ev : v ≡ node MEMBER a x) (et : t ≡ node TOP a v) (ee : e ≡ node EDGE a t) where
-  t_is : t ≡ node TOP a (node MEMBER a x)
-  t_is = et ∙ ap (node TOP a) ev
-
-  e_is : e ≡ node EDGE a (node TOP a (node MEMBER a x))
-  e_is = ee ∙ ap (node EDGE a) t_is
-
-  pub t_fits : t < n
-  t_fits = rw t_is g.top_fit
-
-  pub parent_none : {b : List ℕ} → e ≡ 0 → Put ABOVE x 0 a b → ParentStep n x a b
-  parent_none z p = inl (record { root = sym e_is ∙ z; rest = only_put refl g.fit p; parents = p.here; names = p.else LEAST (omega arith) (λ i. omega arith) })
-
-  pub can_go_up : ¬ (e ≡ 0) → CanGoUp n m a t
-  can_go_up ne = record {
-    few = g.few;
-    much = g.much;
-    room = g.room;
-    tree = g.tree;
-    fit = t_fits;
-    seen = rw t_is g.seen;
-    some = rw ee at ne;
-  }
-
-  pub parent_some : {y c : ℕ} {b d : List ℕ} → ¬ (e ≡ 0) → WayFound n a t y c → Put ABOVE x y a b → Put LEAST x c b d → ParentStep n x a d
-  parent_some {y} {c} ne f p q = inr (record {
-    some = rw e_is at ne;
-    rest = only_then_put refl g.fit (only_put refl g.fit p) q;
-    parents = rw (f.number, t_is) at (q.else ABOVE (omega arith) (λ i. omega arith) ∙ p.here);
-    names = rw (p.else LEAST (omega arith) (λ i. omega arith), f.name, t_is) at q.here;
-  })
-
-pub parents_none : {n m h : ℕ} {a : List ℕ} → CanSetParents n m h a → ParentLoop n a 0 a
-parents_none {n} {a = a} g = record {
-  rest = only_none n a;
-  ways = record { none = λ x l. absurd (omega arith); some = λ x l. absurd (omega arith); name = λ x l. absurd (omega arith) };
-}
-
 module _ {n m h x : ℕ} {a w : List ℕ} (g : CanSetParents n m h a) (s : ParentLoop n a x w) (l : x < h) where
   hold : (j : ℕ) → j < 16 → member (ABOVE ∷ LEAST ∷ []) j ≡ false → node j w ≡ node j a
   hold = s.rest.nodes
@@ -238,18 +168,6 @@ module _ {n m h x : ℕ} {a w : List ℕ} (g : CanSetParents n m h a) (s : Paren
 
   h13 : node EDGE w ≡ node EDGE a
   h13 = hold EDGE (omega arith) refl
-
-  pub parents_can : CanSetParent n m w x
-  parents_can = let q = g.each x l in record {
-    few = q.few;
-    much = q.much;
-    room = rw s.rest.same q.room;
-    tree = rw (h4, h5, h13, h6, h10) q.tree;
-    fit = q.fit;
-    rep_fit = rw h11 q.rep_fit;
-    top_fit = rw (h11, h6) q.top_fit;
-    seen = rw (h11, h6, h4) q.seen;
-  }
 
   -- what is above the class of number u
   abbrev over : ℕ → ℕ × ℕ

@@ -2,7 +2,8 @@
 // from each kept class to the nearest one above, with the smallest name along it.
 #![tactic(auto)]
 
-ghost use Rattle.std.specs.Prelude.{◌≡◌, ◌+◌, min};
+ghost use Rattle.std.specs.Prelude.{◌≡◌, ◌+◌};
+ghost use Rattle.core_words.specs.Links.{link_word};
 ghost use Rattle.core_branches.specs.BranchCounts.{CanReport, Report, CanCount, Counting};
 ghost use Rattle.core_branches.specs.Numbers.{CanAssign, Assigned, CanNumber, ActiveStep, CanNumberActives, NumberingActives};
 ghost use Rattle.core_branches.specs.Numbers.{OtherStep, CanNumberOthers, NumberingOthers};
@@ -17,7 +18,7 @@ fn assign_number(work: &mut [u32], n: usize, h: usize, v: usize, t: usize)
     ensures { Assigned n h v t work.old work.new }
 {
     core_words::put(work, h, MEMBER, v);
-    core_words::put(work, t, NUMBER, h + 1);
+    core_words::put_link(work, t, NUMBER, Some(h));
 }
 
 // The class of the active node v gets the next number where it has none.
@@ -26,12 +27,11 @@ fn number_active(work: &mut [u32], n: usize, h: usize, v: usize) -> usize
     ensures { ActiveStep n h v work.old work.new result }
 {
     let t = core_words::get(work, v, TOP);
-    let x = core_words::get(work, t, NUMBER);
-    if x != 0 {
+    if core_words::link(work, t, NUMBER).is_some() {
         return h;
     }
     assign_number(work, n, h, v, t);
-    core_words::put(work, t, LIVE, v + 1);
+    core_words::put_link(work, t, LIVE, Some(v));
     h + 1
 }
 
@@ -58,20 +58,18 @@ fn report_branch(work: &mut [u32], n: usize, v: usize)
     if t != v {
         return;
     }
-    let e = core_words::get(work, v, EDGE);
-    if e == 0 {
+    if core_words::link(work, v, EDGE).is_none() {
         return;
     }
-    let l = core_words::get(work, v, LIVE);
-    if l == 0 {
+    let Some(active) = core_words::link(work, v, LIVE) else {
         return;
-    }
+    };
     let p = core_words::get(work, v, PARENT);
     let q = core_words::get(work, p, TOP);
-    let old = core_words::get(work, q, BRANCH);
-    core_words::put(work, q, LIVE, l);
-    core_words::put(work, q, OTHER, old);
-    core_words::put(work, q, BRANCH, v + 1);
+    let last = core_words::link(work, q, BRANCH);
+    core_words::put_link(work, q, LIVE, Some(active));
+    core_words::put_link(work, q, OTHER, last);
+    core_words::put_link(work, q, BRANCH, Some(v));
 }
 
 // The branches of each class, two of them where there are two: against the order, so that a class reports after all that lies below it.
@@ -79,10 +77,8 @@ fn count_branches(work: &mut [u32], n: usize, seen: usize)
     requires { CanCount n seen work.old }
     ensures { Counting n seen work.old 0 work.new }
 {
-    let mut i = seen;
-    // The nodes of the order from place i on have reported.
-    while i != 0 {
-        i -= 1;
+    // The nodes of the order from the place after i on have reported.
+    for i in (0..seen).rev() {
         let v = core_words::get(work, i, ORDER);
         report_branch(work, n, v);
     }
@@ -93,17 +89,14 @@ fn number_other(work: &mut [u32], n: usize, h: usize, v: usize) -> usize
     requires { CanNumber n h work.old v }
     ensures { OtherStep n h v work.old work.new result }
 {
-    let p = core_words::get(work, v, POSITION);
-    if p == 0 {
+    if core_words::link(work, v, POSITION).is_none() {
         return h;
     }
     let t = core_words::get(work, v, TOP);
-    let x = core_words::get(work, t, NUMBER);
-    if x != 0 {
+    if core_words::link(work, t, NUMBER).is_some() {
         return h;
     }
-    let o = core_words::get(work, t, OTHER);
-    if o == 0 {
+    if core_words::link(work, t, OTHER).is_none() {
         return h;
     }
     assign_number(work, n, h, v, t);
@@ -123,42 +116,28 @@ fn number_others(work: &mut [u32], n: usize, h: usize) -> usize
     r
 }
 
-// The smaller of two names.
-fn smaller(a: usize, b: usize) -> usize
-    ensures { result ≡ min a b }
-{
-    if a < b {
-        return a;
-    }
-    b
-}
-
-// One class up: the name of the tree edge, the top of the class above, and one more than its number, 0 where it has none.
-#[derive(Drop)]
+// One class up: the name of the tree edge, the top of the class above, and its number, if it has one.
+#[derive(Clone, Copy, Debug, PartialEq, Eq)]
 struct StepUp {
     name: usize,
     top: usize,
-    number: usize,
+    number: Option<usize>,
 }
 
 fn step_up(work: &[u32], n: usize, m: usize, v: usize) -> StepUp
     requires { CanStepUp n m work.now v }
-    ensures { SteppedUp n work.now v result.name result.top result.number }
+    ensures { SteppedUp n work.now v result.name result.top (link_word result.number) }
 {
-    let e = core_words::get(work, v, EDGE);
-    let c = core_words::get_half(work, n, 2 * (e - 1), NAME);
+    let edge = core_words::link(work, v, EDGE).unwrap();
+    let name = core_words::get_half(work, n, 2 * edge, NAME);
     let p = core_words::get(work, v, PARENT);
-    let q = core_words::get(work, p, TOP);
-    let x = core_words::get(work, q, NUMBER);
-    StepUp {
-        name: c,
-        top: q,
-        number: x,
-    }
+    let top = core_words::get(work, p, TOP);
+    let number = core_words::link(work, top, NUMBER);
+    StepUp { name, top, number }
 }
 
-// The way up from a class: one more than the number of the nearest kept class above, and the smallest name on the way to it.
-#[derive(Drop)]
+// The way up from a class: the number of the nearest kept class above, and the smallest name on the way to it.
+#[derive(Clone, Copy, Debug, PartialEq, Eq)]
 struct Way {
     number: usize,
     name: usize,
@@ -167,20 +146,18 @@ struct Way {
 // From the top v, no root. All such ways together are linear: a class that is not kept lies on one of them at most, since with two it would be kept.
 fn way_up(work: &[u32], n: usize, m: usize, v: usize) -> Way
     requires { CanGoUp n m work.now v }
-    ensures { WayFound n work.now v result.number result.name }
+    ensures { WayFound n work.now v (result.number + 1) result.name }
 {
-    let first = step_up(work, n, m, v);
-    let mut q = first.top;
-    let mut x = first.number;
-    let mut c = first.name;
-    // The way has come to the class of q, c is the smallest name on it, and x is one more than the number of that class, 0 where it has none.
-    while x == 0 {
-        let next = step_up(work, n, m, q);
-        q = next.top;
-        x = next.number;
-        c = smaller(c, next.name);
+    let mut step = step_up(work, n, m, v);
+    let mut name = step.name;
+    // The way has come to the class above in `step`, and `name` is the smallest name on it.
+    loop {
+        if let Some(number) = step.number {
+            return Way { number, name };
+        }
+        step = step_up(work, n, m, step.top);
+        name = name.min(step.name);
     }
-    Way { number: x, name: c }
 }
 
 // The number of the nearest kept class above the class with the number x, and the smallest name on the way to it.
@@ -190,13 +167,12 @@ fn parent_number(work: &mut [u32], n: usize, m: usize, x: usize)
 {
     let v = core_words::get(work, x, MEMBER);
     let t = core_words::get(work, v, TOP);
-    let e = core_words::get(work, t, EDGE);
-    if e == 0 {
-        core_words::put(work, x, ABOVE, 0);
+    if core_words::link(work, t, EDGE).is_none() {
+        core_words::put_link(work, x, ABOVE, None);
         return;
     }
     let way = way_up(work, n, m, t);
-    core_words::put(work, x, ABOVE, way.number);
+    core_words::put_link(work, x, ABOVE, Some(way.number));
     core_words::put(work, x, LEAST, way.name);
 }
 

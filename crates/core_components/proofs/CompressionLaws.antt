@@ -7,14 +7,11 @@ use lib.Dec.{eqb}
 use native.Mathlib.Omega.{arith}
 use borrow.Author.Tests.{eqb-false, eqb-true}
 use Rattle.core_components.proofs.FindLaws.{path_halve, path_none}
-use Rattle.core_words.proofs.ChangeLaws.{only_none, only_then_put}
+use Rattle.core_words.proofs.ChangeLaws.{only_then_put}
 use Rattle.core_components.specs.Tops.{CanCompress, CanFind, Compressed, FindPath, OwnTops, Tops}
 use Rattle.theory_graph.proofs.Booleans.{on_bool}
 use Rattle.core_words.proofs.FieldLaws.{update_at}
 use Rattle.core_words.specs.Fields.{ORDER, POSITION, TOP, Put, node, update}
-
-pub own_none : (n : ℕ) (w : List ℕ) → OwnTops n 0 w w
-own_none n w = record { rest = only_none n w; self = λ u l. absurd (omega arith) }
 
 pub own_more : {n v : ℕ} {a b c : List ℕ} → v < n → OwnTops n v a b → Put TOP v v b c → OwnTops n (v + 1) a c
 own_more {n} {v} {a} {b} l o p = record {
@@ -31,23 +28,6 @@ compress_step n pos t v l h = on_bool (eqb (t v) v)
     let s : update t v (t (t v)) ≡ t = fun_ext (λ u. update_at (λ u y. y ≡ t u) t v (t (t v)) (z ∙ sym e) (λ u _. refl) u) in
     rw (s, z) (path_none n pos t v h l))
     (λ q. (path_halve n pos t t v v (path_none n pos t v h l) (eqb-false (t v) v q)).0)
-
-pub compress_fits : {n v t : ℕ} {w : List ℕ} → CanFind n w v → t ≡ node TOP w v → t < n
-compress_fits {v = v} f e = rw e (f.tops.fit v f.fit)
-
-pub compressed : {v t u : ℕ} {w w' : List ℕ} → t ≡ node TOP w v → u ≡ node TOP w t → Put TOP v u w w' → Put TOP v (node TOP w (node TOP w v)) w w'
-compressed {v} {t} {u} {w} e q p = let z : u ≡ node TOP w (node TOP w v) = q ∙ ap (node TOP w) e in rw z at p
-
-pub compressed_none : {n seen : ℕ} {w : List ℕ} → CanCompress n seen w → Compressed n 0 w w
-compressed_none {n} {w = w} f = record {
-  rest = only_none n w;
-  tops = f.tops;
-  back = λ u l e. e;
-  keep = λ D s. s;
-  flat = λ u l z. on_bool (eqb (node TOP w u) u)
-      (λ q. ap (node TOP w) (eqb-true (node TOP w u) u q))
-      (λ q. absurd (omega (arith, f.tops.up u l (eqb-false (node TOP w u) u q))));
-}
 
 module _ {n seen i v : ℕ} {a b : List ℕ} (f : CanCompress n seen a) (g : Compressed n i a b) (l : i < seen) (ev : v ≡ node ORDER b i) where
   k3 : node ORDER b ≡ node ORDER a

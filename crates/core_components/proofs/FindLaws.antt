@@ -9,7 +9,7 @@ use native.Mathlib.Omega.{arith}
 use borrow.Author.Tests.{eqb-false, eqb-true}
 use Rattle.core_components.specs.Tops.{FindPath, OnlyTops, Tops}
 use Rattle.theory_graph.proofs.Booleans.{on_bool}
-use Rattle.core_words.proofs.ChangeLaws.{only_none, only_then_put}
+use Rattle.core_words.proofs.ChangeLaws.{only_then_put}
 use Rattle.core_words.proofs.FieldLaws.{update_at}
 use Rattle.core_words.specs.Fields.{POSITION, TOP, Put, node, update}
 
@@ -69,15 +69,6 @@ pub record Finding (n v₀ : ℕ) (a : List ℕ) (v u : ℕ) (b : List ℕ) : Ty
   pub next : u ≡ node TOP b v
   pub fit : u < n
   pub room : 16 * n ≤ length b
-
-pub finding_none : {n v u : ℕ} {a : List ℕ} → Tops n (node POSITION a) (node TOP a) → v < n → 16 * n ≤ length a → u ≡ node TOP a v → Finding n v a v u a
-finding_none {n} {v} {u} {a} h l r e = record {
-  rest = only_none n a;
-  path = path_none n (node POSITION a) (node TOP a) v h l;
-  next = e;
-  fit = rw e (h.fit v l);
-  room = r;
-}
 
 pub finding_more : {n v₀ v u x y : ℕ} {a b c : List ℕ} → Finding n v₀ a v u b → (u ≡ v → ⊥) → x ≡ node TOP b u → Put TOP v x b c → y ≡ node TOP c x
     → Finding n v₀ a x y c × (node POSITION a x < node POSITION a v)

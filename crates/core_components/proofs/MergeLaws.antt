@@ -7,9 +7,9 @@ use mathlib.Core.Path.{◌∙◌, ◌≡◌, ap, refl, sym}
 use native.Mathlib.Omega.{arith}
 use borrow.Author.Count.{below_more}
 use Rattle.core_components.proofs.CrossingEdges.{bool_dec, one_crosses}
-use Rattle.core_words.proofs.ChangeLaws.{only_none, only_then}
+use Rattle.core_words.proofs.ChangeLaws.{only_then}
 use Rattle.core_components.specs.Merging.{CanMerge, CanMergeEdge, EdgeMerged, EdgesMerged, NonTreeEdge}
-use Rattle.core_components.specs.Tops.{AllowsMerge, CanMergePath, FollowsParents, MergedPath, OnlyTops, SameTree, SearchOrder, Stable}
+use Rattle.core_components.specs.Tops.{AllowsMerge, FollowsParents, MergedPath, OnlyTops, SearchOrder, Stable}
 use Rattle.core_forest.specs.Forest.{Forest, ForestAt, HasParent, Joins, edges_below}
 use Rattle.theory_graph.specs.Cut.{cut}
 use Rattle.theory_graph.specs.Graph.{NodeSet}
@@ -77,9 +77,6 @@ module _ {n m : ℕ} {to pos par te root : ℕ → ℕ} (f : Forest n m to pos p
         (bool_dec (U (par a)) (U a)))
         (f.kind a i (omega arith))
 
-pub ready_of : {n m e : ℕ} {w : List ℕ} → CanMergeEdge n m e w → CanMergePath n w
-ready_of t = record { few = t.few; room = omega (arith, t.room); tops = t.tops; order = order_of t.forest; full = t.full }
-
 -- a change of the tops leaves the forest as it was
 pub forest_still : {n m : ℕ} {w w' : List ℕ} → OnlyTops n w w' → ForestAt n m w → ForestAt n m w'
 forest_still o g = rw (o.halves TO, o.nodes POSITION (omega arith) refl, o.nodes PARENT (omega arith) refl, o.nodes ROOT (omega arith) refl, o.nodes EDGE (omega arith) refl) g
@@ -91,31 +88,9 @@ module _ {n m e x y : ℕ} {w : List ℕ} (t : CanMergeEdge n m e w) (ex : x ≡
   pub y_fits : y < n
   y_fits = rw ey (t.forest.ends (2 * e + 1) (omega (arith, t.less)))
 
-  pub skip_unseen : {p : ℕ} → p ≡ node POSITION w x → p ≡ 0 → EdgeMerged n e w w
-  skip_unseen {p} ep z = inl (refl, λ l. omega (arith, l.seen, ap (node POSITION w) ex))
-
-  pub skip_first : {s : ℕ} → s ≡ node EDGE w x → s ≡ e + 1 → EdgeMerged n e w w
-  skip_first {s} es z = inl (refl, λ l. l.first (sym (ap (node EDGE w) ex) ∙ sym es ∙ z))
-
-  pub skip_second : {s : ℕ} → s ≡ node EDGE w y → s ≡ e + 1 → EdgeMerged n e w w
-  skip_second {s} es z = inl (refl, λ l. l.second (sym (ap (node EDGE w) ey) ∙ sym es ∙ z))
-
   module _ {p : ℕ} (ep : p ≡ node POSITION w x) (z : p ≡ 0 → ⊥) where
     seen_x : 0 < node POSITION w (half n TO w (2 * e))
     seen_x = omega (arith, ap (node POSITION w) ex)
-
-    pub to_path : CanMergePath n w × SameTree n w x y
-    to_path =
-        let o = t.forest.over e t.less seen_x in (
-          ready_of t,
-          record {
-            fit = x_fits;
-            fit' = y_fits;
-            seen = rw ex seen_x;
-            seen' = rw ey o.0;
-            same = rw (ex, ey) o.1;
-          },
-        )
 
     pub merged_one : {s r : ℕ} {w' : List ℕ} → s ≡ node EDGE w x → (s ≡ e + 1 → ⊥) → r ≡ node EDGE w y → (r ≡ e + 1 → ⊥) → MergedPath n w x y w' → EdgeMerged n e w w'
     merged_one es ns er nr j = inr (
@@ -126,15 +101,6 @@ module _ {n m e x y : ℕ} {w : List ℕ} (t : CanMergeEdge n m e w) (ex : x ≡
         second = λ q. nr (er ∙ ap (node EDGE w) ey ∙ q);
       },
     )
-
-pub merged_none : {n m : ℕ} {w : List ℕ} → CanMerge n m w → EdgesMerged n m w 0 w
-merged_none {n} {m} {w} h = record {
-  rest = only_none n w;
-  tops = record { fit = λ u l. rw (h.self u l) l; up = λ u l ne. absurd (ne (h.self u l)) };
-  sound = λ U c u l. ap U (h.self u l);
-  full = λ D c u l. ap D (h.self u l);
-  done = λ D c e l. absurd (omega arith);
-}
 
 module _ {n m e : ℕ} {w₀ w : List ℕ} (h : CanMerge n m w₀) (t : EdgesMerged n m w₀ e w) (l : e < m) where
   k0 : half n TO w ≡ half n TO w₀

@@ -75,16 +75,13 @@ fn merge_edge(work: &mut [u32], n: usize, m: usize, e: usize)
 {
     let x = core_words::get_half(work, n, 2 * e, TO);
     let y = core_words::get_half(work, n, 2 * e + 1, TO);
-    let p = core_words::get(work, x, POSITION);
-    if p == 0 {
+    if core_words::link(work, x, POSITION).is_none() {
         return;
     }
-    let s = core_words::get(work, x, EDGE);
-    if s == e + 1 {
+    if core_words::link(work, x, EDGE) == Some(e) {
         return;
     }
-    let t = core_words::get(work, y, EDGE);
-    if t == e + 1 {
+    if core_words::link(work, y, EDGE) == Some(e) {
         return;
     }
     merge_path(work, n, x, y);

@@ -239,8 +239,8 @@ module _ {n m k seen : ℕ} (i : ℕ) {a w : List ℕ} (r : CanCount n m k seen 
           cases (inl (z, y)) = moved d.rest d.members y (count_first l p.counts d.child d.relevant z)
           cases (inr (z, y)) = moved d.rest d.members y (count_other l p.counts d.child d.relevant z)
 
-pub counting_down : {n m k seen i : ℕ} {a w : List ℕ} → ¬ (i ≡ 0) → Counting n m k seen i a w → Counting n m k seen (i - 1 + 1) a w
-counting_down {n} {m} {k} {seen} {i} {a} {w} ne p = let e : i ≡ i - 1 + 1 = omega arith in subst (λ (j : ℕ). Counting n m k seen j a w) e p
+pub counting_down : {n m k seen i : ℕ} {a w : List ℕ} → 0 < i → Counting n m k seen i a w → Counting n m k seen (i - 1 + 1) a w
+counting_down {n} {m} {k} {seen} {i} {a} {w} l p = let e : i ≡ i - 1 + 1 = omega arith in subst (λ (j : ℕ). Counting n m k seen j a w) e p
 
 -- ---- one node's step
 pub counted_first : {n v t r p x : ℕ} {a b c : List ℕ} → CanCountNode n a v → ¬ (node EDGE a v ≡ 0) → ¬ (node MARK a v + node BELOW a v ≡ 0) → t ≡ node TOP a v → r ≡ node MEMBERS a t → r ≡ 0

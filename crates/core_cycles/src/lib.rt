@@ -49,9 +49,7 @@ pub fn count_nodes(work: &mut [u32], n: usize, m: usize, k: usize, seen: usize)
     requires { CanCount n m k seen work.old }
     ensures { Counting n m k seen 0 work.old work.new }
 {
-    let mut i = seen;
-    while i != 0 {
-        i -= 1;
+    for i in (0..seen).rev() {
         let v = core_words::get(work, i, ORDER);
         count_node(work, n, v);
     }

@@ -1,4 +1,4 @@
--- Laws of linking: one half-edge more, an edge, all of them; what stays.
+-- Laws of linking: one half-edge; what stays.
 -- Assumes nothing.
 use Prim.Native.Nat.{◌%◌, ◌*◌, ◌+◌, ◌-◌, ◌/◌, ◌<◌, ◌≤◌, ℕ}
 use mathlib.Core.List.{List}
@@ -8,7 +8,7 @@ use lib.ListN.{get_or}
 use native.Mathlib.Omega.{arith}
 use borrow.Author.Tests.{eqb-false, eqb-true}
 use Rattle.core_forest.proofs.HalfEdges.{twin_back, twin_even, twin_odd}
-use Rattle.core_forest.specs.AdjacencyLists.{AdjacencyLists, CanLink, LastFrom, Linking, origin, twin}
+use Rattle.core_forest.specs.AdjacencyLists.{LastFrom, Linking, origin, twin}
 use Rattle.theory_graph.proofs.Booleans.{on_bool}
 use Rattle.core_words.proofs.FieldLaws.{update_at, update_other}
 use Rattle.core_words.specs.Fields.{HEAD, NAME, NEXT, TO, Put, PutHalf, half, node, update}
@@ -57,40 +57,9 @@ module _ {n m h v : ℕ} {w : List ℕ} (k : Linking n m w w h) (l : h < 2 * m) 
       nexts : half n NEXT w₂ ≡ update (half n NEXT w) h x
       nexts = q.halves n v_fits NEXT ∙ p.here
 
-pub linking_none : {n m : ℕ} {w : List ℕ} → CanLink n m w → Linking n m w w 0
-linking_none u = record {
-  few = u.few;
-  much = u.much;
-  room = u.room;
-  ends = u.ends;
-  links = record {
-    heads = λ v l. rw (u.empty v l) (record { below = omega arith; at = λ i. absurd (omega arith); gap = λ h a b e. omega arith });
-    nexts = λ h l. absurd (omega arith);
-  };
-  same = refl;
-  tos = refl;
-  names = refl;
-  past = λ h l. refl;
-  nodes = λ j i ne v l. refl;
-}
-
 -- from the words as they are
 pub linking_self : {n m i : ℕ} {a w : List ℕ} → Linking n m a w i → Linking n m w w i
 linking_self k = record { few = k.few; much = k.much; room = k.room; ends = k.ends; links = k.links; same = refl; tos = refl; names = refl; past = λ h l. refl; nodes = λ j i ne v l. refl }
-
-pub linking_then : {n m i j : ℕ} {a b c : List ℕ} → Linking n m a b i → Linking n m b c j → Linking n m a c j
-linking_then k l = record {
-  few = l.few;
-  much = l.much;
-  room = l.room;
-  ends = l.ends;
-  links = l.links;
-  same = l.same ∙ k.same;
-  tos = l.tos ∙ k.tos;
-  names = l.names ∙ k.names;
-  past = λ h i. l.past h i ∙ k.past h i;
-  nodes = λ j i ne v b. l.nodes j i ne v b ∙ k.nodes j i ne v b;
-}
 
 pub even_leaves : (to : ℕ → ℕ) (e y : ℕ) → y ≡ to (2 * e + 1) → y ≡ origin to (2 * e)
 unfolding origin
@@ -99,13 +68,6 @@ even_leaves to e y q = q ∙ sym (ap to (twin_even e))
 pub odd_leaves : {n m i : ℕ} {a w : List ℕ} → Linking n m a w i → (e x : ℕ) → x ≡ half n TO a (2 * e) → x ≡ origin (half n TO w) (2 * e + 1)
 unfolding origin
 odd_leaves {n} {w = w} k e x q = q ∙ sym (ap (λ f. f (2 * e)) k.tos) ∙ sym (ap (half n TO w) (twin_odd e))
-
--- both half-edges of edge e
-pub edge_linked : {n m : ℕ} (e : ℕ) {w₀ w w₁ w₂ : List ℕ} → Linking n m w₀ w (2 * e) → Linking n m w w₁ (2 * e + 1) → Linking n m w₁ w₂ (2 * e + 1 + 1) → Linking n m w₀ w₂ (2 * (e + 1))
-edge_linked e k l o = let q : 2 * (e + 1) ≡ 2 * e + 1 + 1 = omega arith in rw q (linking_then k (linking_then l o))
-
-pub all_linked : {n m : ℕ} {a w : List ℕ} → Linking n m a w (2 * m) → AdjacencyLists n m w
-all_linked k = record { few = k.few; much = k.much; room = k.room; ends = k.ends; heads = k.links.heads; nexts = k.links.nexts }
 
 -- the words behind the half-edges stay: each is a field of a half-edge
 pub linking_past : {n m i : ℕ} {a w : List ℕ} → Linking n m a w i → (j : ℕ) → 16 * n + 6 * m ≤ j → get_or w j 0 ≡ get_or a j 0

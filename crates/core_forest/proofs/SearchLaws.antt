@@ -16,43 +16,10 @@ use Rattle.core_forest.specs.Forest.{ForestAt, HasParent, Root}
 use Rattle.core_forest.specs.Search.{Appended, BetweenTrees, CanAppend, CanVisit, Growing, Grown, Scanning, Search, SearchAt, SearchKeeps, TreeEdge, Visited}
 use Rattle.theory_graph.specs.Lists.{member}
 use Rattle.theory_graph.proofs.Booleans.{on_bool}
-use Rattle.core_words.proofs.ChangeLaws.{only_none, only_put, only_then, only_then_put}
+use Rattle.core_words.proofs.ChangeLaws.{only_none, only_then}
 use Rattle.core_words.proofs.FieldLaws.{update_at, update_other, update_same}
 use Rattle.core_words.specs.Changes.{OnlyFields}
-use Rattle.core_words.specs.Fields.{ACTIVE, EDGE, HEAD, MARK, NEXT, ORDER, PARENT, POSITION, ROOT, TO, Put, half, node, update}
-
-pub appended : {n seen v p t r : ℕ} {a b c d e f : List ℕ} → CanAppend n a seen v p t r → Put ORDER seen v a b → Put POSITION v (seen + 1) b c → Put PARENT v p c d
-    → Put EDGE v t d e → Put ROOT v r e f
-    → Appended n seen v p t r a f
-appended {n} {seen} {v} {p} {t} {r} {a} {b} {c} {d} {e} {f} g p3 p4 p5 p13 p12 = record {
-  rest = only_then_put refl g.fit (only_then_put refl g.fit (only_then_put refl g.fit (only_then_put refl g.fit (only_put refl g.less p3) p4) p5) p13) p12;
-  ord = step12 ORDER (omega arith) (λ e. omega arith) ∙ step13 ORDER (omega arith) (λ e. omega arith) ∙ step5 ORDER (omega arith) (λ e. omega arith)
-      ∙ step4 ORDER (omega arith) (λ e. omega arith) ∙ p3.here;
-  pos = step12 POSITION (omega arith) (λ e. omega arith) ∙ step13 POSITION (omega arith) (λ e. omega arith) ∙ step5 POSITION (omega arith) (λ e. omega arith)
-      ∙ p4.here ∙ ap (λ g. update g v (seen + 1)) (step3 POSITION (omega arith) (λ e. omega arith));
-  par = step12 PARENT (omega arith) (λ e. omega arith) ∙ step13 PARENT (omega arith) (λ e. omega arith) ∙ p5.here
-      ∙ ap (λ g. update g v p) (step4 PARENT (omega arith) (λ e. omega arith) ∙ step3 PARENT (omega arith) (λ e. omega arith));
-  te = step12 EDGE (omega arith) (λ e. omega arith) ∙ p13.here
-      ∙ ap (λ g. update g v t) (step5 EDGE (omega arith) (λ e. omega arith) ∙ step4 EDGE (omega arith) (λ e. omega arith) ∙ step3 EDGE (omega arith) (λ e. omega arith));
-  root = p12.here ∙ ap (λ g. update g v r)
-      (step13 ROOT (omega arith) (λ e. omega arith) ∙ step5 ROOT (omega arith) (λ e. omega arith) ∙ step4 ROOT (omega arith) (λ e. omega arith)
-      ∙ step3 ROOT (omega arith) (λ e. omega arith));
-}
-  where
-    step3 : (j : ℕ) → j < 16 → (j ≡ 3 → ⊥) → node j b ≡ node j a
-    step3 = p3.else
-
-    step4 : (j : ℕ) → j < 16 → (j ≡ 4 → ⊥) → node j c ≡ node j b
-    step4 = p4.else
-
-    step5 : (j : ℕ) → j < 16 → (j ≡ 5 → ⊥) → node j d ≡ node j c
-    step5 = p5.else
-
-    step13 : (j : ℕ) → j < 16 → (j ≡ 13 → ⊥) → node j e ≡ node j d
-    step13 = p13.else
-
-    step12 : (j : ℕ) → j < 16 → (j ≡ 12 → ⊥) → node j f ≡ node j e
-    step12 = p12.else
+use Rattle.core_words.specs.Fields.{ACTIVE, EDGE, HEAD, MARK, NEXT, ORDER, PARENT, POSITION, ROOT, TO, half, node, update}
 
 module _ {n m : ℕ} {mark to ord pos par te root : ℕ → ℕ} {done seen r : ℕ} (s : Search n m mark to ord pos par te root done seen r)
     (v p t : ℕ) (l : v < n) (z : pos v ≡ 0) (mr : 0 < mark r)
@@ -256,59 +223,38 @@ pub record ScanLoop (n m done r v : ℕ) (w₀ : List ℕ) (seen cur : ℕ) (w :
   pub low : cur ≤ 2 * m
   pub leaves : 0 < cur → origin (half n TO w) (cur - 1) ≡ v
 
-pub keeps_none : (n : ℕ) (w : List ℕ) → SearchKeeps n w w
-keeps_none n w = record { rest = only_none n w; more = λ u _ i. i }
-
 pub keeps_then : {n : ℕ} {a b c : List ℕ} → SearchKeeps n a b → SearchKeeps n b c → SearchKeeps n a c
 keeps_then g h = record { rest = only_then g.rest h.rest; more = λ u l i. h.more u l (g.more u l i) }
 
-pub scan_none : {n m done seen r v c : ℕ} {w : List ℕ} → Growing n m w done seen r → done < seen → v ≡ node ORDER w done → c ≡ node HEAD w v → ScanLoop n m done r v w seen c w
-scan_none {n} {m} {done} {seen} {r} {v} {c} {w} g l ev ec =
-    let p = g.search.place done l in
-    let fit : v < n = rw ev p.0 in
-    let h : LastFrom (origin (half n TO w)) v (2 * m) c = rw ec (g.lists.heads v fit) in
-    record {
-      keeps = keeps_none n w;
-      scan = record {
-        lists = g.lists;
-        search = g.search;
-        fit = fit;
-        fit_r = g.fit_r;
-        mark = g.mark;
-        at = rw ev p.1;
-        part = λ j a b e. absurd (h.gap j a b e);
-      };
-      low = h.below;
-      leaves = h.at;
-    }
-
 module _ {n m done r v seen cur : ℕ} {w₀ w : List ℕ} (g : ScanLoop n m done r v w₀ seen cur w) where
-  pub scan_can : (cur ≡ 0 → ⊥) → CanVisit n m w done seen r v (cur - 1)
-  scan_can ne =
-      let e : cur - 1 + 1 ≡ cur = omega arith in
-      record { scan = rw e g.scan; less = omega (arith, g.low); leaves = g.leaves (omega arith) }
+  module _ (h : ℕ) (e : cur ≡ h + 1) where
+    leaves_v : origin (half n TO w) h ≡ v
+    leaves_v = let d : cur - 1 ≡ h = omega arith in rw d at (g.leaves (omega arith))
 
-  pub scan_more : (cur ≡ 0 → ⊥) → {seen' c : ℕ} {w' : List ℕ} → Visited n m w w' done seen' r v (cur - 1) → c ≡ half n NEXT w' (cur - 1) → ScanLoop n m done r v w₀ seen' c w' × (c < cur)
-  scan_more ne {seen'} {c} {w'} k ec =
-      let s = k.1 in
-      let b : origin (half n TO w') (cur - 1) ≡ v = rw (k.0.rest.halves TO) (g.leaves (omega arith)) in
-      let h : LastFrom (origin (half n TO w')) v (cur - 1) c = rw (ec, ← b) (s.lists.nexts (cur - 1) (omega (arith, g.low))) in (
-        record {
-          keeps = keeps_then g.keeps k.0;
-          scan = record {
-            lists = s.lists;
-            search = s.search;
-            fit = s.fit;
-            fit_r = s.fit_r;
-            mark = s.mark;
-            at = s.at;
-            part = λ j i l e. on_bool (ltb j (cur - 1)) (λ q. absurd (h.gap j i (ltb-true j (cur - 1) q) e)) (λ q. s.part j (ltb-false j (cur - 1) q) l e);
-          };
-          low = omega (arith, h.below, g.low);
-          leaves = h.at;
-        },
-        omega (arith, h.below),
-      )
+    pub scan_can : CanVisit n m w done seen r v h
+    scan_can = record { scan = rw (← e) g.scan; less = omega (arith, g.low); leaves = leaves_v }
+
+    pub scan_more : {seen' c : ℕ} {w' : List ℕ} → Visited n m w w' done seen' r v h → c ≡ half n NEXT w' h → ScanLoop n m done r v w₀ seen' c w' × (c < cur)
+    scan_more {seen'} {c} {w'} k ec =
+        let s = k.1 in
+        let b : origin (half n TO w') h ≡ v = rw (k.0.rest.halves TO) leaves_v in
+        let next : LastFrom (origin (half n TO w')) v h c = rw (ec, ← b) (s.lists.nexts h (omega (arith, g.low))) in (
+          record {
+            keeps = keeps_then g.keeps k.0;
+            scan = record {
+              lists = s.lists;
+              search = s.search;
+              fit = s.fit;
+              fit_r = s.fit_r;
+              mark = s.mark;
+              at = s.at;
+              part = λ j i l f. on_bool (ltb j h) (λ q. absurd (next.gap j i (ltb-true j h q) f)) (λ q. s.part j (ltb-false j h q) l f);
+            };
+            low = omega (arith, next.below, g.low);
+            leaves = next.at;
+          },
+          omega (arith, next.below),
+        )
 
   pub scan_done : cur ≡ 0 → Grown n m w₀ w (done + 1) seen r
   scan_done z = record {
@@ -345,16 +291,6 @@ module _ {n m done r v seen cur : ℕ} {w₀ w : List ℕ} (g : ScanLoop n m don
       one : (u : ℕ) → u < n → 0 < node POSITION w u → node POSITION w u ≡ done + 1 → u ≡ v
       one u l i e = sym (s.place_of u l i).1 ∙ ap (λ k. node ORDER w (k - 1)) (e ∙ sym at) ∙ (s.place_of v fit (omega (arith, at))).1
 
-pub grown_none : {n m done seen r : ℕ} {w : List ℕ} → Growing n m w done seen r → Grown n m w w done seen r
-grown_none {n} {w = w} g = record { keeps = keeps_none n w; search = g.search }
-
-pub grown_then : {n m d d' s s' r : ℕ} {w₀ w w' : List ℕ} → Grown n m w₀ w d s r → Grown n m w w' d' s' r → Grown n m w₀ w' d' s' r
-grown_then a b = record { keeps = keeps_then a.keeps b.keeps; search = b.search }
-
--- the tree of r is still searched at w
-pub growing_still : {n m d₀ s₀ done seen r : ℕ} {w₀ w : List ℕ} → Growing n m w₀ d₀ s₀ r → Grown n m w₀ w done seen r → Growing n m w done seen r
-growing_still g a = record { lists = lists_still refl a.keeps.rest g.lists; search = a.search; fit_r = g.fit_r; mark = rw (a.keeps.rest.nodes MARK (omega arith) refl) g.mark }
-
 pub grown_less : {n m d s r : ℕ} {w₀ w : List ℕ} → Grown n m w₀ w d s r → s ≤ n
 grown_less a = seen_less a.search
 
@@ -383,9 +319,6 @@ module _ {n m k seen j r p : ℕ} {w : List ℕ} (b : BetweenTrees n m k w seen 
   have_more {w'} g h = rw (g.rest.nodes ACTIVE (omega arith) refl) (below_more (λ i. 0 < node POSITION w' (node ACTIVE w i)) j
       (λ i q. g.more (node ACTIVE w i) (b.active i (omega arith)).0 (b.have i q))
       (rw er at h))
-
-  pub start_seen : (p ≡ 0 → ⊥) → SearchKeeps n w w × BetweenTrees n m k w seen (j + 1)
-  start_seen ne = (keeps_none n w, record { lists = b.lists; active = b.active; all = b.all; search = b.search; have = have_more (keeps_none n w) (omega arith) })
 
   module _ (z : p ≡ 0) where
     r_new : node POSITION w r ≡ 0

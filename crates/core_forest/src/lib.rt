@@ -4,6 +4,7 @@
 
 ghost use Rattle.std.specs.Prelude.{◌≡◌, ◌+◌, ◌*◌, ◌<◌};
 ghost use Rattle.core_words.specs.Fields.{TO, half};
+ghost use Rattle.core_words.specs.Links.{link_word};
 ghost use Rattle.core_forest.specs.AdjacencyLists.{origin, AdjacencyLists, CanLink, Linking};
 ghost use Rattle.core_forest.specs.Forest.{ForestAt};
 ghost use Rattle.core_forest.specs.Search.{CanAppend, Appended, CanVisit, Visited, Growing, Grown, SearchKeeps, BetweenTrees};
@@ -15,9 +16,9 @@ fn link_half(work: &mut [u32], n: usize, m: usize, h: usize, v: usize)
     requires { Linking n m work.old work.old h × (h < 2 * m) × (v ≡ origin (half n TO work.old) h) }
     ensures { Linking n m work.old work.new (h + 1) }
 {
-    let x = core_words::get(work, v, HEAD);
-    core_words::put_half(work, n, h, NEXT, x);
-    core_words::put(work, v, HEAD, h + 1);
+    let first = core_words::link(work, v, HEAD);
+    core_words::put_half_link(work, n, h, NEXT, first);
+    core_words::put_link(work, v, HEAD, Some(h));
 }
 
 // Internal: makes the adjacency list of each node. In ascending order, so that a half-edge is followed by the largest smaller one at its node.
@@ -34,19 +35,28 @@ pub fn link_edges(work: &mut [u32], n: usize, m: usize)
     }
 }
 
-// Node w is next in the order, with its parent p, its tree edge (t is one more, 0 for none) and its root r.
-fn append_node(work: &mut [u32], n: usize, seen: usize, w: usize, p: usize, t: usize, r: usize)
-    requires { CanAppend n work.old seen w p t r }
-    ensures { Appended n seen w p t r work.old work.new }
+// Where a node is in the forest: its parent (itself at a root), the tree edge to it (none at a root), and the root of its tree.
+#[derive(Clone, Copy, Debug, PartialEq, Eq)]
+struct Place {
+    parent: usize,
+    edge: Option<usize>,
+    root: usize,
+}
+
+// Node w is next in the order, with its place in the forest.
+fn append_node(work: &mut [u32], n: usize, seen: usize, w: usize, place: Place)
+    requires { CanAppend n work.old seen w place.parent (link_word place.edge) place.root }
+    ensures { Appended n seen w place.parent (link_word place.edge) place.root work.old work.new }
 {
     core_words::put(work, seen, ORDER, w);
-    core_words::put(work, w, POSITION, seen + 1);
-    core_words::put(work, w, PARENT, p);
-    core_words::put(work, w, EDGE, t);
-    core_words::put(work, w, ROOT, r);
+    core_words::put_link(work, w, POSITION, Some(seen));
+    core_words::put(work, w, PARENT, place.parent);
+    core_words::put_link(work, w, EDGE, place.edge);
+    core_words::put(work, w, ROOT, place.root);
 }
 
 // The far end of half-edge h out of v, the node at place done, is seen now; the new count of seen nodes.
+// Kept: `done`, `seen` and `r` apart, since each call changes one of them and a struct would be made anew at each: no plainer.
 fn visit_half(
     work: &mut [u32],
     n: usize,
@@ -61,12 +71,16 @@ fn visit_half(
     ensures { Visited n m work.old work.new done result r v h }
 {
     let x = core_words::get_half(work, n, h, TO);
-    let p = core_words::get(work, x, POSITION);
-    if p == 0 {
-        append_node(work, n, seen, x, v, h / 2 + 1, r);
-        return seen + 1;
+    if core_words::link(work, x, POSITION).is_some() {
+        return seen;
     }
-    seen
+    let place = Place {
+        parent: v,
+        edge: Some(h / 2),
+        root: r,
+    };
+    append_node(work, n, seen, x, place);
+    seen + 1
 }
 
 // All half-edges out of the node at place done, along its adjacency list.
@@ -76,11 +90,11 @@ fn scan_node(work: &mut [u32], n: usize, m: usize, done: usize, seen: usize, r: 
 {
     let v = core_words::get(work, done, ORDER);
     let mut seen = seen;
-    let mut cur = core_words::get(work, v, HEAD);
-    // The half-edges of v from `cur` on have been followed, and `cur` is one more than the next in v's list, 0 at its end.
-    while cur != 0 {
-        seen = visit_half(work, n, m, done, seen, r, v, cur - 1);
-        cur = core_words::get_half(work, n, cur - 1, NEXT);
+    let mut next = core_words::link(work, v, HEAD);
+    // The half-edges of v's list before `next` have been followed.
+    while let Some(h) = next {
+        seen = visit_half(work, n, m, done, seen, r, v, h);
+        next = core_words::half_link(work, n, h, NEXT);
     }
     seen
 }
@@ -107,12 +121,16 @@ fn start_tree(work: &mut [u32], n: usize, m: usize, k: usize, seen: usize, j: us
         BetweenTrees n m k work.new result (j + 1) }
 {
     let r = core_words::get(work, j, ACTIVE);
-    let p = core_words::get(work, r, POSITION);
-    if p == 0 {
-        append_node(work, n, seen, r, r, 0, r);
-        return grow_tree(work, n, m, seen, seen + 1, r);
+    if core_words::link(work, r, POSITION).is_some() {
+        return seen;
     }
-    seen
+    let place = Place {
+        parent: r,
+        edge: None,
+        root: r,
+    };
+    append_node(work, n, seen, r, place);
+    grow_tree(work, n, m, seen, seen + 1, r)
 }
 
 // Internal: a spanning forest of all that the active nodes reach, each tree with an active root; how many nodes it has.

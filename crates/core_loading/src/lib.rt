@@ -13,12 +13,11 @@ pub fn enter(work: &mut [u32], n: usize, d: usize, v: usize) -> usize
         ((S : List ℕ) × Entered n S d (node MARK work.old) (node ACTIVE work.old)) }
     ensures { Entering n d v work.old work.new result }
 {
-    let mark = core_words::get(work, v, MARK);
-    if mark != 0 {
+    if core_words::link(work, v, MARK).is_some() {
         return d;
     }
     core_words::put(work, d, ACTIVE, v);
-    core_words::put(work, v, MARK, d + 1);
+    core_words::put_link(work, v, MARK, Some(d));
     d + 1
 }
 

@@ -12,8 +12,7 @@ fn child_end(work: &[u32], s: usize, t: usize) -> usize
     requires { (16 * s + 15 < length work.now) × (t < 65536) }
     ensures { ChildEnd (node ABOVE work.now) s t result }
 {
-    let u = core_words::get(work, s, ABOVE);
-    if u == t + 1 {
+    if core_words::link(work, s, ABOVE) == Some(t) {
         return s;
     }
     t

@@ -46,10 +46,6 @@ first_stay {P} {f} {t} {c} p l g ne = record {
   gap = λ y i. p.gap y (omega arith);
 }
 
--- where all that have P are from g on
-pub first_from : {P : ℕ → Type 0} {c : ℕ} (g : ℕ) → FirstFrom P 0 c → ((y : ℕ) → P y → g ≤ y) → FirstFrom P g c
-first_from {P} {c} g p k = record { at = λ z. let q = p.at z in (omega (arith, k (c - 1) q.1), q.1); gap = λ y i. p.gap y (omega arith) }
-
 pub first_none : {P : ℕ → Type 0} {f : ℕ} → ((y : ℕ) → f ≤ y → P y → ⊥) → FirstFrom P f 0
 first_none n = record { at = λ z. absurd (omega arith); gap = λ y l p. absurd (n y l p) }
 

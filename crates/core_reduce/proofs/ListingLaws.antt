@@ -1,11 +1,11 @@
 -- The same at the words, and the loop of `write_row`.
 -- Assumes nothing.
-use Prim.Native.Nat.{◌+◌, ◌-◌, ◌<◌, ◌≤◌, ℕ}
+use Prim.Native.Nat.{◌+◌, ◌-◌, ◌<◌, ℕ}
 use mathlib.Core.List.{List, Memᴰ, [], ◌∷◌}
 use mathlib.Core.Logic.{inl, ⊎_elim}
 use mathlib.Core.Path.{◌∙◌, ◌≡◌, ap, refl, sym}
 use native.Mathlib.Omega.{arith}
-use Rattle.core_reduce.proofs.EdgeListLaws.{first_after, first_from, first_least, first_none, first_stay, listed_few, listed_more}
+use Rattle.core_reduce.proofs.EdgeListLaws.{first_after, first_least, first_none, first_stay, listed_few, listed_more}
 use Rattle.core_reduce.proofs.EdgeListLaws.{listed_next, listed_none, lists_push, lists_skip, edges_ascend, edge_in, edge_out}
 use Rattle.core_words.specs.Clearing.{Cleared}
 use Rattle.core_reduce.specs.EdgeList.{CanList, EdgePair, EdgesListed, FirstFrom, IfAbove, LargerChild, LeastNonzero, ListedPairs, NextChild, Pushing, Writing, edge_table, list_fields}
@@ -24,27 +24,22 @@ module _ {n h x u : ℕ} {w : List ℕ} (k : Pushing n h w w (x + 1)) (l : x < h
   pub push_skip : (0 < u → x < u) → Pushing n h w w x
   push_skip z = record { ready = k.ready; rest = k.rest; lists = lists_skip k.lists (λ s c. let q : u ≡ s + 1 = eu ∙ c.2 in omega (arith, c.0, z (omega arith))) }
 
-  pub pushed : {c : ℕ} {w₁ w₂ : List ℕ} → 0 < u → u ≤ x → c ≡ node CHILD w (u - 1) → Put SIBLING x c w w₁ → Put CHILD (u - 1) (x + 1) w₁ w₂ → Pushing n h w w₂ x
-  pushed {c} {w₁} {w₂} p i ec q r = record { ready = ready_still rest k.ready; rest = rest; lists = rw (ups_same rest, e2, e8) (lists_push k.lists u eu p i l) }
+  pub pushed : (p : ℕ) {c : ℕ} {w₁ w₂ : List ℕ} → u ≡ p + 1 → p < x → c ≡ node CHILD w p → Put SIBLING x c w w₁ → Put CHILD p (x + 1) w₁ w₂ → Pushing n h w w₂ x
+  pushed p {c} {w₁} {w₂} eq i ec q r =
+      let d : u - 1 ≡ p = omega arith in
+      record { ready = ready_still rest k.ready; rest = rest; lists = rw (ups_same rest, e2, e8) (rw d at (lists_push k.lists u eu (omega arith) (omega arith) l)) }
     where
       rest : OnlyFields list_fields n w w₂
       rest = only_then_put refl (omega (arith, k.ready.less)) (only_put refl (omega (arith, k.ready.less)) q) r
 
-      e2 : node CHILD w₂ ≡ update (node CHILD w) (u - 1) (x + 1)
-      e2 = r.here ∙ ap (λ f. update f (u - 1) (x + 1)) (q.else CHILD (omega arith) (λ e. omega arith))
+      e2 : node CHILD w₂ ≡ update (node CHILD w) p (x + 1)
+      e2 = r.here ∙ ap (λ f. update f p (x + 1)) (q.else CHILD (omega arith) (λ e. omega arith))
 
-      e8 : node SIBLING w₂ ≡ update (node SIBLING w) x (node CHILD w (u - 1))
+      e8 : node SIBLING w₂ ≡ update (node SIBLING w) x (node CHILD w p)
       e8 = r.else SIBLING (omega arith) (λ e. omega arith) ∙ q.here ∙ ap (update (node SIBLING w) x) ec
-
-pub pushing_self : {n h i : ℕ} {a w : List ℕ} → Pushing n h a w i → Pushing n h w w i
-pushing_self {n} {w = w} k = record { ready = k.ready; rest = only_none n w; lists = k.lists }
 
 pub pushing_then : {n h i j : ℕ} {a b c : List ℕ} → Pushing n h a b i → Pushing n h b c j → Pushing n h a c j
 pushing_then k l = record { ready = l.ready; rest = only_then k.rest l.rest; lists = l.lists }
-
--- one number down
-pub pushing_down : {n h i : ℕ} {a w : List ℕ} → (i ≡ 0 → ⊥) → Pushing n h a w i → Pushing n h w w (i - 1 + 1)
-pushing_down {i = i} ne k = let e : i - 1 + 1 ≡ i = omega arith in rw e (pushing_self k)
 
 -- the lists are empty
 pub pushing_cleared : {n h : ℕ} {a w : List ℕ} → CanList n h a → Cleared (CHILD ∷ []) n h a w → Pushing n h a w h
@@ -57,17 +52,17 @@ pushing_cleared {n} {h} {a} {w} r c = record {
     rest : OnlyFields list_fields n a w
     rest = only_more (CHILD ∷ []) refl c.rest
 
-module _ {n h m s f t : ℕ} {w : List ℕ} (k : Writing n h w w m s f) (l : s < h) (p : FirstFrom (EdgePair h (node ABOVE w) s) f t) (z : 0 < t) where
-  more : ListedPairs (EdgePair h (node ABOVE w)) (update (node LOWER w) m s) (update (node UPPER w) m (t - 1)) (m + 1) s t
-  more = let e : t - 1 + 1 ≡ t = omega arith in rw e at (listed_more k.listed (t - 1) (rw e p))
+module _ {n h m s f : ℕ} {w : List ℕ} (k : Writing n h w w m s f) (l : s < h) (t : ℕ) (p : FirstFrom (EdgePair h (node ABOVE w) s) f (t + 1)) where
+  more : ListedPairs (EdgePair h (node ABOVE w)) (update (node LOWER w) m s) (update (node UPPER w) m t) (m + 1) s (t + 1)
+  more = listed_more k.listed t p
 
   pub m_fits : m < h
   m_fits = omega (arith, listed_few more)
 
-  pub t_fits : t ≤ h
-  t_fits = ⊎_elim (λ c. omega (arith, c.1)) (λ c. omega (arith, c.1)) (p.at z).1
+  pub t_fits : t < h
+  t_fits = ⊎_elim (λ c. omega (arith, c.1)) (λ c. omega (arith, c.1)) (p.at (omega arith)).1
 
-  pub wrote : {w₁ w₂ : List ℕ} → Put LOWER m s w w₁ → Put UPPER m (t - 1) w₁ w₂ → Writing n h w w₂ (m + 1) s t
+  pub wrote : {w₁ w₂ : List ℕ} → Put LOWER m s w w₁ → Put UPPER m t w₁ w₂ → Writing n h w w₂ (m + 1) s (t + 1)
   wrote {w₁} {w₂} q r = record {
     ready = ready_still rest k.ready;
     rest = rest;
@@ -84,8 +79,8 @@ module _ {n h m s f t : ℕ} {w : List ℕ} (k : Writing n h w w m s f) (l : s <
       e4 : node LOWER w₂ ≡ update (node LOWER w) m s
       e4 = r.else LOWER (omega arith) (λ e. omega arith) ∙ q.here
 
-      e5 : node UPPER w₂ ≡ update (node UPPER w) m (t - 1)
-      e5 = r.here ∙ ap (λ g. update g m (t - 1)) (q.else UPPER (omega arith) (λ e. omega arith))
+      e5 : node UPPER w₂ ≡ update (node UPPER w) m t
+      e5 = r.here ∙ ap (λ g. update g m t) (q.else UPPER (omega arith) (λ e. omega arith))
 
 pub writing_self : {n h m s f : ℕ} {a w : List ℕ} → Writing n h a w m s f → Writing n h w w m s f
 writing_self {n} {w = w} k = record { ready = k.ready; rest = only_none n w; lists = k.lists; listed = k.listed }
@@ -100,12 +95,6 @@ pub record RowLoop (n h : ℕ) (a w : List ℕ) (s u c f m t : ℕ) : Type 0 whe
   pub next : FirstFrom (EdgePair h (node ABOVE w) s) f t
   pub ups : u ≡ node ABOVE w s
   pub past : s < f
-
-pub row_none : {n h s u c m o t : ℕ} {w : List ℕ} → Writing n h w w m s (s + 1) → s < h → u ≡ node ABOVE w s → c ≡ node CHILD w s → IfAbove u (s + 1) o
-    → LeastNonzero c o t → RowLoop n h w w s u c (s + 1) m t
-row_none {n} {h} {s} {u} {c} {w = w} k l eu ec a b =
-    let ch : FirstFrom (LargerChild h (node ABOVE w) s) (s + 1) c = rw ec (first_from (s + 1) (k.lists.heads s l) (λ y p. omega (arith, p.0))) in
-    record { listing = k; child = ch; next = first_least ch (first_after (node ABOVE w) (omega arith) eu (rw eu (k.ready.fits s l)) a) b; ups = eu; past = omega arith }
 
 module _ {n h s u c f m t : ℕ} {a w : List ℕ} (g : RowLoop n h a w s u c f m t) (l : s < h) where
   pub row_more : 0 < t → {c' o t' : ℕ} {w' : List ℕ} → Writing n h w w' (m + 1) s t → NextChild w' c t c' → IfAbove u t o → LeastNonzero c' o t' → RowLoop n h a w' s u c' t (m + 1) t'

@@ -13,9 +13,6 @@ use Rattle.core_words.proofs.ChangeLaws.{only_none, only_then_put}
 use Rattle.core_words.proofs.FieldLaws.{update_other, update_same}
 use Rattle.core_words.specs.Fields.{ACTIVE, MAPPED, NUMBER, TOP, Put, node}
 
-pub number_is : {n t x v : ℕ} {w : List ℕ} → HasNumber n w v → t ≡ node TOP w v → x ≡ node NUMBER w t → (x ≡ node NUMBER w (node TOP w v)) × (0 < x)
-number_is {w = w} g et ex = let e = ex ∙ ap (node NUMBER w) et in let ne = g.some in (e, omega arith)
-
 pub writing_none : (n : ℕ) (a : List ℕ) → WritingNumbers n a 0 a
 writing_none n a = record { rest = only_none n a; numbers = λ j l. absurd (omega arith) }
 

@@ -3,45 +3,38 @@
 // larger.
 ghost use Rattle.std.specs.Prelude.{◌+◌, ◌-◌, ◌*◌, ◌<◌, ◌≤◌, length};
 ghost use Rattle.core_words.specs.Fields.{ABOVE, node};
+ghost use Rattle.core_words.specs.Links.{link_word};
 ghost use Rattle.core_reduce.specs.EdgeList.{EdgePair, FirstFrom, LeastNonzero, IfAbove, NextChild, CanList, Pushing, Writing, EdgesListed};
 
 use core_words::*;
 
-// The smaller of those that are not 0, or 0.
-fn least_nonzero(a: usize, b: usize) -> usize
-    ensures { LeastNonzero a b result }
+// The smaller of those that are there.
+fn least(a: Option<usize>, b: Option<usize>) -> Option<usize>
+    ensures { LeastNonzero (link_word a) (link_word b) (link_word result) }
 {
-    if a == 0 {
-        return b;
+    match (a, b) {
+        (Some(x), Some(y)) => Some(x.min(y)),
+        (Some(x), None) => Some(x),
+        (None, y) => y,
     }
-    if b == 0 {
-        return a;
-    }
-    if a < b {
-        return a;
-    }
-    b
 }
 
-// u where it is above f, else 0.
-fn if_above(u: usize, f: usize) -> usize
-    ensures { IfAbove u f result }
+// The parent where it is above s, else none.
+fn if_above(parent: Option<usize>, s: usize) -> Option<usize>
+    ensures { IfAbove (link_word parent) (s + 1) (link_word result) }
 {
-    if f < u {
-        return u;
-    }
-    0
+    parent.filter(|p| *p > s)
 }
 
-// What follows c in its list where c is t, else c.
-fn next_child(work: &[u32], c: usize, t: usize) -> usize
-    requires { (0 < t) × (16 * t ≤ length work.now) }
-    ensures { NextChild work.now c t result }
+// What follows the child in its list where that is t, else the child.
+fn next_child(work: &[u32], child: Option<usize>, t: usize) -> Option<usize>
+    requires { 16 * t + 16 ≤ length work.now }
+    ensures { NextChild work.now (link_word child) (t + 1) (link_word result) }
 {
-    if c == t {
-        return core_words::get(work, t - 1, SIBLING);
+    if child == Some(t) {
+        return core_words::link(work, t, SIBLING);
     }
-    c
+    child
 }
 
 // Number x comes first in the list of its parent, where that is smaller.
@@ -49,16 +42,15 @@ fn push_child(work: &mut [u32], n: usize, h: usize, x: usize)
     requires { Pushing n h work.old work.old (x + 1) × (x < h) }
     ensures { Pushing n h work.old work.new x }
 {
-    let u = core_words::get(work, x, ABOVE);
-    if u == 0 {
+    let Some(parent) = core_words::link(work, x, ABOVE) else {
+        return;
+    };
+    if x <= parent {
         return;
     }
-    if x < u {
-        return;
-    }
-    let c = core_words::get(work, u - 1, CHILD);
-    core_words::put(work, x, SIBLING, c);
-    core_words::put(work, u - 1, CHILD, x + 1);
+    let first = core_words::link(work, parent, CHILD);
+    core_words::put_link(work, x, SIBLING, first);
+    core_words::put_link(work, parent, CHILD, Some(x));
 }
 
 // Puts each number into the list of its parent, where that is smaller.
@@ -66,21 +58,20 @@ fn push_children(work: &mut [u32], n: usize, h: usize)
     requires { Pushing n h work.old work.old h }
     ensures { Pushing n h work.old work.new 0 }
 {
-    let mut x = h;
-    // The numbers from x on stand in the lists of their parents, where these are smaller, and each list ascends.
-    while x != 0 {
-        x -= 1;
+    // The numbers after x stand in the lists of their parents, where these are smaller, and each list ascends.
+    for x in (0..h).rev() {
         push_child(work, n, h, x);
     }
 }
 
-// Writes the edge of s and t - 1 as the m-th.
-fn write_edge(work: &mut [u32], n: usize, h: usize, m: usize, s: usize, f: usize, t: usize)
-    requires { Writing n h work.old work.old m s f × (s < h) × FirstFrom (EdgePair h (node ABOVE work.old) s) f t × (0 < t) }
-    ensures { Writing n h work.old work.new (m + 1) s t }
+// Writes the edge of s and t, the next larger end after `last`, as the m-th.
+// Kept: seven arguments, since but for the edge's two ends no two of them are one thing, and a struct of two ends is no plainer.
+fn write_edge(work: &mut [u32], n: usize, h: usize, m: usize, s: usize, last: usize, t: usize)
+    requires { Writing n h work.old work.old m s (last + 1) × (s < h) × FirstFrom (EdgePair h (node ABOVE work.old) s) (last + 1) (t + 1) }
+    ensures { Writing n h work.old work.new (m + 1) s (t + 1) }
 {
     core_words::put(work, m, LOWER, s);
-    core_words::put(work, m, UPPER, t - 1);
+    core_words::put(work, m, UPPER, t);
 }
 
 // Writes the edges whose smaller end is s after the first m; the new count.
@@ -88,20 +79,18 @@ fn write_row(work: &mut [u32], n: usize, h: usize, s: usize, m: usize) -> usize
     requires { Writing n h work.old work.old m s (s + 1) × (s < h) }
     ensures { Writing n h work.old work.new result (s + 1) (s + 1 + 1) }
 {
-    let u = core_words::get(work, s, ABOVE);
-    let mut c = core_words::get(work, s, CHILD);
-    let mut f = s + 1;
+    let parent = core_words::link(work, s, ABOVE);
+    let mut child = core_words::link(work, s, CHILD);
+    let mut last = s;
     let mut m = m;
-    let o = if_above(u, f);
-    let mut t = least_nonzero(c, o);
-    // The edges of s up to the larger end f - 1 are written; t is one more than the next larger end, 0 where there is none, and c the next of the list.
-    while t != 0 {
-        write_edge(work, n, h, m, s, f, t);
+    let mut next = least(child, if_above(parent, last));
+    // The edges of s up to the larger end `last` are written; `next` is the next larger end, and `child` the next of the list.
+    while let Some(t) = next {
+        write_edge(work, n, h, m, s, last, t);
         m += 1;
-        c = next_child(work, c, t);
-        f = t;
-        let o = if_above(u, f);
-        t = least_nonzero(c, o);
+        child = next_child(work, child, t);
+        last = t;
+        next = least(child, if_above(parent, last));
     }
     m
 }

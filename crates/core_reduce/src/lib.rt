@@ -35,7 +35,7 @@ ghost use Rattle.core_reduce.specs.Core.{Loaded, Reduced, start_fields};
 use core_words::*;
 
 // The nodes and the edges of a small graph.
-#[derive(Drop)]
+#[derive(Clone, Copy, Debug, PartialEq, Eq)]
 pub struct Counts {
     pub nodes: usize,
     pub edges: usize,
@@ -46,12 +46,12 @@ fn clear_node(work: &mut [u32], n: usize, v: usize)
     requires { (16 * n ≤ length work.old) × (n ≤ 65536) × (v < n) }
     ensures { ClearedNode start_fields n v work.old work.new }
 {
-    core_words::put(work, v, HEAD, 0);
-    core_words::put(work, v, POSITION, 0);
-    core_words::put(work, v, LIVE, 0);
-    core_words::put(work, v, BRANCH, 0);
-    core_words::put(work, v, OTHER, 0);
-    core_words::put(work, v, NUMBER, 0);
+    core_words::put_link(work, v, HEAD, None);
+    core_words::put_link(work, v, POSITION, None);
+    core_words::put_link(work, v, LIVE, None);
+    core_words::put_link(work, v, BRANCH, None);
+    core_words::put_link(work, v, OTHER, None);
+    core_words::put_link(work, v, NUMBER, None);
 }
 
 // Internal: clears the fields that start at 0.
@@ -71,8 +71,7 @@ fn class_number(work: &[u32], n: usize, v: usize) -> usize
     ensures { (result ≡ node NUMBER work.now (node TOP work.now v) - 1) × (result < 4294967296) }
 {
     let t = core_words::get(work, v, TOP);
-    let x = core_words::get(work, t, NUMBER);
-    x - 1
+    core_words::link(work, t, NUMBER).unwrap()
 }
 
 // MAPPED of each active node becomes the number of its class.
@@ -101,8 +100,5 @@ pub fn reduce(work: &mut [u32], n: usize, m: usize, k: usize) -> Counts
     let edges = edge_list::list_edges(work, n, nodes);
     core_names::name_edges(work, n, edges);
     write_numbers(work, n, k);
-    Counts {
-        nodes: nodes,
-        edges: edges,
-    }
+    Counts { nodes, edges }
 }

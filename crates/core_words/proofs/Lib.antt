@@ -1,3 +1,4 @@
 pub mod FieldLaws
 pub mod ChangeLaws
 pub mod ClearLaws
+pub mod LinkLaws

@@ -1,3 +1,4 @@
 pub mod Fields
 pub mod Changes
 pub mod Clearing
+pub mod Links

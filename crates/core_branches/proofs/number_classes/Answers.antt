@@ -1,17 +1,10 @@
 -- `number_classes` meets its contract.
-use Rattle.core_branches.proofs.ClassLaws.{can_count, can_number_actives, can_number_others, can_parents, class_numbers}
+use Rattle.core_branches.proofs.ClassLaws.{can_count, can_parents, class_numbers}
 use Rattle.core_branches.proofs.number_classes.Goals as goal
-
-pub number_actives-g-requires : goal.number_actives-g-requires
-number_actives-g-requires c = can_number_actives c.requires
 
 pub count_branches-requires : goal.count_branches-requires
 count_branches-requires c =
     can_count c.requires c.number_actives-g.ensures
-
-pub number_others-h-requires : goal.number_others-h-requires
-number_others-h-requires c =
-    can_number_others c.requires c.number_actives-g.ensures c.count_branches.ensures
 
 pub parent_numbers-requires : goal.parent_numbers-requires
 parent_numbers-requires c =

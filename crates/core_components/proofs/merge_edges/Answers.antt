@@ -1,10 +1,6 @@
-use mathlib.Core.Path.{◌≡◌}
 use native.Mathlib.Omega.{arith}
-use Rattle.core_components.proofs.MergeLaws.{merged_can, merged_more, merged_none}
+use Rattle.core_components.proofs.MergeLaws.{merged_can, merged_more}
 use Rattle.core_components.proofs.merge_edges.Goals as goal
-
-pub loop-e-init : goal.loop-e-init
-loop-e-init c = (omega arith, merged_none c.requires)
 
 pub merge_edge-requires : goal.merge_edge-requires
 merge_edge-requires c =
@@ -13,6 +9,3 @@ merge_edge-requires c =
 pub loop-e-preserved : goal.loop-e-preserved
 loop-e-preserved c =
     (omega arith, merged_more c.requires c.loop-e.invariant.1 (omega arith) c.merge_edge.ensures)
-
-pub returns : goal.returns
-returns c = let e : c.loop-e.e ≡ c.args.m = omega arith in rw e at c.loop-e.invariant.1

@@ -1,10 +1,6 @@
 -- `merge_path` meets its contract.
-use Rattle.core_components.proofs.PathLaws.{merged_path, second, to_tops}
+use Rattle.core_components.proofs.PathLaws.{merged_path, to_tops}
 use Rattle.core_components.proofs.merge_path.Goals as goal
-
-pub find-b-requires : goal.find-b-requires
-find-b-requires c =
-    second c.requires.0 c.requires.1 c.find-a.ensures
 
 pub merge_tops-requires : goal.merge_tops-requires
 merge_tops-requires c =

@@ -2,19 +2,9 @@ use Prim.Native.Nat.{ℕ}
 use mathlib.Core.List.{List}
 use mathlib.Core.Path.{◌∙◌, ap, refl}
 use native.Mathlib.Omega.{arith}
-use borrow.Author.Rules.{rules}
-use Rattle.theory_graph.proofs.TableLaws.{written_all, written_length, written_more, zeros_table}
+use Rattle.theory_graph.proofs.TableLaws.{written_all, written_more, zeros_table}
 use Rattle.theory_graph.specs.Lists.{over}
 use Rattle.core_words.proofs.clear.Goals as goal
-
-pub loop-i-init : goal.loop-i-init
-loop-i-init c = (omega arith, refl)
-
-pub offset_bounds-work-i : goal.offset_bounds-work-i
-offset_bounds-work-i c = let s = written_length (λ _. 0) c.loop-i.i c.args.work.now c.loop-i.invariant.1 (omega arith) in search rules
-
-pub bounds-work-i : goal.bounds-work-i
-bounds-work-i c = omega (arith, written_length (λ _. 0) c.loop-i.i c.args.work.now c.loop-i.invariant.1 (omega arith))
 
 pub loop-i-preserved : goal.loop-i-preserved
 loop-i-preserved c = (omega arith, written_more (λ _. 0) c.loop-i.i c.args.work.now c.loop-i.invariant.1 (omega arith) refl)
