@@ -18,16 +18,13 @@ use Rattle.call_kinds.specs.declared.Kind.TheVariants.{Closes, None, Opens, Quer
 
 -- ---- none or not
 pub query_some : ¬ (Query ≡ None)
-unfolding is_query
-query_some e = contradict refl (ap is_query e)
+query_some e = cc
 
 pub opens_some : ¬ (Opens ≡ None)
-unfolding is_opening
-opens_some e = contradict refl (ap is_opening e)
+opens_some e = cc
 
 pub closes_some : ¬ (Closes ≡ None)
-unfolding is_closing
-closes_some e = contradict refl (ap is_closing e)
+closes_some e = cc
 
 none_or : (k : Kind) → (k ≡ None) ⊎ (¬ (k ≡ None))
 none_or Query = inr query_some

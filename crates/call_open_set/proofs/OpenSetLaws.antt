@@ -3,19 +3,21 @@
 -- Assumes nothing.
 use Prim.Native.Nat.{◌%◌, ◌*◌, ◌+◌, ◌-◌, ◌/◌, ◌<◌, ◌^◌, ◌≤◌, max, suc, zero, ℕ}
 use mathlib.Core.Bool.{Bool, ◌&&◌, cond, false}
-use mathlib.Core.List.{List, [], ◌++◌, ◌∷◌}
+use mathlib.Core.List.{List, [], ◌++◌, ◌∷◌, map}
 use mathlib.Core.Logic.{◌⊎◌, inl, inr, ⊎_elim}
 use mathlib.Core.Path.{◌∙◌, ◌≡◌, ap, ap₂, refl, sym}
 use lib.Bits.{bit_or, bit_xor, differ, or_step, or_zero_r, xor_step, xor_zero_r}
-use lib.Count.{ones, ones_step}
+use lib.Count.{ones, ones-le, ones_step}
 use lib.Dec.{eqb, lit<, ltb}
-use lib.ListN.{get_or-append, get_or-eq_default, drop, get_or, length, length-append, length-replicate, length-set, replicate, set}
+use lib.ListN.{get_or-append, get_or-eq_default, get_or, length, length-append, length-replicate, length-set, replicate, set}
 use lib.Pow.{shl_exact, shr-shr}
-use lib.Seq.{drop-length, get_or-append-add, get_or-set_other, get_or-set_same, set-append_left, set_out, set-set}
+use lib.Seq.{get_or-append-add, get_or-set_other, get_or-set_same, set-append_left, set_out, set-set}
 use native.Mathlib.Nat.{div-add-mod', div-one, le_of_suc-le-suc, not-suc-le-zero, one-mul, pow-suc, suc-add, zero-add}
 use native.Mathlib.Numerals.{one-add}
 use native.Mathlib.Omega.{arith}
 use borrow.Author.Tests.{eq-eqb, eqb-false, eqb-true, le-ltb, lt-ltb, ltb-false, ltb-true, ne_eqb}
+use Rattle.std.proofs.lemmas.List.Sums.{sum_by-cons}
+use Rattle.std.specs.List.{sum as total}
 use Rattle.theory_graph.proofs.Booleans.{on_bool}
 use Rattle.theory_graph.specs.Lists.{sum}
 use Rattle.call_open_set.specs.OpenSet.{bits, digits, is_open}
@@ -262,6 +264,12 @@ each_fits (x ∷ xs) (u ∷ us) s (suc i) = each_fits xs us s.1 i
 pub word_fits : (xs : List ℕ) (vs : List Val) → Is (Array (UInt w64) 128) xs vs → (i : ℕ) → get_or xs i 0 < 2 ^ 64
 word_fits xs vs p i = each_fits xs p.0 p.1.1 i
 
-pub none_left : (xs : List ℕ) (i : ℕ) → length xs ≡ i → sum (bits (drop i xs)) ≡ 0
+-- the ones of the words, summed: those of the bits, and no more than there is room for
+pub ones_summed : (ws : List ℕ) → ((i : ℕ) → get_or ws i 0 < 2 ^ 64) → total (map ones ws) ≡ sum (bits ws)
 unfolding bits
-none_left xs i e = rw (← e, drop-length)
+ones_summed [] f = refl
+ones_summed (w ∷ ws) f = sum_by-cons (λ n. n) (ones w) (map ones ws) ∙ ap (λ (n : ℕ). ones w + n) (ones_summed ws (λ i. f (suc i))) ∙ sym (sum_bits w ws (f 0))
+
+pub ones_most : (ws : List ℕ) → ((i : ℕ) → get_or ws i 0 < 2 ^ 64) → total (map ones ws) ≤ 64 * length ws
+ones_most [] f = omega arith
+ones_most (w ∷ ws) f = omega (arith, sum_by-cons (λ n. n) (ones w) (map ones ws), ones-le 64 w (f 0), ones_most ws (λ i. f (suc i)))

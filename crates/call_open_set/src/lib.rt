@@ -74,14 +74,12 @@ pub fn from_table(m: usize, start: &[u16]) -> [u64; 128]
     ensures { (length result ≡ 128) × (is_open result ≡ (λ s. ltb s m && eqb (get_or start.now s 0) 1)) }
 {
     let mut held = [0u64; 128];
-    let mut s: usize = 0;
     // Of the segments before s those are in the set whose entry is 1, and no other is.
-    while s < m {
-        if start[s] == 1 {
+    for (s, &entry) in start[..m].iter().enumerate() {
+        if entry == 1 {
             let word = s / 64;
             held[word] = with_bit(held[word], s % 64);
         }
-        s += 1;
     }
     held
 }
@@ -90,10 +88,5 @@ pub fn from_table(m: usize, start: &[u16]) -> [u64; 128]
 pub fn count(held: [u64; 128]) -> usize
     ensures { result ≡ sum (bits held) }
 {
-    let mut n: usize = 0;
-    // n is the number of ones in the first i words.
-    for i in 0..128 {
-        n += u64::count_ones(held[i]) as usize;
-    }
-    n
+    held.iter().map(|word| word.count_ones() as usize).sum()
 }

@@ -1,29 +1,22 @@
 -- Laws of loading a graph: all active entries entered, the ends and the names of all edges stored, and all that is loaded.
 -- Assumes nothing.
 use Prim.Native.Nat.{◌%◌, ◌*◌, ◌+◌, ◌/◌, ◌<◌, ◌≤◌, ℕ}
-use mathlib.Core.List.{List, [], ◌++◌, ◌∷◌}
+use mathlib.Core.List.{List, [], ◌++◌, ◌∷◌, append-nil}
 use mathlib.Core.Path.{◌∙◌, ◌≡◌, ap, refl, subst, sym}
 use lib.Dec.{eqb}
-use lib.ListN.{get_or, length, take}
+use lib.ListN.{drop, drop_of_length-le, get_or, length, take}
+use lib.Seq.{length-take-le}
 use native.Mathlib.Omega.{arith}
 use borrow.Author.Tests.{eqb-false, eqb-true}
 use Rattle.theory_graph.proofs.TableLaws.{table_equal, triples_table}
+use Rattle.theory_graph.proofs.Lists.{table_length}
+use Rattle.theory_graph.specs.Lists.{over, table}
 use Rattle.contraction_tables.specs.Transfer.{Edges, Entries, Loadable, Prepared}
 use Rattle.theory_graph.proofs.Booleans.{on_bool}
-use Rattle.core_loading.proofs.LoadingLaws.{cleared_past, entered_most, entered_none}
-use Rattle.core_loading.specs.Loading.{Entering, PutEdge}
+use Rattle.core_loading.proofs.LoadingLaws.{cleared_past, entered_most}
+use Rattle.core_loading.specs.Loading.{PutEdge}
 use Rattle.core_words.specs.Clearing.{Cleared}
 use Rattle.core_words.specs.Fields.{ACTIVE, MARK, NAME, TO, half, node}
-
-pub entries_none : {n : ℕ} (w : List ℕ) → ((v : ℕ) → v < n → node MARK w v ≡ 0) → Entries n [] w w 0
-entries_none w z = record { same = refl; past = λ i k. refl; entered = entered_none (node MARK w) (node ACTIVE w) z }
-
-pub entries_more : {n d v r : ℕ} {S T : List ℕ} {a b c : List ℕ} → T ≡ S ++ (v ∷ []) → Entries n S a b d → Entering n d v b c r → Entries n T a c r
-entries_more {S = S} e g h = record {
-  same = h.same ∙ g.same;
-  past = λ i k. h.past i k ∙ g.past i k;
-  entered = rw e (h.more S g.entered);
-}
 
 -- ---- edges
 pub edges_none : (n m : ℕ) (from to names w : List ℕ) → Edges n m from to names w w 0
@@ -89,3 +82,10 @@ module _ {n m k : ℕ} {from to names active w₀ w₁ : List ℕ} (c : Loadable
           ∙ sym (triples_table m from to names c.from_length c.to_length c.names_length);
       actives = table_equal (node ACTIVE w₃) (node ACTIVE w₂) 0 d (λ i a b. act_at i (omega arith)) ∙ g.entered.active;
     }
+
+-- ---- a table of which the first e entries were written, one after the other
+pub part_written : (f : ℕ → ℕ) (e : ℕ) (t : List ℕ) {part : List ℕ} → e ≤ length t → part ≡ over (table f 0 e) (take e t) → part ++ drop e t ≡ over (table f 0 e) t
+part_written f e t l p =
+    let n : length (table f 0 e) ≡ e = table_length f 0 e in
+    let z : drop e (take e t) ≡ [] = drop_of_length-le (take e t) (omega (arith, length-take-le e t l)) in
+    rw p (rw (n, z, append-nil) refl)

@@ -4,7 +4,8 @@ use Prim.Native.Nat.{◌*◌, ◌+◌, ◌-◌, ◌<◌, ◌≤◌, ℕ}
 use mathlib.Core.List.{List, Memᴰ, [], ◌∷◌}
 use mathlib.Core.Path.{◌∙◌, ◌≡◌, ap, refl, sym}
 use lib.Dec.{eqb}
-use lib.ListN.{get_or, length, set}
+use lib.ListN.{get_or, length, set, take}
+use lib.Seq.{get_or-take, length-take-le}
 use native.Mathlib.Omega.{arith}
 use Rattle.contraction_tables.specs.Transfer.{CanNumber, TreesNumbered, roots_of}
 use Rattle.core_loading.proofs.LoadingLaws.{cleared_past, entered_none, entered_place}
@@ -13,7 +14,7 @@ use Rattle.core_words.specs.Clearing.{Cleared}
 use Rattle.core_words.specs.Fields.{ACTIVE, MARK, ROOT, node}
 use Rattle.theory_graph.proofs.Lists.{table_in}
 use Rattle.theory_graph.proofs.Pieces.{equal_nodes, group, group_append}
-use Rattle.theory_graph.proofs.TableLaws.{table_append, table_map, table_more, written_all, written_length, written_more}
+use Rattle.theory_graph.proofs.TableLaws.{table_append, table_map, table_more, written_all, written_more}
 use Rattle.theory_graph.specs.Lists.{over, table}
 use Rattle.theory_graph.specs.Pieces.{numbered}
 
@@ -38,11 +39,11 @@ numbering_none k active a p z =
     record { some = omega arith; same = refl; past = λ i l. refl; still = refl; entered = entered_none (node MARK a) (node ACTIVE a) z; filled = refl }
 
 module _ {n k i d : ℕ} {active a p b q : List ℕ} (c : CanNumber n k active p a) (g : Numbering n k active a p i b q d) where
-  pub pieces_same : length q ≡ length p
-  pieces_same = written_length (number_of k active a) i p g.filled (omega (arith, g.some, c.pieces_length))
-
-  pub root_is : {r : ℕ} → r ≡ node ROOT b (get_or active i 0) → r ≡ root_of active a i
-  root_is e = e ∙ ap (λ (f : ℕ → ℕ). f (get_or active i 0)) g.still
+  -- the root that is read for the next of the first k entries
+  pub root_read : {r : ℕ} → i < length (take k active) → r ≡ node ROOT b (get_or (take k active) i 0) → (r ≡ root_of active a i) × (i < k)
+  root_read m e =
+      let l : i < k = omega (arith, length-take-le k active c.active_length) in
+      (e ∙ ap (node ROOT b) (get_or-take k active i 0 l) ∙ ap (λ (f : ℕ → ℕ). f (get_or active i 0)) g.still, l)
 
   module _ (l : i < k) {r e : ℕ} {b₁ : List ℕ} (is : r ≡ root_of active a i) (h : Entering n d r b b₁ e) where
     entered_more : Entered n (roots_of (i + 1) active a) e (node MARK b₁) (node ACTIVE b₁)

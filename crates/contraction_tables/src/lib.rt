@@ -9,16 +9,16 @@ ghost use Rattle.theory_graph.specs.Lists.{table, over};
 use core_words::*;
 
 // Enters the first k active entries; the count of different active nodes.
+// Kept: n, k, `active` and the words travel as they come: a struct of them is no plainer, since each public function would build it for one call.
 fn enter_active(work: &mut [u32], n: usize, k: usize, active: &[u16]) -> usize
     requires { (n ≤ 65536) × (16 * n ≤ length work.old) × (k ≤ length active.now)
         × ((i : ℕ) → i < k → get_or active.now i 0 < n) × ((v : ℕ) → v < n → node MARK work.old v ≡ 0) }
     ensures { Entries n (take k active.now) work.old work.new result }
 {
     let mut d: usize = 0;
-    // The first i entries are entered, and d is how many different nodes they are.
-    for i in 0..k {
-        let v = active[i] as usize;
-        d = core_loading::enter(work, n, d, v);
+    // The entries before v are entered, and d is how many different nodes they are.
+    for &v in &active[..k] {
+        d = core_loading::enter(work, n, d, v as usize);
     }
     d
 }
@@ -30,11 +30,16 @@ fn put_edges(work: &mut [u32], n: usize, m: usize, from: &[u16], to: &[u16], nam
     ensures { Edges n m from.now to.now names.now work.old work.new m }
 {
     // The first s edges stand in the half-edges, with their names.
+    // Kept: no plainer by a chain, which would be `for (s, ((&a, &b), &name)) in from[..m].iter().zip(to).zip(names).enumerate()`.
     for s in 0..m {
-        let a = from[s] as usize;
-        let b = to[s] as usize;
-        let c = names[s] as usize;
-        core_loading::put_edge(work, n, s, a, b, c);
+        core_loading::put_edge(
+            work,
+            n,
+            s,
+            from[s] as usize,
+            to[s] as usize,
+            names[s] as usize,
+        );
     }
 }
 
@@ -66,9 +71,9 @@ pub fn fill_map(work: &[u32], n: usize, k: usize, active: &[u16], map: &mut [u16
     ensures { map.new ≡ over (table (λ i. node MAPPED work.now (get_or active.now i 0)) 0 k) map.old }
 {
     // The first i entries of the map are written, and the others are as they were.
-    for i in 0..k {
-        let x = core_words::get(work, active[i] as usize, MAPPED);
-        map[i] = x as u16;
+    // Kept: tried over `map[..k].iter_mut().zip(..)` and the proof did not close: no invariant can name there what the map holds.
+    for (i, &v) in active[..k].iter().enumerate() {
+        map[i] = core_words::get(work, v as usize, MAPPED) as u16;
     }
 }
 
@@ -78,9 +83,8 @@ pub fn fill_ends(work: &[u32], e: usize, j: usize, out: &mut [u16])
     ensures { out.new ≡ over (table (node j work.now) 0 e) out.old }
 {
     // The first i entries are written, and the others are as they were.
-    for i in 0..e {
-        let x = core_words::get(work, i, j);
-        out[i] = x as u16;
+    for (i, entry) in out[..e].iter_mut().enumerate() {
+        *entry = core_words::get(work, i, j) as u16;
     }
 }
 
@@ -92,8 +96,8 @@ fn number_trees(work: &mut [u32], n: usize, k: usize, active: &[u16], pieces: &m
 {
     let mut trees: usize = 0;
     // The first j entries have their pieces, and `trees` is how many trees they lie in: the roots of these are marked by their numbers.
-    for j in 0..k {
-        let r = core_words::get(work, active[j] as usize, ROOT);
+    for (j, &v) in active[..k].iter().enumerate() {
+        let r = core_words::get(work, v as usize, ROOT);
         trees = core_loading::enter(work, n, trees, r);
         let x = core_words::get(work, r, MARK);
         pieces[j] = (x - 1) as u16;

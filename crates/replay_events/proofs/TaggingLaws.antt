@@ -84,9 +84,6 @@ pub tagged_none : (n : ℕ) (x y : List ℕ) (names counts : ℕ) (w : List ℕ)
 unfolding counts_by
 tagged_none n x y names counts w = record { long = refl; tags = λ j l. absurd (omega arith); counted = λ r l. refl; else = λ d l h. refl }
 
-pub tagged_all : {n : ℕ} {x y : List ℕ} {names counts : ℕ} {w z : List ℕ} {i : ℕ} → Tagged n x y names counts w z i → i ≡ length x → Tagged n x y names counts w z (length x)
-tagged_all g e = rw e at g
-
 module _ {n : ℕ} {x y : List ℕ} {names counts : ℕ} {w z : List ℕ} {i : ℕ} (q : TagsReady n x y names counts w) (g : Tagged n x y names counts w z i) (l : i < length x) where
   abbrev N : ℕ → ℕ
   N = run names w

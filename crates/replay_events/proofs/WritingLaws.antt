@@ -10,7 +10,7 @@ use lib.ListN.{drop, get_or, get_or-replicate, length, length-drop, length-repli
 use lib.Seq.{ext_get_or, get_or-drop, get_or-set_other, get_or-set_same, get_or-take, length-sets, length-take-le, sets, take_all, take-suc, take-take}
 use native.Mathlib.Numerals.{add-one}
 use native.Mathlib.Omega.{arith}
-use borrow.Author.Tests.{eq-eqb, eqb-false, eqb-true, ltb-false, ltb-true, ne_eqb}
+use borrow.Author.Tests.{eq-eqb, eqb-false, eqb-true, ltb-true, ne_eqb}
 use Rattle.call_kinds.specs.Kinds.{is_query, kind_of}
 use Rattle.call_sizes.proofs.RefusalLaws.{seek_here, seek_more, seek_past}
 use Rattle.call_sizes.specs.Refusal.{seek}
@@ -38,7 +38,7 @@ use Rattle.replay_roads.specs.Runs.{run}
 use Rattle.replay_events.proofs.TaggingLaws.{Listed, closing_open, counts_are, tags_are}
 use Rattle.replay_events.specs.Kinds.{kind_at}
 use Rattle.replay_events.specs.Tagging.{Tagged, TagsReady}
-use Rattle.replay_events.specs.Writing.{CanPlace, CanWriteEvents, EventsWritten, LinkRoom, LinkedEvent, TagsFit, Written}
+use Rattle.replay_events.specs.Writing.{CanPlace, CanWriteEvents, EventsWritten, LinkedEvent, TagsFit, Written}
 use Rattle.replay_events.specs.Writing.{last_by, list_of, names_tag, next_by, tags_in}
 
 -- ---- the tags' names
@@ -117,9 +117,6 @@ pub placed_none : (n : ℕ) (a b x y w : List ℕ) → Placed n a b x y w w 0
 unfolding active_of
 placed_none n a b x y w = record { most = omega arith; is = refl }
 
-pub placed_length : {n : ℕ} {a b x y w z : List ℕ} {i : ℕ} → Placed n a b x y w z i → length z ≡ length w
-placed_length {n} {a} {b} {x} {y} {w} {z} {i} q = ap length q.is ∙ length-sets w 0 (active_of n (pairs a b) (take i (pairs x y)))
-
 junctions_more : (n : ℕ) (segs : List Edge) (x y : List ℕ) (i : ℕ) (w z : List ℕ) → i < length x → length y ≡ length x → z ≡ sets w 0 (active_of n segs (take i (pairs x y)))
     → set (set z (2 * i) (ends n segs (get_or x i 0, get_or y i 0)).0) (2 * i + 1) (ends n segs (get_or x i 0, get_or y i 0)).1 ≡ sets w 0 (active_of n segs (take (i + 1) (pairs x y)))
 junctions_more n segs x y i w z l q e =
@@ -154,18 +151,7 @@ module _ (n : ℕ) (a b : List ℕ) (x y : ℕ) where
   pub ends_named : is_query (kind_of n x) ≡ false → y < length a → y < length b → ends n (pairs a b) (x, y) ≡ (get_or a y 0, get_or b y 0)
   ends_named h l k = ap (λ (c : Bool). cond c (x, y) (get_or (pairs a b) y (0, 0))) h ∙ pairs_at a b y l k
 
-pub ends_put : (w : List ℕ) (i u v : ℕ) (e : Event) → e ≡ (u, v) → set (set w (2 * i) u) (2 * i + 1) v ≡ set (set w (2 * i) e.0) (2 * i + 1) e.1
-ends_put w i u v e q = ap (λ (e : Event). set (set w (2 * i) e.0) (2 * i + 1) e.1) (sym q)
-
 -- ---- the links
--- one event
-pub link_none : {t i k v : ℕ} {heads w : List ℕ} → tags_in t w i ≡ 0 → LinkedEvent t i k v heads w heads (set w (2 * t + 3 * i + k) 0)
-link_none {t} {i} {w = w} e = record { change = λ h. let z = ltb-true 0 (tags_in t w i) h in absurd (omega arith); query = λ h. (refl, refl) }
-
-pub link_put : {t i k v : ℕ} {heads w : List ℕ} → ¬ (tags_in t w i ≡ 0)
-    → LinkedEvent t i k v heads w (set heads (key_of (tags_in t w i)) v) (set w (2 * t + 3 * i + k) (get_or heads (key_of (tags_in t w i)) 0))
-link_put {t} {i} {w = w} n = record { change = λ h. (refl, refl); query = λ h. let z = ltb-false 0 (tags_in t w i) h in absurd (n (omega arith)) }
-
 -- the first i events are linked to the last before them
 pub record Lasts (t : ℕ) (w₀ H w : List ℕ) (i : ℕ) : Type 0 where
   pub most : i ≤ t
@@ -249,19 +235,6 @@ nexts_none t w₀ = record {
 }
 
 module _ {t i : ℕ} {w₀ heads w : List ℕ} (fit : TagsFit t w₀) where
-  pub lasts_need : Lasts t w₀ heads w i → i < t → LinkRoom t i 2 w × (length heads ≡ 8192)
-  lasts_need a l = (
-    record {
-      less = l;
-      part = omega arith;
-      some = omega arith;
-      much = fit.much;
-      room = omega (arith, fit.room, a.written.long);
-      key = omega (arith, fit.keys i l, tags_stay a.written (omega arith) (omega arith) i);
-    },
-    a.long,
-  )
-
   pub lasts_more : Lasts t w₀ heads w i → i < t → (v : ℕ) → v ≡ i + 1 → {heads' w' : List ℕ} → LinkedEvent t i 2 v heads w heads' w' → Lasts t w₀ heads' w' (i + 1)
   unfolding last_by
   lasts_more a l v e {heads'} {w'} q =
@@ -279,19 +252,6 @@ module _ {t i : ℕ} {w₀ heads w : List ℕ} (fit : TagsFit t w₀) where
         written = subst (λ (z : List ℕ). Written t 2 (last_by T) 0 (i + 1) w₀ z) (sym ew) (written_up a.written x ex (omega (arith, fit.room, a.written.long)));
         heads = link_heads fit l stay q A B (last_by T) a.long a.heads refl here else;
       }
-
-  pub nexts_need : Nexts t w₀ heads w (i + 1) → LinkRoom t i 1 w × (length heads ≡ 8192)
-  nexts_need a = let m = a.most in (
-    record {
-      less = omega arith;
-      part = omega arith;
-      some = omega arith;
-      much = fit.much;
-      room = omega (arith, fit.room, a.written.long);
-      key = omega (arith, fit.keys i (omega arith), tags_stay a.written (omega arith) (omega arith) i);
-    },
-    a.long,
-  )
 
   pub nexts_more : Nexts t w₀ heads w (i + 1) → (v : ℕ) → v ≡ i → {heads' w' : List ℕ} → LinkedEvent t i 1 v heads w heads' w' → Nexts t w₀ heads' w' i
   unfolding next_by

@@ -19,15 +19,13 @@ fn put_ends(n: usize, a: &[u16], b: &[u16], x: u16, y: u16, i: usize, work: &mut
         set (set work.old (2 * i) (ends n (pairs a.now b.now) (x, y)).0)
         (2 * i + 1) (ends n (pairs a.now b.now) (x, y)).1 }
 {
-    let asks = call_kinds::is_query(x, n);
-    if asks {
-        work[2 * i] = x as u32;
-        work[2 * i + 1] = y as u32;
-        return;
-    }
-    let s = y as usize;
-    work[2 * i] = a[s] as u32;
-    work[2 * i + 1] = b[s] as u32;
+    let (near, far) = if call_kinds::is_query(x, n) {
+        (x, y)
+    } else {
+        (a[y as usize], b[y as usize])
+    };
+    work[2 * i] = near as u32;
+    work[2 * i + 1] = far as u32;
 }
 
 // Those of all events.
@@ -36,13 +34,9 @@ fn put_junctions(n: usize, a: &[u16], b: &[u16], x: &[u16], y: &[u16], work: &mu
     ensures { work.new ≡
         sets work.old 0 (active_of n (pairs a.now b.now) (pairs x.now y.now)) }
 {
-    let mut i: usize = 0;
     // The junctions of the first i events are written.
-    while i < x.len() {
-        let event_x = x[i];
-        let other = y[i];
-        put_ends(n, a, b, event_x, other, i, work);
-        i += 1;
+    for (i, &event_x) in x.iter().enumerate() {
+        put_ends(n, a, b, event_x, y[i], i, work);
     }
 }
 
@@ -51,6 +45,7 @@ fn link_event(work: &mut [u32], heads: &mut [u32; 8192], t: usize, i: usize, k: 
     requires { LinkRoom t i k work.old × (length heads.old ≡ 8192) }
     ensures { LinkedEvent t i k v heads.old work.old heads.new work.new }
 {
+    // Kept: fixed memory needs it: tags and links are words of the work table, where 0 stands for none.
     let tag = work[2 * t + 3 * i] as usize;
     if tag == 0 {
         work[2 * t + 3 * i + k] = 0;
@@ -67,14 +62,11 @@ fn link_lasts(work: &mut [u32], t: usize)
     requires { TagsFit t work.old }
     ensures { Written t 2 (last_by (tags_in t work.old)) 0 t work.old work.new }
 {
+    // Kept: fixed memory needs it: a head for each of 8,192 keys stands in a local table.
     let mut heads = [0u32; 8192];
-    let mut i: usize = 0;
-    let mut v: u32 = 0;
-    // The first i events are linked, and v is i.
-    while i < t {
-        v += 1;
-        link_event(work, &mut heads, t, i, 2, v);
-        i += 1;
+    // The first i events are linked.
+    for i in 0..t {
+        link_event(work, &mut heads, t, i, 2, (i + 1) as u32);
     }
 }
 
@@ -83,14 +75,11 @@ fn link_nexts(work: &mut [u32], t: usize)
     requires { TagsFit t work.old }
     ensures { Written t 1 (next_by (tags_in t work.old) t) 0 t work.old work.new }
 {
-    let mut v = t as u32;
-    let mut heads = [v; 8192];
-    let mut i = t;
-    // The events from i on are linked, and v is i.
-    while i > 0 {
-        i -= 1;
-        v -= 1;
-        link_event(work, &mut heads, t, i, 1, v);
+    // Kept: fixed memory needs it: a head for each of 8,192 keys stands in a local table.
+    let mut heads = [t as u32; 8192];
+    // The events behind i are linked.
+    for i in (0..t).rev() {
+        link_event(work, &mut heads, t, i, 1, i as u32);
     }
 }
 
@@ -117,29 +106,13 @@ pub fn write_events(
     link_nexts(work, t);
 }
 
-// 1 for a query, else 0.
-fn one_if_query(x: u16, n: usize) -> usize
-    ensures { result ≡ cond (is_query (kind_of n x)) 1 0 }
-{
-    let asks = call_kinds::is_query(x, n);
-    if asks {
-        return 1;
-    }
-    0
-}
-
 // Internal: the queries among the first t events.
 pub fn count_queries(n: usize, x: &[u16], t: usize) -> usize
     requires { t ≤ length x.now }
     ensures { result ≡ queries_by n x.now t }
 {
-    let mut k: usize = 0;
-    let mut i: usize = 0;
-    // k of the first i events are queries.
-    while i < t {
-        let one = one_if_query(x[i], n);
-        k += one;
-        i += 1;
-    }
-    k
+    x[..t]
+        .iter()
+        .filter(|x| call_kinds::is_query(**x, n))
+        .count()
 }

@@ -7,16 +7,15 @@ ghost use Rattle.theory_timeline.specs.Tags.{bit};
 use call_kinds::Kind;
 
 // How many segments of a road are open after an event with this X that names one of them, where c are before.
+#[tactic(auto, unfolding(crate::specs::Tagging::count_after, call_kinds::specs::Kinds::is_closing))]
 pub(crate) fn count_after(x: u16, n: usize, c: usize) -> usize
     requires { (c ≤ 12288) × (is_closing (kind_of n x) ≡ true → 0 < c) }
     ensures { (result ≡ count_after (kind_of n x) c) × (result ≤ 12289) }
 {
-    let kind = call_kinds::kind_of(x, n);
-    match kind {
-        Kind::Query => c,
+    match call_kinds::kind_of(x, n) {
+        Kind::Query | Kind::None => c,
         Kind::Opens => c + 1,
         Kind::Closes => c - 1,
-        Kind::None => c,
     }
 }
 
@@ -24,10 +23,7 @@ pub(crate) fn count_after(x: u16, n: usize, c: usize) -> usize
 pub(crate) fn sign(c: usize) -> usize
     ensures { (result ≡ bit (ltb 0 c)) × (result ≤ 1) }
 {
-    if c == 0 {
-        return 0;
-    }
-    1
+    usize::from(c > 0)
 }
 
 // The tag of an event that names a segment of road r, where c of its segments are open before it and d after it.
@@ -72,8 +68,7 @@ pub(crate) fn put_tag(
     requires { TagReady n x s names counts at work.old }
     ensures { TagPut n x s names counts at work.old work.new }
 {
-    let asks = call_kinds::is_query(x, n);
-    if asks {
+    if call_kinds::is_query(x, n) {
         work[at] = 0;
         return;
     }
@@ -93,12 +88,16 @@ pub(crate) fn put_tags(
     ensures { Tagged n x.now y.now names counts work.old work.new (length x.now) }
 {
     let t = x.len();
-    let mut i: usize = 0;
     // The tags of the first i events are written, and the counts are those before event i.
-    while i < t {
-        let event_x = x[i];
-        let s = y[i] as usize;
-        put_tag(n, event_x, s, names, counts, 2 * t + 3 * i, work);
-        i += 1;
+    for (i, &event_x) in x.iter().enumerate() {
+        put_tag(
+            n,
+            event_x,
+            y[i] as usize,
+            names,
+            counts,
+            2 * t + 3 * i,
+            work,
+        );
     }
 }

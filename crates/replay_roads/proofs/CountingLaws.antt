@@ -1,16 +1,15 @@
 -- Laws of the counts of the starting table: one more segment, by names; one more segment is counted in the words; the whole.
 -- Assumes nothing.
 use Prim.Native.Nat.{◌*◌, ◌+◌, ◌<◌, ◌≤◌, suc, zero, ℕ}
-use mathlib.Core.Bool.{Bool, ◌&&◌, and-false, cond, false, true}
+use mathlib.Core.Bool.{Bool, ◌&&◌, and-false, false, true}
 use mathlib.Core.List.{List}
-use mathlib.Core.Path.{◌∙◌, ◌≡◌, ap, ap₂, refl, subst, sym}
+use mathlib.Core.Path.{◌∙◌, ◌≡◌, ap, ap₂, refl, sym}
 use lib.Dec.{eqb}
-use lib.ListN.{get_or, length, set}
+use lib.ListN.{get_or, length}
 use native.Mathlib.Numerals.{add-one}
 use native.Mathlib.Omega.{arith}
 use borrow.Author.Tests.{eq-eqb, ne_eqb}
 use Rattle.core_words.proofs.FieldLaws.{update_at}
-use Rattle.theory_graph.proofs.Booleans.{on_bool}
 use Rattle.theory_graph.specs.Lists.{filter, pairs, range}
 use Rattle.theory_timeline.proofs.Acceptance.{pairs_equal}
 use Rattle.theory_timeline.proofs.Counting.{count_most, count_suc}
@@ -20,7 +19,7 @@ use Rattle.theory_timeline.specs.Roads.{road}
 use Rattle.theory_timeline.specs.Tags.{bit, open_segments}
 use Rattle.theory_timeline.specs.Windows.{at_start}
 use Rattle.replay_roads.proofs.RunLaws.{stored}
-use Rattle.replay_roads.specs.Counting.{CanCount, Counting, RoadTables, RoadsCounted, count_open, counted}
+use Rattle.replay_roads.specs.Counting.{CanCount, Counting, RoadTables, RoadsCounted, count_open, one_more}
 use Rattle.replay_roads.specs.Naming.{RoadsNamed}
 use Rattle.replay_roads.specs.Runs.{Filled, run}
 
@@ -62,7 +61,7 @@ module _ {start : List ℕ} {q s : ℕ} {w z : List ℕ} (g : Counting start q w
   name_fits : run q z s < length start
   name_fits = omega (arith, g.names s l, g.fits s l)
 
-  pub can_count : CanCount start q s z
+  pub can_count : CanCount (length start) q s z
   can_count = record {
     room = omega (arith, g.room, g.long);
     less = l;
@@ -70,8 +69,9 @@ module _ {start : List ℕ} {q s : ℕ} {w z : List ℕ} (g : Counting start q w
     count = omega (arith, g.much, g.counts (run q z s) name_fits, open_most (at_start start) (run q w) s (run q z s));
   }
 
-  counting_open : {z' : List ℕ} → at_start start s ≡ true → z' ≡ set z (q + length start + run q z s) (run (q + length start) z (run q z s) + 1) → Counting start q w z' (s + 1)
-  counting_open {z'} o e =
+  pub counting_open : {z' : List ℕ} → get_or start s 0 ≡ 1 → z' ≡ one_more (length start) q s z → Counting start q w z' (s + 1)
+  counting_open {z'} one e =
+      let o : at_start start s ≡ true = eq-eqb (get_or start s 0) 1 one in
       let i = g.room in
       let k = name_fits in
       let p = stored (q + length start) (run q z s) (run (q + length start) z (run q z s) + 1) z e (omega (arith, g.long)) in
@@ -88,39 +88,16 @@ module _ {start : List ℕ} {q s : ℕ} {w z : List ℕ} (g : Counting start q w
             (λ u ne d. g.counts u d ∙ sym (open_other (at_start start) (run q w) s u (λ y. ne (y ∙ sym (g.names s l))))) u d;
       }
 
-  counting_closed : {z' : List ℕ} → at_start start s ≡ false → z' ≡ z → Counting start q w z' (s + 1)
-  counting_closed o e = rw e (record {
+  pub counting_closed : ¬ (get_or start s 0 ≡ 1) → Counting start q w z (s + 1)
+  counting_closed n = record {
     much = g.much;
     most = omega arith;
     room = g.room;
     fits = g.fits;
     long = g.long;
     names = g.names;
-    counts = λ u i. g.counts u i ∙ sym (open_closed (at_start start) (run q w) s u o);
-  })
-
-  pub counting_more : {z' : List ℕ} → z' ≡ counted start q s z → Counting start q w z' (s + 1)
-  counting_more {z'} e = on_bool (at_start start s) (λ o. counting_open o (rw o at e)) (λ o. counting_closed o (rw o at e))
-
-pub counting_at : {start : List ℕ} {q k : ℕ} {w z : List ℕ} (j : ℕ) → k ≡ j → Counting start q w z k → Counting start q w z j
-counting_at j e g = rw e at g
-
--- ---- the words that the code reads and writes
-module _ {start : List ℕ} {q s r : ℕ} {w : List ℕ} (g : CanCount start q s w) (er : r ≡ get_or w (q + s) 0) where
-  pub name_found : r < length start
-  name_found = omega (arith, g.name)
-
-  module _ {c : ℕ} (ec : c ≡ get_or w (q + length start + r) 0) where
-    pub count_found : c < 8192
-    count_found = subst (λ (x : ℕ). x < 8192) (sym (ec ∙ ap (λ (x : ℕ). get_or w (q + length start + x) 0) er)) g.count
-
-    pub segment_counted : {z : List ℕ} → get_or start s 0 ≡ 1 → z ≡ set w (q + length start + r) (c + 1) → z ≡ counted start q s w
-    segment_counted {z} o e = e
-        ∙ ap₂ (λ (x y : ℕ). set w (q + length start + x) (y + 1)) er (ec ∙ ap (λ (x : ℕ). get_or w (q + length start + x) 0) er)
-        ∙ sym (ap (λ (b : Bool). cond b (set w (q + length start + run q w s) (run (q + length start) w (run q w s) + 1)) w) (eq-eqb (get_or start s 0) 1 o))
-
-pub segment_closed : (start : List ℕ) (q s : ℕ) (w : List ℕ) → (get_or start s 0 ≡ 1 → ⊥) → w ≡ counted start q s w
-segment_closed start q s w n = sym (ap (λ (b : Bool). cond b (set w (q + length start + run q w s) (run (q + length start) w (run q w s) + 1)) w) (ne_eqb (get_or start s 0) 1 n))
+    counts = λ u i. g.counts u i ∙ sym (open_closed (at_start start) (run q w) s u (ne_eqb (get_or start s 0) 1 n));
+  }
 
 -- ---- the whole
 -- the names stand, and the counts are 0

@@ -1,36 +1,35 @@
 -- Laws of the words of the roads: the ends of a segment as the tables have them; nothing is threaded; one more segment is threaded; one more is named; along
 -- a thread; the whole.
 -- Assumes nothing.
-use Prim.Native.Nat.{◌*◌, ◌+◌, ◌<◌, ◌≤◌, max, min, ℕ}
+use Prim.Native.Nat.{◌*◌, ◌+◌, ◌-◌, ◌<◌, ◌≤◌, max, min, ℕ}
+use mathlib.Core.Bool.{Bool, cond}
 use mathlib.Core.List.{List}
-use mathlib.Core.Path.{◌∙◌, ◌≡◌, ap}
+use mathlib.Core.Path.{◌∙◌, ◌≡◌, ap, refl, sym}
+use lib.Dec.{ltb}
 use lib.ListN.{get_or, length, set}
 use native.Mathlib.Omega.{arith}
+use borrow.Author.Tests.{lt-ltb, ltb-false, ltb-true}
+use Rattle.std.proofs.Common.{None, Option, Some}
+use Rattle.std.specs.Option.{IfSome, unwrap_or}
 use Rattle.core_words.specs.Fields.{update}
+use Rattle.theory_graph.proofs.Booleans.{on_bool}
 use Rattle.theory_graph.proofs.TableLaws.{pairs_at}
 use Rattle.theory_graph.specs.Graph.{Edge}
 use Rattle.theory_graph.specs.Lists.{pairs}
-use Rattle.replay_roads.proofs.NamingLaws.{naming_found, naming_new, naming_next, naming_none, naming_on, naming_same, threads_more, threads_none, threads_same}
+use Rattle.replay_roads.proofs.NamingLaws.{naming_found, naming_new, naming_none, naming_on, naming_same, threads_more, threads_none, threads_same}
 use Rattle.replay_roads.proofs.RunLaws.{stored, stored_two}
-use Rattle.replay_roads.specs.Naming.{FirstFrom, RoadWords, RoadsNamed, SegmentTables, high, low}
+use Rattle.replay_roads.specs.Naming.{FirstFrom, RoadWords, RoadsNamed, SegmentTables, high, low, segment_or_none}
 use Rattle.replay_roads.specs.Runs.{Filled, run}
 
 -- ---- the ends of segment s
 module _ (a b : List ℕ) (s : ℕ) (k : s < length a) (l : s < length b) where
-  low_at : low (pairs a b) s ≡ min (get_or a s 0) (get_or b s 0)
+  pub low_at : low (pairs a b) s ≡ min (get_or a s 0) (get_or b s 0)
   unfolding low
   low_at = ap (λ (e : Edge). min e.0 e.1) (pairs_at a b s k l)
 
-  high_at : high (pairs a b) s ≡ max (get_or a s 0) (get_or b s 0)
+  pub high_at : high (pairs a b) s ≡ max (get_or a s 0) (get_or b s 0)
   unfolding high
   high_at = ap (λ (e : Edge). max e.0 e.1) (pairs_at a b s k l)
-
-  -- the first is the lower one, or the second
-  pub ends_fore : get_or a s 0 ≤ get_or b s 0 → (get_or a s 0 ≡ low (pairs a b) s) × (get_or b s 0 ≡ high (pairs a b) s)
-  ends_fore h = (omega (arith, low_at), omega (arith, high_at))
-
-  pub ends_back : get_or b s 0 ≤ get_or a s 0 → (get_or b s 0 ≡ low (pairs a b) s) × (get_or a s 0 ≡ high (pairs a b) s)
-  ends_back h = (omega (arith, low_at), omega (arith, high_at))
 
 module _ {n : ℕ} {a b : List ℕ} (k : SegmentTables n a b) (s : ℕ) (l : s < length a) where
   b_fits : s < length b
@@ -115,37 +114,45 @@ module _ {n q v s h : ℕ} {a b w : List ℕ} (g : RoadWords n a b q w 0 v s) (l
               (naming_new g.naming l ev (high_fits g.tables s l) (rw first_is at none));
         }
 
+-- ---- the segment that a word names
+pub some_named : {m s x : ℕ} → segment_or_none m s ≡ Some x → (x ≡ s) × (s < m)
+some_named {m} {s} {x} e = on_bool (ltb s m)
+    (λ t. let g : Some s ≡ Some x = ap (λ (b : Bool). cond b (Some s) None) (sym t) ∙ e in (cc, ltb-true s m t))
+    (λ t. let g : None ≡ Some x = ap (λ (b : Bool). cond b (Some s) None) (sym t) ∙ e in cc)
+
+pub none_named : {m s : ℕ} → segment_or_none m s ≡ None → ¬ (s < m)
+none_named {m} {s} e l = let g : Some s ≡ None = ap (λ (b : Bool). cond b (Some s) None) (sym (lt-ltb s m l)) ∙ e in cc
+
+named_word : {m s : ℕ} → s ≤ m → unwrap_or (segment_or_none m s) m ≡ s
+named_word {m} {s} l = on_bool (ltb s m) (λ t. rw t refl) (λ t. let e : s ≡ m = omega (arith, ltb-false s m t) in rw t (sym e))
+
 -- ---- along a thread
--- in a loop: the segments of the thread before s are named, and s is the next of it, or the number of segments
-pub record Along (n : ℕ) (a b : List ℕ) (q : ℕ) (w : List ℕ) (v s : ℕ) : Type 0 where
-  pub words : RoadWords n a b q w 0 v s
-  pub at : s < length a → low (pairs a b) s ≡ v
+-- in a loop: the segments of the thread before `next` are named, and `next` is the next of it
+pub record Along (n : ℕ) (a b : List ℕ) (q : ℕ) (w : List ℕ) (v : ℕ) (next : Option ℕ) : Type 0 where
+  pub words : RoadWords n a b q w 0 v (unwrap_or next (length a))
+  pub at : IfSome next (λ s. (s < length a) × (low (pairs a b) s ≡ v))
 
-along : {n q v k s : ℕ} {a b w : List ℕ} → RoadWords n a b q w 0 v k → FirstFrom (low (pairs a b)) v k (length a) s → Along n a b q w v s
-along g f = record {
-  words = record { tables = g.tables; room = g.room; threads = g.threads; naming = naming_on g.naming f };
-  at = f.at;
-}
+along : {n q v k s : ℕ} {a b w : List ℕ} → RoadWords n a b q w 0 v k → FirstFrom (low (pairs a b)) v k (length a) s → Along n a b q w v (segment_or_none (length a) s)
+along {n} {q} {v} {k} {s} {a} {b} {w} g f =
+    let words : RoadWords n a b q w 0 v s = record { tables = g.tables; room = g.room; threads = g.threads; naming = naming_on g.naming f } in
+    on_bool (ltb s (length a))
+    (λ t. let l = ltb-true s (length a) t in rw t (record { words = words; at = (l, f.at l) }))
+    (λ t. let e : s ≡ length a = omega (arith, f.most, ltb-false s (length a) t) in rw t (record { words = rw e at words; at = tt }))
 
-pub along_start : {n q v s : ℕ} {a b w : List ℕ} → RoadWords n a b q w 0 v 0 → v < n → s ≡ get_or w (q + length a + v) 0 → Along n a b q w v s
-along_start {n} {q} {v} {s} g l e = along g (rw e (g.threads.heads v l))
+along_at : {n q v s : ℕ} {a b w : List ℕ} {next : Option ℕ} → Along n a b q w v next → next ≡ Some s
+    → RoadWords n a b q w 0 v s × (s < length a) × (low (pairs a b) s ≡ v)
+along_at g i = let (l, at) = rw i at g.at in (rw i at g.words, l, at)
 
-pub along_more : {n q v s t : ℕ} {a b w z : List ℕ} → Along n a b q w v s → s < length a → RoadWords n a b q z 0 v (s + 1) → t ≡ get_or z (q + length a + 2 * n + s) 0
-    → Along n a b q z v t × (s < t)
-along_more {n} {q} {v} {s} {t} {a} {b} {w} {z} g l h e =
-    let f : FirstFrom (low (pairs a b)) v (s + 1) (length a) t = rw (e, ← g.at l) (h.threads.links s (omega arith) l) in
-    (along h f, omega (arith, f.past))
-
-pub along_end : {n q v s : ℕ} {a b w : List ℕ} → Along n a b q w v s → length a ≤ s → RoadWords n a b q w 0 (v + 1) 0
-along_end g l = let h = g.words in record { tables = h.tables; room = h.room; threads = h.threads; naming = naming_next h.naming l }
+pub along_more : {n q v s : ℕ} {a b w z : List ℕ} {next after : Option ℕ} → Along n a b q w v next → next ≡ Some s → RoadWords n a b q z 0 v (s + 1)
+    → after ≡ segment_or_none (length a) (get_or z (q + length a + 2 * n + s) 0)
+    → Along n a b q z v after × (length a - unwrap_or after (length a) < length a - unwrap_or next (length a))
+along_more {n} {q} {v} {s} {a} {b} {w} {z} {next} {after} g i h e =
+    let (_, l, at) = along_at g i in
+    let t = get_or z (q + length a + 2 * n + s) 0 in
+    let f : FirstFrom (low (pairs a b)) v (s + 1) (length a) t = rw (← at) (h.threads.links s (omega arith) l) in
+    let k : unwrap_or (segment_or_none (length a) t) (length a) ≡ t = named_word f.most in
+    (rw e (along h f), rw (e, i, k) (omega (arith, f.past)))
 
 -- ---- the whole
--- at another number, which is equal
-pub threaded_at : {n q s : ℕ} {a b w : List ℕ} (t : ℕ) → s ≡ t → RoadWords n a b q w s 0 0 → RoadWords n a b q w t 0 0
-threaded_at t e g = rw e at g
-
-pub walked_at : {n q v : ℕ} {a b w : List ℕ} (u : ℕ) → v ≡ u → RoadWords n a b q w 0 v 0 → RoadWords n a b q w 0 u 0
-walked_at u e g = rw e at g
-
 pub roads_named : {n q : ℕ} {a b w z : List ℕ} → length z ≡ length w → RoadWords n a b q z 0 n 0 → RoadsNamed a b q w z
 roads_named e g = record { long = e; names = λ s l. g.naming.lower s l (low_fits g.tables s l) }

@@ -1,16 +1,16 @@
--- Laws of runs: one store changes one run at one place, and no other run; two stores in two runs; filling.
+-- Laws of runs: one store changes one run at one place, and no other run; two stores in two runs.
 -- Assumes nothing.
 use Prim.Native.Nat.{◌+◌, ◌<◌, ℕ}
 use mathlib.Core.Bool.{cond}
 use mathlib.Core.List.{List}
-use mathlib.Core.Path.{◌∙◌, ◌≡◌, ap, refl, sym}
+use mathlib.Core.Path.{◌∙◌, ◌≡◌, ap, sym}
 use lib.Dec.{eqb}
 use lib.ListN.{get_or, length, length-set, set}
 use lib.Seq.{get_or-set_other, get_or-set_same}
 use native.Mathlib.Omega.{arith}
 use Rattle.core_words.proofs.FieldLaws.{update_at}
 use Rattle.core_words.specs.Fields.{update}
-use Rattle.replay_roads.specs.Runs.{Filled, run}
+use Rattle.replay_roads.specs.Runs.{run}
 
 -- ---- one store
 -- word i of the run at f becomes x
@@ -46,19 +46,3 @@ stored_two f i x g j y w {w₁} e₁ e₂ k l =
       second = λ u n. r.here u ∙ ap (cond (eqb u j) y) (p.else g u n);
       else = λ h u n o. r.else h u o ∙ p.else h u n;
     }
-
--- ---- filling
-pub filled_none : (f x : ℕ) (w : List ℕ) → Filled f 0 x w w
-filled_none f x w = record { long = refl; here = λ i l. absurd (omega arith); front = λ d l. refl }
-
-pub filled_more : {f k x : ℕ} {w z z' : List ℕ} → Filled f k x w z → f + k < length w → z' ≡ set z (f + k) x → Filled f (k + 1) x w z'
-filled_more {f} {k} {x} {w} {z} {z'} g l e =
-    let p = stored f k x z e (omega (arith, g.long)) in
-    record {
-      long = p.long ∙ g.long;
-      here = λ i h. p.here i ∙ update_at (λ i y. i < k + 1 → y ≡ x) (run f z) k x (λ _. refl) (λ i n h. g.here i (omega arith)) i h;
-      front = λ d h. ap (λ (u : List ℕ). get_or u d 0) e ∙ get_or-set_other z (f + k) d x 0 (λ p. omega arith) ∙ g.front d h;
-    }
-
-pub filled_all : {f k x : ℕ} {w z : List ℕ} (c : ℕ) → k ≡ c → Filled f k x w z → Filled f c x w z
-filled_all c e g = rw e at g

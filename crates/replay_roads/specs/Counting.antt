@@ -1,7 +1,7 @@
 -- The segments of each road that are open at the start are counted in one pass over the starting table, by the names of the roads. From place q on stand the names,
 -- and behind them the counts. In order: the whole; one segment; the pass.
 -- Assumes nothing: these are definitions.
-use Rattle.std.specs.Prelude.{◌*◌, ◌+◌, ◌<◌, ◌≤◌, ℕ, ◌&&◌, cond, List, ◌≡◌, eqb, get_or, length, set}
+use Rattle.std.specs.Prelude.{◌*◌, ◌+◌, ◌<◌, ◌≤◌, ℕ, ◌&&◌, List, ◌≡◌, eqb, get_or, length, set}
 use Rattle.theory_graph.specs.Lists.{filter, pairs, range}
 use Rattle.theory_timeline.specs.Events.{SegmentSet}
 use Rattle.theory_timeline.specs.Roads.{road}
@@ -23,16 +23,16 @@ pub record RoadsCounted (a b start : List ℕ) (q : ℕ) (w z : List ℕ) : Type
   pub counts : (r : ℕ) → r < length a → get_or z (q + length a + r) 0 ≡ open_segments (pairs a b) (at_start start) r
 
 -- ---- one segment
--- segment s has a name, whose count may grow
-pub record CanCount (start : List ℕ) (q s : ℕ) (w : List ℕ) : Type 0 where
-  pub room : q + 2 * length start ≤ length w
-  pub less : s < length start
-  pub name : run q w s < length start
-  pub count : run (q + length start) w (run q w s) < 8192
+-- segment s, of m segments, has a name, whose count may grow
+pub record CanCount (m q s : ℕ) (w : List ℕ) : Type 0 where
+  pub room : q + 2 * m ≤ length w
+  pub less : s < m
+  pub name : run q w s < m
+  pub count : run (q + m) w (run q w s) < 8192
 
--- the words with segment s counted, where it is open at the start
-abbrev pub counted : List ℕ → ℕ → ℕ → List ℕ → List ℕ
-counted start q s w = cond (at_start start s) (set w (q + length start + run q w s) (run (q + length start) w (run q w s) + 1)) w
+-- the words with segment s counted: one more of its road
+abbrev pub one_more : ℕ → ℕ → ℕ → List ℕ → List ℕ
+one_more m q s w = set w (q + m + run q w s) (run (q + m) w (run q w s) + 1)
 
 -- ---- the pass
 -- of the first k segments, how many of o have the name r

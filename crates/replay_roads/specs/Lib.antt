@@ -1,3 +1,4 @@
 pub mod Runs
 pub mod Naming
+pub mod InWords
 pub mod Counting

@@ -2,7 +2,7 @@
 -- turn, the thread of v is walked, and for each higher end h the first segment from v to h is kept: it is the name of every later segment with these ends.
 -- In order: ends; threads; names; both in the words; the names alone. The number m of the segments stands for 'no segment'.
 -- Assumes nothing: these are definitions.
-use Rattle.std.specs.Prelude.{◌*◌, ◌+◌, ◌<◌, ◌≤◌, max, min, ℕ, List, ◌≡◌, get_or, length}
+use Rattle.std.specs.Prelude.{◌*◌, ◌+◌, ◌<◌, ◌≤◌, max, min, ℕ, List, Option, None, Some, ◌≡◌, cond, get_or, length, ltb}
 use Rattle.theory_graph.specs.Graph.{Edge}
 use Rattle.theory_graph.specs.Lists.{pairs}
 use Rattle.theory_timeline.specs.Roads.{road}
@@ -45,6 +45,10 @@ pub record Naming (segs : List Edge) (n m v k : ℕ) (name first : ℕ → ℕ) 
   pub fits : (h : ℕ) → h < n → first h < m → (high segs (first h) ≡ h) × (road segs (first h) ≡ first h)
 
 -- ---- in the words
+-- the segment that a word s names, of m segments
+abbrev pub segment_or_none : ℕ → ℕ → Option ℕ
+segment_or_none m s = cond (ltb s m) (Some s) None
+
 -- from place q on: the names, n heads, n firsts, and the links
 pub record RoadWords (n : ℕ) (a b : List ℕ) (q : ℕ) (w : List ℕ) (s v k : ℕ) : Type 0 where
   pub tables : SegmentTables n a b

@@ -4,15 +4,26 @@
 
 ghost use Rattle.std.specs.Prelude.{◌≡◌, ◌+◌, ◌*◌, ◌<◌, ◌≤◌, length, get_or, set};
 ghost use Rattle.theory_graph.specs.Lists.{pairs};
-ghost use Rattle.replay_roads.specs.Counting.{CanCount, Counting, RoadTables, RoadsCounted, counted};
-ghost use Rattle.replay_roads.specs.Naming.{RoadWords, RoadsNamed, SegmentTables, high, low};
+ghost use Rattle.replay_roads.specs.Counting.{CanCount, Counting, RoadTables, RoadsCounted, one_more};
+ghost use Rattle.replay_roads.specs.Naming.{RoadsNamed, SegmentTables, high, low, segment_or_none};
+ghost use Rattle.replay_roads.specs.InWords.{InWords};
 ghost use Rattle.replay_roads.specs.Runs.{Filled};
 
 // Internal: the two ends of a segment, in ascending order: those of a road are the same whichever of its segments they are read from.
-#[derive(Drop)]
+#[derive(Clone, Copy)]
 pub struct Ends {
     pub low: usize,
     pub high: usize,
+}
+
+// The segments of a network of n junctions, by the tables of their ends, and the place from which on the words of their roads stand in the work table.
+// Kept: with the words in it too it is no plainer: each method would have to say, in a clause more, that they stay the same reference.
+#[derive(Clone, Copy)]
+struct Roads<'a> {
+    n: usize,
+    a: &'a [u16],
+    b: &'a [u16],
+    place: usize,
 }
 
 // The word at place p becomes x.
@@ -28,10 +39,17 @@ fn fill(work: &mut [u32], f: usize, k: usize, x: usize)
     requires { (f + k ≤ length work.old) × (x < 4294967296) }
     ensures { Filled f k x work.old work.new }
 {
-    // The first i of them are x.
-    for i in 0..k {
-        put(work, f + i, x);
-    }
+    work[f..f + k].fill(x as u32);
+}
+
+// The segment that the word at place p names, of m segments.
+// Kept: fixed memory needs it: heads, firsts and links are words of the work table, in which the number m of the segments stands for none.
+fn segment_at(work: &[u32], p: usize, m: usize) -> Option<usize>
+    requires { p < length work.now }
+    ensures { result ≡ segment_or_none m (get_or work.now p 0) }
+{
+    let s = core_words::word(work, p);
+    (s < m).then_some(s)
 }
 
 // Internal: the ends of segment s.
@@ -41,108 +59,101 @@ pub fn ends_of(a: &[u16], b: &[u16], s: usize) -> Ends
 {
     let x = a[s] as usize;
     let y = b[s] as usize;
-    if x < y {
-        return Ends { low: x, high: y };
-    }
-    Ends { low: y, high: x }
-}
-
-// Segment s becomes the first of the thread of its lower end.
-fn thread_segment(n: usize, a: &[u16], b: &[u16], work: &mut [u32], q: usize, s: usize)
-    requires { RoadWords n a.now b.now q work.old (s + 1) 0 0 × (s < length a.now) }
-    ensures { RoadWords n a.now b.now q work.new s 0 0 }
-{
-    let m = a.len();
-    let ends = ends_of(a, b, s);
-    let v = ends.low;
-    let next = core_words::word(work, q + m + v);
-    put(work, q + m + 2 * n + s, next);
-    put(work, q + m + v, s);
-}
-
-// All segments are threaded, in descending order, so that each is followed by the next larger one with its lower end.
-fn thread(n: usize, a: &[u16], b: &[u16], work: &mut [u32], q: usize)
-    requires { RoadWords n a.now b.now q work.old (length a.now) 0 0 }
-    ensures { RoadWords n a.now b.now q work.new 0 0 0 }
-{
-    let mut s = a.len();
-    // The segments from s on are threaded.
-    while s > 0 {
-        s -= 1;
-        thread_segment(n, a, b, work, q, s);
+    Ends {
+        low: x.min(y),
+        high: x.max(y),
     }
 }
 
-// Segment s, the next of the thread of v, gets its name: the first segment that has its higher end too, which is itself where no other was kept.
-// What was kept for another lower end does not count, so nothing is cleared between two threads.
-fn name_segment(n: usize, a: &[u16], b: &[u16], work: &mut [u32], q: usize, v: usize, s: usize)
-    requires { RoadWords n a.now b.now q work.old 0 v s × (s < length a.now) × (low (pairs a.now b.now) s ≡ v) }
-    ensures { RoadWords n a.now b.now q work.new 0 v (s + 1) }
-{
-    let m = a.len();
-    let ends = ends_of(a, b, s);
-    let h = ends.high;
-    let f = core_words::word(work, q + m + n + h);
-    if f < m {
-        let first = ends_of(a, b, f);
-        let u = first.low;
-        if u == v {
-            put(work, q + s, f);
-            return;
+impl Roads<'_> {
+    // Segment s becomes the first of the thread of its lower end.
+    #[tactic(auto, using(crate::proofs::RoadWordLaws::thread_fits))]
+    fn thread_segment(self, work: &mut [u32], s: usize)
+        requires { InWords self work.old (s + 1) 0 0 × (s < length self.a.now) }
+        ensures { InWords self.entry work.new s 0 0 }
+    {
+        let m = self.a.len();
+        let v = ends_of(self.a, self.b, s).low;
+        let next = core_words::word(work, self.place + m + v);
+        put(work, self.place + m + 2 * self.n + s, next);
+        put(work, self.place + m + v, s);
+    }
+
+    // All segments are threaded, in descending order, so that each is followed by the next larger one with its lower end.
+    fn thread(self, work: &mut [u32])
+        requires { InWords self work.old (length self.a.now) 0 0 }
+        ensures { InWords self.entry work.new 0 0 0 }
+    {
+        // The segments behind s are threaded.
+        for s in (0..self.a.len()).rev() {
+            self.thread_segment(work, s);
         }
     }
-    put(work, q + s, s);
-    put(work, q + m + n + h, s);
-}
 
-// All segments with the lower end v get their names, along their thread.
-fn walk(n: usize, a: &[u16], b: &[u16], work: &mut [u32], q: usize, v: usize)
-    requires { RoadWords n a.now b.now q work.old 0 v 0 × (v < n) }
-    ensures { RoadWords n a.now b.now q work.new 0 (v + 1) 0 }
-{
-    let m = a.len();
-    let mut s = core_words::word(work, q + m + v);
-    // The segments of the thread before s are named, and s is the next of it, or m.
-    while s < m {
-        name_segment(n, a, b, work, q, v, s);
-        s = core_words::word(work, q + m + 2 * n + s);
+    // Segment s, the next of the thread of v, gets its name: the first segment that has its higher end too, which is itself where no other was kept.
+    // What was kept for another lower end does not count, so nothing is cleared between two threads.
+    #[tactic(auto, using(crate::proofs::RoadWordLaws::name_fits))]
+    fn name_segment(self, work: &mut [u32], v: usize, s: usize)
+        requires { InWords self work.old 0 v s × (s < length self.a.now) × (low (pairs self.a.now self.b.now) s ≡ v) }
+        ensures { InWords self.entry work.new 0 v (s + 1) }
+    {
+        let m = self.a.len();
+        let kept = self.place + m + self.n + ends_of(self.a, self.b, s).high;
+        if let Some(first) = segment_at(work, kept, m) {
+            if ends_of(self.a, self.b, first).low == v {
+                put(work, self.place + s, first);
+                return;
+            }
+        }
+        put(work, self.place + s, s);
+        put(work, kept, s);
+    }
+
+    // All segments with the lower end v get their names, along their thread.
+    fn walk(self, work: &mut [u32], v: usize)
+        requires { InWords self work.old 0 v 0 × (v < self.n) }
+        ensures { InWords self.entry work.new 0 (v + 1) 0 }
+    {
+        let m = self.a.len();
+        let mut next = segment_at(work, self.place + m + v, m);
+        // The segments of the thread before `next` are named.
+        while let Some(s) = next {
+            self.name_segment(work, v, s);
+            next = segment_at(work, self.place + m + 2 * self.n + s, m);
+        }
+    }
+
+    // The threads of all junctions.
+    fn walk_all(self, work: &mut [u32])
+        requires { InWords self work.old 0 0 0 }
+        ensures { InWords self.entry work.new 0 self.entry.n 0 }
+    {
+        // The segments with a lower end below v are named.
+        for v in 0..self.n {
+            self.walk(work, v);
+        }
+    }
+
+    // The names of the roads, one word for each segment. Behind them are scratch: n heads, n firsts and a link for each segment.
+    fn name(self, work: &mut [u32])
+        requires { SegmentTables self.n self.a.now self.b.now × (self.place + 2 * length self.a.now + 2 * self.n ≤ length work.old) }
+        ensures { RoadsNamed self.entry.a.now self.entry.b.now self.entry.place work.old work.new }
+    {
+        let m = self.a.len();
+        fill(work, self.place + m, 2 * self.n, m);
+        self.thread(work);
+        self.walk_all(work);
     }
 }
 
-// The threads of all junctions.
-fn walk_all(n: usize, a: &[u16], b: &[u16], work: &mut [u32], q: usize)
-    requires { RoadWords n a.now b.now q work.old 0 0 0 }
-    ensures { RoadWords n a.now b.now q work.new 0 n 0 }
+// Segment s, which is open at the start, is counted for its road.
+fn count_segment(work: &mut [u32], q: usize, m: usize, s: usize)
+    requires { CanCount m q s work.old }
+    ensures { work.new ≡ one_more m q s work.old }
 {
-    // The segments with a lower end below v are named.
-    for v in 0..n {
-        walk(n, a, b, work, q, v);
-    }
-}
-
-// The names of the roads, one word for each segment from place q on. Behind them are scratch: n heads, n firsts and a link for each segment, where the number
-// of segments stands for none.
-fn name_roads(n: usize, a: &[u16], b: &[u16], work: &mut [u32], q: usize)
-    requires { SegmentTables n a.now b.now × (q + 2 * length a.now + 2 * n ≤ length work.old) }
-    ensures { RoadsNamed a.now b.now q work.old work.new }
-{
-    let m = a.len();
-    fill(work, q + m, 2 * n, m);
-    thread(n, a, b, work, q);
-    walk_all(n, a, b, work, q);
-}
-
-// Segment s is counted for its road where it is open at the start.
-fn count_segment(start: &[u16], work: &mut [u32], q: usize, s: usize)
-    requires { CanCount start.now q s work.old }
-    ensures { work.new ≡ counted start.now q s work.old }
-{
-    let m = start.len();
-    if start[s] == 1 {
-        let r = core_words::word(work, q + s);
-        let c = core_words::word(work, q + m + r);
-        put(work, q + m + r, c + 1);
-    }
+    let r = core_words::word(work, q + s);
+    let c = core_words::word(work, q + m + r);
+    put(work, q + m + r, c + 1);
 }
 
 // The counts of the starting table, behind the names and all 0 before.
@@ -151,8 +162,10 @@ fn count_start(start: &[u16], work: &mut [u32], q: usize)
     ensures { Counting start.now q work.old work.new (length start.now) }
 {
     // The first s segments are counted.
-    for s in 0..start.len() {
-        count_segment(start, work, q, s);
+    for (s, &entry) in start.iter().enumerate() {
+        if entry == 1 {
+            count_segment(work, q, start.len(), s);
+        }
     }
 }
 
@@ -163,7 +176,7 @@ pub fn count_roads(n: usize, a: &[u16], b: &[u16], start: &[u16], work: &mut [u3
     ensures { RoadsCounted a.now b.now start.now q work.old work.new }
 {
     let m = a.len();
-    name_roads(n, a, b, work, q);
+    Roads { n, a, b, place: q }.name(work);
     fill(work, q + m, m, 0);
     count_start(start, work, q);
 }

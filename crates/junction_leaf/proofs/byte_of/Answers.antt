@@ -1,24 +1,18 @@
--- Each way out is one case of the byte.
-use mathlib.Core.Path.{◌∙◌, sym}
+-- Written out, so that a wrong byte of nodes that no edge joins is refused by the fact that is false.
+use mathlib.Core.Path.{◌∙◌, refl, sym}
 use native.Mathlib.Omega.{arith}
-use Rattle.junction_leaf.proofs.JunctionLeafLaws.{byte_3, byte_equal, byte_near, byte_one, byte_zero}
+use borrow.Author.Tests.{eq-eqb, ne_eqb}
+use Rattle.junction_leaf.proofs.JunctionLeafLaws.{byte_apart}
 use Rattle.junction_leaf.proofs.byte_of.Goals as goal
-
-pub returns-then-work-ne0 : goal.returns-then-work-ne0
-returns-then-work-ne0 c = byte_3 c.args.m c.args.work.now (λ z. omega arith)
-
-pub returns-then-x-y : goal.returns-then-x-y
-returns-then-x-y c =
-    byte_equal c.args.m c.args.work.now (omega arith) (omega arith)
-
-pub returns-then-near : goal.returns-then-near
-returns-then-near c =
-    byte_near c.args.m c.args.work.now (omega arith) (λ z. omega arith) (sym c.joins-near.ensures ∙ c.if-near.true)
 
 pub returns-then-m-eq0 : goal.returns-then-m-eq0
 returns-then-m-eq0 c =
-    byte_zero c.args.m c.args.work.now (omega arith) (λ z. omega arith) (sym c.joins-near.ensures ∙ c.if-near.false) (omega arith)
+    let a = c.args in
+    let e = byte_apart a.m a.work.now (omega arith) c.if-x-y.false (sym c.joins.ensures ∙ c.if-joins.false) in
+    rw (e, eq-eqb a.m 0 c.if-m-eq0.true) refl
 
 pub returns : goal.returns
 returns c =
-    byte_one c.args.m c.args.work.now (omega arith) (λ z. omega arith) (sym c.joins-near.ensures ∙ c.if-near.false) (λ z. omega arith)
+    let a = c.args in
+    let e = byte_apart a.m a.work.now (omega arith) c.if-x-y.false (sym c.joins.ensures ∙ c.if-joins.false) in
+    rw (e, ne_eqb a.m 0 c.if-m-eq0.false) refl

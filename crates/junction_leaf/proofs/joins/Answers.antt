@@ -1,25 +1,18 @@
-use mathlib.Core.Path.{◌∙◌, ◌≡◌, ap, refl, sym}
-use native.Mathlib.Omega.{arith}
-use Rattle.theory_junctions.specs.Reply.{adjacent}
-use Rattle.junction_leaf.proofs.JunctionLeafLaws.{joins_none, joins_some}
-use Rattle.junction_leaf.specs.JunctionLeaf.{leaf_graph}
+-- The chain gives the edges of the area, and `any` asks each of them.
+use Rattle.std.proofs.Common.{◌∙◌, ap, rules, tests}
+use Rattle.std.specs.List.{list_any}
+use Rattle.std.proofs.lemmas.Iterator.{YieldsList-from_slice, YieldsList-from_zip}
+use Rattle.std.proofs.lemmas.Iterator.Search.{any_from_yields_List}
+use Rattle.std.specs.Slice.Iter.{iter_rest}
+use Rattle.junction_leaf.specs.JunctionLeaf.{hits}
+use Rattle.junction_leaf.proofs.JunctionLeafLaws.{area_edges, any_adjacent}
 use Rattle.junction_leaf.proofs.joins.Goals as goal
-
-pub loop-j-init : goal.loop-j-init
-loop-j-init c = (omega arith, refl)
-
-pub returns-then-near : goal.returns-then-near
-returns-then-near c =
-    let a = c.args in
-    sym (joins_some a.work.now a.x a.y a.m c.loop-j.j (omega arith) (sym c.meets-near.ensures ∙ c.if-near.true))
-
-pub loop-j-preserved : goal.loop-j-preserved
-loop-j-preserved c =
-    let a = c.args in
-    (omega arith, joins_none a.work.now a.x a.y c.loop-j.j c.loop-j.invariant.1 (sym c.meets-near.ensures ∙ c.if-near.false))
 
 pub returns : goal.returns
 returns c =
     let a = c.args in
-    let e : c.loop-j.j ≡ a.m = omega arith in
-    sym (ap (λ k. adjacent (leaf_graph k a.work.now) a.x a.y) (sym e) ∙ c.loop-j.invariant.1)
+    let z = c.zip.ensures in
+    any_from_yields_List (λ e. hits e a.x a.y) c.any.new.self _ _ c.any.ensures.ran
+    (YieldsList-from_zip (YieldsList-from_slice _ (ap iter_rest z.first ∙ c.iter.ensures.rest)) (YieldsList-from_slice _ z.second.0))
+    (λ x b q k. search (rules, tests))
+    ∙ ap (λ G. list_any (λ e. hits e a.x a.y) G) (area_edges a.m a.work.now c.requires.0 c.requires.1) ∙ any_adjacent _ a.x a.y

@@ -1,29 +1,15 @@
-use mathlib.Core.Path.{◌≡◌}
-use lib.ListN.{get_or}
-use native.Mathlib.Omega.{arith}
+-- The chain keeps the queries.
+use Rattle.std.proofs.Common.{◌∙◌, rules, tests}
+use Rattle.std.proofs.lemmas.Iterator.{YieldsList-from_slice}
+use Rattle.std.proofs.lemmas.Iterator.Consumers.{YieldsList-at, YieldsList-from_filter, count_from_yields_List}
 use Rattle.call_kinds.specs.Kinds.{is_query, kind_of}
-use Rattle.replay_events.proofs.KindLaws.{queries_more, queries_most, queries_none}
-use Rattle.theory_timeline.proofs.Counting.{bit_most}
+use Rattle.replay_events.proofs.KindLaws.{queries_kept}
 use Rattle.replay_events.proofs.count_queries.Goals as goal
 
-pub loop-i-init : goal.loop-i-init
-loop-i-init c = (omega arith, queries_none _ _)
-
-pub overflow_add-k : goal.overflow_add-k
-overflow_add-k c =
-    let l = c.loop-i in
-    omega (
-      arith,
-      queries_most c.args.n c.args.x.now l.i,
-      l.invariant.1,
-      c.one_if_query-one.ensures,
-      bit_most (is_query (kind_of c.args.n (get_or c.args.x.now l.i 0))),
-    )
-
-pub loop-i-preserved : goal.loop-i-preserved
-loop-i-preserved c =
-    let l = c.loop-i in
-    (omega arith, queries_more c.args.n c.args.x.now l.i _ _ l.invariant.1 c.one_if_query-one.ensures)
-
 pub returns : goal.returns
-returns c = let l = c.loop-i in let e : l.i ≡ c.args.t = omega arith in rw e at l.invariant.1
+returns c =
+    let a = c.args in
+    count_from_yields_List c.filter.result _ c.count.ensures.ran
+    (YieldsList-from_filter _ (λ x. is_query (kind_of a.n x)) (YieldsList-at c.filter.ensures.source (YieldsList-from_slice _ c.iter.ensures.rest)) c.filter.ensures.closure
+    (λ x r q k. search (rules, tests)))
+    ∙ queries_kept a.n a.x.now a.t c.requires

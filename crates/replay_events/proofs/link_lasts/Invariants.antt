@@ -1,11 +1,6 @@
 -- `link_lasts` meets its contract. The loop's invariant: the first i events have their words, and `heads` has one more than the last event before i of each key.
-use Prim.Native.Nat.{◌-◌}
-use mathlib.Core.Path.{◌≡◌}
 use Rattle.replay_events.proofs.WritingLaws.{Lasts}
 use Rattle.replay_events.proofs.link_lasts.Given as goal
 
 abbrev pub invariant-loop-i : goal.invariant-loop-i
-invariant-loop-i l = (l.v ≡ l.i) × Lasts l.t l.initial.work l.heads l.work l.i
-
-abbrev pub decreases-loop-i : goal.decreases-loop-i
-decreases-loop-i l = l.t - l.i
+invariant-loop-i l = Lasts l.t l.initial.work l.heads l.work l.i

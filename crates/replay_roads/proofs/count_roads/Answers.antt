@@ -4,8 +4,8 @@ use Rattle.replay_roads.proofs.count_roads.Goals as goal
 
 pub count_start-requires : goal.count_start-requires
 count_start-requires c =
-    count_start c.requires.0 c.requires.1 c.name_roads.ensures c.fill.ensures
+    count_start c.requires.0 c.requires.1 c.name.ensures c.fill.ensures
 
 pub returns : goal.returns
 returns c =
-    roads_counted c.requires.0 c.requires.1 c.name_roads.ensures c.fill.ensures c.count_start.ensures
+    roads_counted c.requires.0 c.requires.1 c.name.ensures c.fill.ensures c.count_start.ensures

@@ -1,10 +1,6 @@
 -- Event by event.
-use Prim.Native.Nat.{◌-◌, ◌≤◌}
 use Rattle.replay_events.specs.Tagging.{Tagged}
 use Rattle.replay_events.proofs.tags.put_tags.Given as goal
 
 abbrev pub invariant-loop-i : goal.invariant-loop-i
-invariant-loop-i l = (l.i ≤ l.t) × Tagged l.n l.x l.y l.names l.counts l.initial.work l.work l.i
-
-abbrev pub decreases-loop-i : goal.decreases-loop-i
-decreases-loop-i l = l.t - l.i
+invariant-loop-i l = Tagged l.n l.x l.y l.names l.counts l.initial.work l.work l.i
