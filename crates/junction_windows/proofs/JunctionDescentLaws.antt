@@ -26,7 +26,6 @@ use Rattle.replay_step.specs.Area.{WindowReadyOf}
 use Rattle.replay_step.specs.Reduction.{words_of}
 use Rattle.junction_step.proofs.JunctionStepLaws.{graph_table}
 use Rattle.junction_step.specs.JunctionArea.{JunctionArea, area_graph}
-use Rattle.junction_leaf.proofs.JunctionLeafLaws.{byte_3, byte_asked}
 use Rattle.junction_leaf.specs.JunctionLeaf.{byte_at, leaf_graph}
 use Rattle.junction_windows.specs.JunctionDescent.{JunctionReplied}
 
@@ -47,6 +46,10 @@ module _ {w : Window} (v : List ℕ) (one : w.events ≡ 1) (l : 29 ≤ length v
       let y : 5 * w.events + 8 * w.events + j ≡ 13 + j = omega arith in
       ap₂ (λ (s t : ℕ). (get_or v s 0, get_or v t 0)) x y)
 
+  -- the byte of a query by its two nodes
+  abbrev asked : ℕ
+  asked = read_reply (leaf_graph w.edges v) (get_or v 0 0) (get_or v 1 0)
+
   pub byte_is : byte_at w.edges v ≡ junction_byte g w.at
   byte_is = on_bool (eqb (get_or v 2 0) 0)
       (λ t. let z = eqb-true (get_or v 2 0) 0 t in
@@ -55,10 +58,10 @@ module _ {w : Window} (v : List ℕ) (one : w.events ≡ 1) (l : 29 ≤ length v
       let G : IsReducedGraph (plain (network g (w.at, 1))) (active g (w.at, 1)) w.nodes (leaf_graph w.edges v) a.σ =
       subst (λ (n : ℕ). IsReducedGraph (plain (network g (w.at, n))) (active g (w.at, n)) w.nodes (leaf_graph w.edges v) a.σ) one
       (subst (λ (H : List Edge). IsReducedGraph (plain (network g (w.at, w.events))) (active g (w.at, w.events)) w.nodes H a.σ) graph_is a.graph.reduced) in
-      byte_asked w.edges v z
+      ap (λ (b : Bool). cond b asked 3) t
       ∙ ap₂ (read_reply (leaf_graph w.edges v)) (e ∙ ap (λ (d : Edge). a.σ d.0) (query_ends q)) (f ∙ ap (λ (d : Edge). a.σ d.1) (query_ends q))
       ∙ sym (leaf_byte g w.at i q w.nodes (leaf_graph w.edges v) a.σ G))
-      (λ t. let h = eqb-false (get_or v 2 0) 0 t in sym (byte_3 w.edges v h) ∙ sym (change_byte g w.at (leaf_changes w one 29 v (omega arith) g sound i a.σ a.events h)))
+      (λ t. let h = eqb-false (get_or v 2 0) 0 t in ap (λ (b : Bool). cond b asked 3) t ∙ sym (change_byte g w.at (leaf_changes w one 29 v (omega arith) g sound i a.σ a.events h)))
 
 module _ {w : Window} {p : ℕ} {v : List ℕ} (q : WindowReadyOf JunctionArea (words_of 29) (words_of 340) w p v) (one : w.events ≡ 1) where
   pub byte_need : (w.edges ≤ 8) × (29 ≤ length v)
