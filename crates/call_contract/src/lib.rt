@@ -8,8 +8,10 @@ ghost use Rattle.call_contract.specs.Reply.{outcome};
 
 use call_sizes::Refusal;
 use contraction_checks::Graph;
-use core_reduce::Counts;
 use core_words::*;
+
+// What a contraction returns, for callers who rest on this crate alone.
+pub use core_reduce::Counts;
 
 // The contraction where nothing is refused.
 fn contracted(
@@ -48,6 +50,7 @@ fn contracted(
 // Contracts the graph of n nodes and m edges, edge s between from[s] and to[s] with the name names[s], to its first k active entries.
 // The contraction's nodes and edges: map holds the new number of each entry, out_from and out_to the edges and out_names their names, pieces the number of each
 // entry's connected piece, and work is 0 over its required length. Else why it is refused, and each table is as it was.
+// Kept: the public call is lent these thirteen one by one, as docs/integrate.md promises.
 pub fn contract(
     n: usize,
     m: usize,
