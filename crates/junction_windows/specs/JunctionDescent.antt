@@ -22,10 +22,3 @@ pub junction_replied_both : (g : Timeline) (p : ℕ) → Allowed p → (w : Wind
 junction_replied_both g p s w two c e before mid after u x =
     let h = shares p w.events two s in
     sets_parts (junction_byte g) w.at w.events c (omega (arith, e, h.less)) before u x
-
--- a table that is long enough for more events is for fewer, and stays so with other entries
-pub long_shorter : (d e m : ℕ) → d ≤ e → e ≤ m → d ≤ m
-long_shorter d e m h l = omega arith
-
-pub long_still : (e m n : ℕ) → n ≡ m → e ≤ m → e ≤ n
-long_still e m n x l = omega arith

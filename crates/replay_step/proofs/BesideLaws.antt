@@ -107,6 +107,7 @@ module _ {w : Window} {p : Part} {i j m : ℕ} {v : List ℕ} (q : AddReady w p 
       order = omega arith;
       inside = omega (arith, q.inside);
       much = q.much;
+      part = q.part;
       front = q.front;
       room = omega (arith, q.room, a.long, a.most);
       few = omega (arith, q.few, a.most);

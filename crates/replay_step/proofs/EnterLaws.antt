@@ -49,7 +49,7 @@ module _ {from count s n k i : ℕ} {w z : List ℕ} (q : Needs from count s n w
       ap (λ y. take i (drop from w) ++ (y ∷ [])) (reads ∙ sym (get_or-drop from w i 0))
       ∙ sym (ap (λ y. take y (drop from w)) (add-one i) ∙ take-suc (drop from w) i 0 (rw length-drop (omega (arith, q.0.front, q.0.room)))) in
       record {
-          long = same_len_mid s (length z - s) z zs f.same ∙ e.long;
+        long = same_len_mid s (length z - s) z zs f.same ∙ e.long;
         front = take_put s (length z - s) z zs h ∙ e.front;
         entered = rw (drop_back s z zs h, ← t) (f.more (take i (drop from w)) (rw take_whole e.entered));
       }

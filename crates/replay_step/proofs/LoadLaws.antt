@@ -134,26 +134,24 @@ module _ {w : Window} {most : ℕ} {p : Part} {v : List ℕ} (q : LoadReady w mo
   }
 
   pub events_need : (i j m : ℕ) (z : List ℕ) → i ≤ j → j ≤ n → m ≤ w.edges + i → take s z ≡ take s v → length z ≡ length v
-      → There s w.nodes m z → AddReady w p i j m z × (p.at + p.events ≤ 4096)
-  events_need i j m z a b l f e h = (
-    record {
-      order = a;
-      inside = b;
-      much = q.much;
-      front = omega (arith, q.front, q.behind);
-      room = omega (arith, q.room);
-      few = omega (arith, q.light);
-      many = q.many;
-      nodes = λ d u. omega (arith, q.nodes d u, front_get s d v z f (omega (arith, q.front, q.behind)));
-      keys = λ d u. rw (front_get s (2 * n + 3 * d) v z f (omega (arith, q.front, q.behind))) (q.keys d u);
-      ends = h.ends;
-      names = h.names;
-    },
-    omega (arith, q.ends, q.much),
-  )
+      → There s w.nodes m z → AddReady w p i j m z
+  events_need i j m z a b l f e h = record {
+    order = a;
+    inside = b;
+    much = q.much;
+    part = omega (arith, q.starts, q.ends, q.much);
+    front = omega (arith, q.front, q.behind);
+    room = omega (arith, q.room);
+    few = omega (arith, q.light);
+    many = q.many;
+    nodes = λ d u. omega (arith, q.nodes d u, front_get s d v z f (omega (arith, q.front, q.behind)));
+    keys = λ d u. rw (front_get s (2 * n + 3 * d) v z f (omega (arith, q.front, q.behind))) (q.keys d u);
+    ends = h.ends;
+    names = h.names;
+  }
 
   pub behind_need : {y z : List ℕ} {m : ℕ} → Added w p 0 (p.at - w.at) w.edges y z m → take s y ≡ take s v → length y ≡ length v
-      → AddReady w p (p.at - w.at + p.events) n m z × (p.at + p.events ≤ 4096)
+      → AddReady w p (p.at - w.at + p.events) n m z
   behind_need {z = z} {m} a f e =
       events_need (p.at - w.at + p.events) n m z (omega (arith, q.starts, q.ends)) (omega arith) (omega (arith, a.most)) (a.edged.front ∙ f) (a.long ∙ e) (record { ends = a.edged.ends; names = a.edged.names })
 

@@ -85,6 +85,7 @@ pub record AddReady (w : Window) (p : Part) (i j m : ℕ) (v : List ℕ) : Type 
   pub order : i ≤ j
   pub inside : j ≤ w.events
   pub much : w.at + w.events ≤ 4096
+  pub part : p.at + p.events ≤ 4096
   pub front : 5 * w.events ≤ p.scratch
   pub room : p.scratch + 16 * w.nodes + 6 * (m + (j - i)) ≤ length v
   pub few : m + (j - i) ≤ 32768

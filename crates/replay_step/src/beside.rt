@@ -56,7 +56,7 @@ pub(crate) fn add_event(
     work: &mut [u32],
     m: usize,
 ) -> usize
-    requires { AddReady w part i (i + 1) m work.old × (part.at + part.events ≤ 4096) }
+    requires { AddReady w part i (i + 1) m work.old }
     ensures { Added w part i (i + 1) m work.old work.new result }
 {
     let adds = event_adds(w, part, i, work);
@@ -83,7 +83,7 @@ pub(crate) fn add_events(
     work: &mut [u32],
     m: usize,
 ) -> usize
-    requires { AddReady w part i j m work.old × (part.at + part.events ≤ 4096) }
+    requires { AddReady w part i j m work.old }
     ensures { Added w part i j m work.old work.new result }
 {
     let mut k = m;

@@ -75,10 +75,3 @@ replied_both g p s w v two a c e before mid after b k u x =
       kept = ap₂ (λ (a b : ℕ). a + b) (ap₂ (λ (a b : ℕ). a + b) (area_small a (omega arith)) u.kept) x.kept
           ∙ sym (sum_two p s (λ w. (small g w).nodes) w.at w.events c two e);
     }
-
--- tables that are long enough for more events are for fewer, and stay so with other entries
-pub long_shorter : (d e m n : ℕ) → d ≤ e → (e ≤ m) × (e ≤ n) → (d ≤ m) × (d ≤ n)
-long_shorter d e m n h l = (omega arith, omega arith)
-
-pub long_still : (e m n m' n' : ℕ) → m' ≡ m → n' ≡ n → (e ≤ m) × (e ≤ n) → (e ≤ m') × (e ≤ n')
-long_still e m n m' n' x y l = (omega arith, omega arith)

@@ -30,7 +30,8 @@ pub trait Replies {
     fn one(&mut self, w: Window, p: usize, work: &[u32])
         requires { WindowReady Self.By.reduced Self.By.WORDS Self.By.WINDOW long w p self.old work.now × (w.events ≡ 1) }
         ensures still { same self.old self.new }
-        ensures replied { (g : Timeline) → Sound g → w.at < size g → Self.By.reduced g w (take Self.By.WORDS work.now) → wrote g p w.at 1 self.old self.new w.nodes };
+        ensures replied { (g : Timeline) → Sound g → w.at < size g → Self.By.reduced g w (take Self.By.WORDS work.now)
+            → wrote g p w.at 1 self.old self.new w.nodes };
 
     // The replies of a window are those of its two parts.
     ghost parts: { WritesParts Self.By.reduced long same wrote };
@@ -53,6 +54,7 @@ pub fn put_byte(answers: &mut [u8], event: usize, byte: u8)
 }
 
 // Internal: writes the replies of the window's events: how many nodes the graphs of the window and of all windows below it have.
+#[tactic(auto, using(crate::proofs::PartLaws::lent_fits))]
 pub fn window<D: Replies>(w: Window, p: usize, replies: &mut D, work: &mut [u32]) -> usize
     requires { WindowReady D.By.reduced D.By.WORDS D.By.WINDOW D.long w p replies.old work.old }
     ensures { WindowDone D.By.reduced D.same D.wrote w p (take (D.By.WORDS * w.events) work.old) replies.old replies.new result }

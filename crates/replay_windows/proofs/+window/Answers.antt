@@ -7,21 +7,9 @@ pub returns-then-n-eq1 : goal.returns-then-n-eq1
 returns-then-n-eq1 g t c =
     done_one g.met.D.By.Reduction.reduces c.requires.0 c.if-n-eq1.true c.one.ensures.still c.one.ensures.replied
 
-pub overflow_mul-q : goal.overflow_mul-q
-overflow_mul-q g t c = omega (arith, lent_fits g.met.D.By.Reduction.reduces c.requires.0 c.WORDS.ensures)
-
 pub step-a-requires : goal.step-a-requires
 step-a-requires g t c =
     first_step g.met.D.By.Reduction.reduces c.requires.0 c.WORDS.ensures c.if-n-eq1.false c.first_part-c.ensures
-
-pub offset_bounds-work-q : goal.offset_bounds-work-q
-offset_bounds-work-q g t c = omega (arith, lent_fits g.met.D.By.Reduction.reduces c.requires.0 c.WORDS.ensures)
-
-pub slice_bounds-window-count : goal.slice_bounds-window-count
-slice_bounds-window-count g t c = omega (arith, lent_fits g.met.D.By.Reduction.reduces c.requires.0 c.WORDS.ensures)
-
-pub slice_bounds-window-start : goal.slice_bounds-window-start
-slice_bounds-window-start g t c = omega (arith, lent_fits g.met.D.By.Reduction.reduces c.requires.0 c.WORDS.ensures)
 
 pub window-b-requires : goal.window-b-requires
 window-b-requires g t c κs within =

@@ -4,4 +4,4 @@ use Rattle.replay_step.proofs.beside.add_events.Goals as goal
 
 pub loop-e-preserved : goal.loop-e-preserved
 loop-e-preserved c =
-    adding_more c.requires.0 c.loop-e.invariant (omega arith) (omega arith) c.add_event-k.ensures
+    adding_more c.requires c.loop-e.invariant (omega arith) (omega arith) c.add_event-k.ensures
