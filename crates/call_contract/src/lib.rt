@@ -6,11 +6,11 @@ ghost use Rattle.theory_contraction.specs.Contraction.{Faultless, done, contract
 ghost use Rattle.contraction_checks.specs.Checks.{lent_graph};
 ghost use Rattle.call_contract.specs.Reply.{outcome};
 
-use call_sizes::Refusal;
 use contraction_checks::Graph;
 use core_words::*;
 
-// What a contraction returns, for callers who rest on this crate alone.
+// What a contraction returns, and what it is refused by, for callers who rest on this crate alone.
+pub use call_sizes::Refusal;
 pub use core_reduce::Counts;
 
 // The contraction where nothing is refused.
