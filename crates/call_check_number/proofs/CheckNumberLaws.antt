@@ -1,52 +1,12 @@
--- Laws of the check number. For the code: a step of sums and a difference that wrap is the remainder formula; no byte and one more; the reply. For the user: equal first bytes have equal outcomes, bytes that differ in one place have different numbers, and where the numbers part
--- a byte differs.
+-- Laws of the check number, for the user: equal first bytes have equal outcomes, bytes that differ in one place have different numbers, and where the numbers
+-- part a byte differs.
 -- Assumes nothing.
-use Rattle.std.proofs.Common.{◌≡◌, ℕ, ◌+◌, ◌-◌, ◌*◌, ◌/◌, ◌%◌, ◌<◌, ◌≤◌, ltb, List, [], ◌∷◌, ◌++◌, length, get_or, take, sym, refl, ap, ◌∙◌, add-one, arith, length-take, take-suc, take-take, ltb-false, ltb-true, le-ltb, lt-ltb}
+use Rattle.std.proofs.Common.{◌≡◌, ℕ, ◌+◌, ◌*◌, ◌/◌, ◌%◌, ◌<◌, ltb, List, [], ◌∷◌, ◌++◌, length, get_or, take, sym, ap, ◌∙◌, add-one, arith, length-take, take-suc, take-take, ltb-false, ltb-true, le-ltb, lt-ltb}
 use mathlib.Core.List.{foldl, foldl-append}
 use Rattle.theory_graph.proofs.Booleans.{on_bool}
-use Rattle.call_check_number.specs.CheckNumber.{check_number, check_number_outcome, number_of_first, with_byte}
-use Rattle.call_check_number.specs.declared.CheckNumberReply.TheVariants.{Number}
+use Rattle.call_check_number.specs.CheckNumber.{check_number, number_of_first, with_byte}
 
--- ---- sums and differences that wrap at 2 ^ 32, one at a time: x stands for z, and y for what the step makes of z
-wrap_double : (z : ℕ) {x y : ℕ} → x ≡ z % 4294967296 → y ≡ (x + x) % 4294967296 → y ≡ (2 * z) % 4294967296
-wrap_double z p q = omega arith
-
-wrap_less : (z h : ℕ) {x y : ℕ} → x ≡ z % 4294967296 → (y + h) % 4294967296 ≡ x → y < 4294967296 → h ≤ z → y ≡ (z - h) % 4294967296
-wrap_less z h p q b l = omega arith
-
-wrap_more : (z b : ℕ) {x y : ℕ} → x ≡ z % 4294967296 → y ≡ (x + b) % 4294967296 → y ≡ (z + b) % 4294967296
-wrap_more z b p q = omega arith
-
--- five doublings less h, and a + 1 more, are the step
-pub step_wraps : (h a : ℕ) {h2 h4 h8 h16 h32 h31 r : ℕ} → h < 4294967296 → h2 ≡ (h + h) % 4294967296 → h4 ≡ (h2 + h2) % 4294967296 → h8 ≡ (h4 + h4) % 4294967296
-    → h16 ≡ (h8 + h8) % 4294967296 → h32 ≡ (h16 + h16) % 4294967296 → (h31 + h) % 4294967296 ≡ h32 → h31 < 4294967296 → r ≡ (h31 + (a + 1)) % 4294967296
-    → r ≡ with_byte h a
-unfolding with_byte
-step_wraps h a {r = r} f p2 p4 p8 p16 p32 p31 b p =
-    let q = wrap_more _ _ (wrap_less _ h (wrap_double _ (wrap_double _ (wrap_double _ (wrap_double _ (wrap_double h (same h f) p2) p4) p8) p16) p32) p31 b (omega arith)) p in
-    rw (sums h a) at q
-  where
-    same : (x : ℕ) → x < 4294967296 → x ≡ x % 4294967296
-    same x l = omega arith
-
-    sums : (h a : ℕ) → 2 * (2 * (2 * (2 * (2 * h)))) - h + (a + 1) ≡ 31 * h + a + 1
-    sums h a = omega arith
-
--- ---- byte by byte
-pub check_none : (table : List ℕ) → 1 ≡ check_number (take 0 table)
-unfolding check_number
-check_none table = refl
-
-pub check_more : (table : List ℕ) (t : ℕ) → t < length table → check_number (take (t + 1) table) ≡ with_byte (check_number (take t table)) (get_or table t 0)
-unfolding check_number
-check_more table t l = rw add-one (ap check_number (take-suc table t 0 l) ∙ foldl-append with_byte 1 (take t table) (get_or table t 0 ∷ []))
-
--- ---- the call's reply where nothing is refused, by the part of the table that was folded
-pub number_accepted : (table : List ℕ) (t : ℕ) {h : ℕ} {part : List ℕ} → t ≤ 4096 → t ≤ length table → h ≡ check_number part → part ≡ take t table
-    → check_number_outcome (Number h) ≡ number_of_first table t
-number_accepted table t l m e f = simp (le-ltb 4096 t l, le-ltb (length table) t m, e, f)
-
--- ---- for the user: equal bytes
+-- ---- equal bytes
 -- two tables with the same first t bytes have the same outcome, number and refusal alike
 pub same_bytes : (t : ℕ) (xs ys : List ℕ) → take t xs ≡ take t ys → number_of_first xs t ≡ number_of_first ys t
 same_bytes t xs ys e = first xs ∙ ap (λ (bytes : List ℕ). number_of_first bytes t) e ∙ sym (first ys)
@@ -60,7 +20,7 @@ same_bytes t xs ys e = first xs ∙ ap (λ (bytes : List ℕ). number_of_first b
     first : (table : List ℕ) → number_of_first table t ≡ number_of_first (take t table) t
     first table = simp (short table, take-take t t table (omega arith))
 
--- ---- for the user: bytes that differ
+-- ---- bytes that differ
 -- 31 has an inverse modulo 2 ^ 32, so a byte keeps different numbers apart
 step_tells : (h k a : ℕ) → h < 4294967296 → k < 4294967296 → with_byte h a ≡ with_byte k a → h ≡ k
 unfolding with_byte
@@ -96,6 +56,11 @@ one_differs before after a b l m n e = n (byte_tells h a b l m (follow_tells aft
 
     after_h : foldl with_byte h (a ∷ after) ≡ foldl with_byte h (b ∷ after)
     after_h = sym (foldl-append with_byte 1 before (a ∷ after)) ∙ e ∙ foldl-append with_byte 1 before (b ∷ after)
+
+-- one byte more
+check_more : (table : List ℕ) (t : ℕ) → t < length table → check_number (take (t + 1) table) ≡ with_byte (check_number (take t table)) (get_or table t 0)
+unfolding check_number
+check_more table t l = rw add-one (ap check_number (take-suc table t 0 l) ∙ foldl-append with_byte 1 (take t table) (get_or table t 0 ∷ []))
 
 -- where the numbers of the first t bytes agree and those of the first t + 1 do not, byte t differs
 pub differs_there : (t : ℕ) (xs ys : List ℕ) → t < length xs → t < length ys → check_number (take t xs) ≡ check_number (take t ys)

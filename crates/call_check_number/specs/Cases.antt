@@ -1,18 +1,17 @@
 -- Cases of the check number as one table: an answer table, T, and the outcome that the call must have, worked out by hand or by another program.
 -- proofs/Cases proves every row.
 -- Assumes nothing: these are definitions.
-use Rattle.std.specs.Prelude.{ℕ, List, [], ◌∷◌, ◌++◌, replicate}
-use Rattle.call_check_number.specs.CheckNumber.{CheckNumberOutcome, check_number_outcome, number_of_first}
-use Rattle.call_check_number.specs.declared.CheckNumberReply.TheVariants.{Number, Refused}
+use Rattle.std.specs.Prelude.{ℕ, false, true, List, [], ◌∷◌, ◌++◌, replicate}
+use Rattle.call_check_number.specs.CheckNumber.{CheckNumberOutcome, number_of_first}
 
 abbrev pub Case : Type 0
 Case = List ℕ × ℕ × CheckNumberOutcome
 
 abbrev pub number : ℕ → CheckNumberOutcome
-number h = check_number_outcome (Number h)
+number h = record { accepted = true; code = 0; place = 0; number = h }
 
 abbrev pub refused : ℕ → CheckNumberOutcome
-refused c = check_number_outcome (Refused c 0)
+refused c = record { accepted = false; code = c; place = 0; number = 0 }
 
 -- the answers of document 01's example
 abbrev pub example : List ℕ

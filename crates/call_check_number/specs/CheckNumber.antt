@@ -1,11 +1,11 @@
 -- Document 02, No. 4: the check number of the first T bytes of an answer table, its refusals, and what the call replies.
 -- Assumes nothing: these are definitions.
-use Rattle.std.specs.Prelude.{ℕ, ◌+◌, ◌*◌, ◌%◌, Bool, true, false, List, [], ◌∷◌, length, take, ◌==◌, nat_lt}
+use Rattle.std.specs.Prelude.{ℕ, ◌+◌, ◌*◌, ◌%◌, Bool, true, false, Err, Ok, Result, List, [], ◌∷◌, length, take, ◌==◌, nat_lt}
 use mathlib.Core.List.{foldl}
+use Rattle.call_sizes.specs.Numbers.{number_of, place_of}
 use Rattle.call_sizes.specs.Refusal.{Refusal, Row, first_fault, row, short_rows}
 use Rattle.call_sizes.specs.Sizes.{if_accepted}
-use Rattle.call_check_number.specs.declared.CheckNumberReply.{CheckNumberReply}
-use Rattle.call_check_number.specs.declared.CheckNumberReply.TheVariants.{Number, Refused}
+use Rattle.call_sizes.specs.declared.Refusal as declared
 
 -- ---- the number
 -- "each byte a turns h into 31h + a + 1, reduced modulo 4,294,967,296"
@@ -32,9 +32,9 @@ pub record CheckNumberOutcome : Type 0 where
   pub number : ℕ
 
 -- what each case of the reply says, in document 01's numbers
-abbrev pub check_number_outcome : CheckNumberReply → CheckNumberOutcome
-check_number_outcome (Number h) = record { accepted = true; code = 0; place = 0; number = h }
-check_number_outcome (Refused c p) = record { accepted = false; code = c; place = p; number = 0 }
+abbrev pub check_number_outcome : Result ℕ declared.Refusal → CheckNumberOutcome
+check_number_outcome (Ok h) = record { accepted = true; code = 0; place = 0; number = h }
+check_number_outcome (Err r) = record { accepted = false; code = number_of r; place = place_of r; number = 0 }
 
 -- the outcome that a table's first t bytes must have
 abbrev pub number_of_first : List ℕ → ℕ → CheckNumberOutcome

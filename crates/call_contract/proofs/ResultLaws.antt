@@ -11,12 +11,12 @@ use Rattle.theory_contraction.proofs.Acceptance.{Accepted, entries_at, entries_b
 use Rattle.theory_contraction.proofs.Acceptance.{named_contract_edges, named_plain}
 use Rattle.theory_graph.proofs.ActiveLists.{canonical_repeats, in_firsts}
 use Rattle.theory_graph.proofs.Pieces.{numbered_map}
-use Rattle.theory_graph.proofs.TableLaws.{over_equal, over_length, table_map}
+use Rattle.theory_graph.proofs.TableLaws.{over_equal, table_map}
 use Rattle.theory_graph.proofs.Lists.{map_equal, table_in, table_length, table_mem}
 use Rattle.theory_contraction.specs.Contraction.{Lent, done, edges, entries, named_edges, required}
 use Rattle.contraction_tables.specs.Transfer.{CanNumber, Loadable, Prepared, TreesNumbered, roots_of}
 use Rattle.call_contract.specs.Reply.{outcome}
-use Rattle.call_contract.specs.declared.ContractReply.TheVariants.{Done}
+use Rattle.std.specs.Prelude.{Ok}
 use Rattle.core_reduce.specs.Core.{Reduced, active_in, edges_in, edges_out}
 use Rattle.theory_graph.proofs.EdgeCount.{small_edges_entries, small_edges_most}
 use Rattle.theory_graph.proofs.SmallGraphDefinition.{definition_small}
@@ -188,10 +188,6 @@ module _ (l : Lent) (s : Accepted l) where
       pub numbered_length : length w₃ ≡ length l.work
       numbered_length = f.same ∙ words_length
 
-      pub cleared_length : {w₄ : List ℕ} {k : ℕ} → k ≡ required l.n l.m → w₄ ≡ over (replicate k 0) w₃ → length w₄ ≡ length l.work
-      cleared_length {k = k} q g =
-          ap length g ∙ over_length (replicate k 0) w₃ (omega (arith, length-replicate k zero, numbered_length, s.long.work_length)) ∙ numbered_length
-
       result_work : over (replicate (required l.n l.m) 0) w₃ ≡ over (replicate (required l.n l.m) 0) l.work
       result_work = over_equal (replicate (required l.n l.m) 0) w₃ l.work numbered_length
           (λ i j. let k = length-replicate (required l.n l.m) zero in f.past i (omega arith) ∙ r.past i (omega arith) ∙ p.past i (omega arith))
@@ -202,7 +198,7 @@ module _ (l : Lent) (s : Accepted l) where
           → highs ≡ over (table (node UPPER w₂) 0 e) l.out_to
           → names ≡ over (table (node NAMED w₂) 0 e) l.out_names
           → k ≡ required l.n l.m → w₄ ≡ over (replicate k 0) w₃
-          → outcome (Done h e) mp lows highs names ps w₄ ≡ done l
+          → outcome (Ok record { nodes = h; edges = e }) mp lows highs names ps w₄ ≡ done l
       unfolding done
       outcome_is a b c n k g =
           rw (

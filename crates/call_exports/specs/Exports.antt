@@ -1,9 +1,15 @@
 -- The structs of the exported calls in the words of the product's own definitions. In order: what a returned struct says as an outcome, where the call
--- is accepted if the code is 0 (those of the small calls stand in call_replies/specs/Replies); what a struct of tables lends; and the outcome with the tables as a call leaves them.
+-- is accepted if the code is 0 (those of the small calls stand in call_replies/specs/Replies); that a returned struct says what a call's reply says; what a struct
+-- of tables lends; and the outcome with the tables as a call leaves them.
 -- Assumes nothing: these are definitions.
-use Rattle.std.specs.Prelude.{List, ℕ, eqb}
+use Rattle.std.specs.Prelude.{◌≡◌, List, Result, ℕ, eqb}
 use Rattle.std.specs.Borrow.{Bor, MutBor}
 use Rattle.theory_contraction.specs.Contraction as contraction
+use Rattle.call_contract.specs.Reply as contracting
+use Rattle.call_sizes.specs.declared.Refusal.{Refusal}
+use Rattle.call_contract.specs.declared.Counts.{Counts}
+use Rattle.theory_timeline.specs.declared.Totals.{Totals}
+use Rattle.theory_junction_timeline.specs.declared.JunctionTotals.{JunctionTotals}
 use Rattle.theory_timeline.specs.Replay as timeline
 use Rattle.theory_timeline.specs.Call as replaying
 use Rattle.theory_junction_timeline.specs.JunctionReplay as junctions
@@ -57,6 +63,18 @@ replayed_junctions_of r answers work =
       answers = answers;
       work = work;
     }
+
+-- ---- the struct says what the reply does, whatever the tables hold afterwards
+abbrev pub SaysContracted : Result Counts Refusal → LumContractReply → Type 0
+SaysContracted reply r =
+    (map out_from out_to out_names pieces work : List ℕ)
+    → contracted_of r map out_from out_to out_names pieces work ≡ contracting.outcome reply map out_from out_to out_names pieces work
+
+abbrev pub SaysReplayed : Result Totals Refusal → LumReplayReply → Type 0
+SaysReplayed reply r = (answers names work : List ℕ) → replayed_of r answers names work ≡ replaying.outcome reply answers names work
+
+abbrev pub SaysReplayedJunctions : Result JunctionTotals Refusal → LumReplayJunctionsReply → Type 0
+SaysReplayedJunctions reply r = (answers work : List ℕ) → replayed_junctions_of r answers work ≡ replaying-junctions.junction_outcome reply answers work
 
 -- ---- what a struct lends
 abbrev pub contract_lent : LumContractLent → contraction.Lent

@@ -15,12 +15,13 @@ ghost use Rattle.theory_junction_timeline.specs.JunctionCall.{junction_lent};
 ghost use Rattle.theory_junction_timeline.specs.JunctionReplay.{replay_junctions};
 ghost use Rattle.call_replies.specs.Replies.{sizes_of, check_number_of};
 ghost use Rattle.call_replies.specs.Version.{version};
-ghost use Rattle.call_exports.specs.Exports.{contracted_of, replayed_of, replayed_junctions_of, contract_lent, contract_left, replay_lent, replay_left, replay_junctions_lent, replay_junctions_left};
+ghost use Rattle.call_exports.specs.Exports.{SaysContracted, SaysReplayed, SaysReplayedJunctions, contracted_of, replayed_of, replayed_junctions_of, contract_lent, contract_left, replay_lent, replay_left, replay_junctions_lent, replay_junctions_left};
 
-use call_contract::ContractReply;
+use call_contract::Counts;
 use call_replies::{LumCheckNumberReply, LumSizesReply};
-use theory_junction_timeline::JunctionReply;
-use theory_timeline::ReplayReply;
+use call_sizes::Refusal;
+use theory_junction_timeline::JunctionTotals;
+use theory_timeline::Totals;
 
 // What a contraction is lent.
 #[repr(C)]
@@ -77,6 +78,7 @@ pub struct LumReplayJunctionsLent<'a> {
 }
 
 // In each reply the code is 0 where the call is accepted, else the refusal's number; then place is its place and the other numbers are 0.
+// Kept: the C interface takes a reply as a struct of numbers.
 #[repr(C)]
 #[derive(Drop)]
 pub struct LumContractReply {
@@ -103,6 +105,71 @@ pub struct LumReplayJunctionsReply {
     pub place: usize,
     pub queries: usize,
     pub open: usize,
+}
+
+impl From<Result<Counts, Refusal>> for LumContractReply {
+    ghost from_gives = { SaysContracted };
+
+    fn from(reply: Result<Counts, Refusal>) -> LumContractReply {
+        match reply {
+            Ok(counts) => LumContractReply {
+                code: 0,
+                place: 0,
+                nodes: counts.nodes,
+                edges: counts.edges,
+            },
+            Err(refusal) => LumContractReply {
+                code: refusal.code(),
+                place: refusal.place(),
+                nodes: 0,
+                edges: 0,
+            },
+        }
+    }
+}
+
+impl From<Result<Totals, Refusal>> for LumReplayReply {
+    ghost from_gives = { SaysReplayed };
+
+    fn from(reply: Result<Totals, Refusal>) -> LumReplayReply {
+        match reply {
+            Ok(totals) => LumReplayReply {
+                code: 0,
+                place: 0,
+                queries: totals.queries,
+                open: totals.open,
+                kept: totals.kept,
+            },
+            Err(refusal) => LumReplayReply {
+                code: refusal.code(),
+                place: refusal.place(),
+                queries: 0,
+                open: 0,
+                kept: 0,
+            },
+        }
+    }
+}
+
+impl From<Result<JunctionTotals, Refusal>> for LumReplayJunctionsReply {
+    ghost from_gives = { SaysReplayedJunctions };
+
+    fn from(reply: Result<JunctionTotals, Refusal>) -> LumReplayJunctionsReply {
+        match reply {
+            Ok(totals) => LumReplayJunctionsReply {
+                code: 0,
+                place: 0,
+                queries: totals.queries,
+                open: totals.open,
+            },
+            Err(refusal) => LumReplayJunctionsReply {
+                code: refusal.code(),
+                place: refusal.place(),
+                queries: 0,
+                open: 0,
+            },
+        }
+    }
 }
 
 // The version of the calls in this archive, so that a caller who was built for others can tell.
@@ -143,6 +210,7 @@ pub fn lum_check_number(table: &[u8], t: usize) -> LumCheckNumberReply
 }
 
 // Internal: the contraction on the fields of the struct that it is lent, in their order.
+// Kept: the law `lent_call`, by which the call over the struct is proved, hands the fields on one by one.
 pub fn contract_tables<'a>(
     n: usize,
     m: usize,
@@ -162,27 +230,9 @@ pub fn contract_tables<'a>(
         pieces.new work.new ≡ contraction (contracting.lent n m k
         from.now to.now names.now active.now map.old out_from.old out_to.old out_names.old pieces.old work.old) }
 {
-    let reply = call_contract::contract(
+    LumContractReply::from(call_contract::contract(
         n, m, k, from, to, names, active, map, out_from, out_to, out_names, pieces, work,
-    );
-    match reply {
-        ContractReply::Done(nodes, edges) => {
-            return LumContractReply {
-                code: 0,
-                place: 0,
-                nodes: nodes,
-                edges: edges,
-            };
-        }
-        ContractReply::Refused(code, place) => {
-            return LumContractReply {
-                code: code,
-                place: place,
-                nodes: 0,
-                edges: 0,
-            };
-        }
-    }
+    ))
 }
 
 // The contraction.
@@ -207,6 +257,7 @@ pub fn lum_contract<'a>(lent: LumContractLent<'a>) -> LumContractReply
 }
 
 // Internal: the replay on the fields of the struct that it is lent, in their order.
+// Kept: the law `lent_call`, by which the call over the struct is proved, hands the fields on one by one.
 pub fn replay_tables<'a>(
     n: usize,
     m: usize,
@@ -225,27 +276,7 @@ pub fn replay_tables<'a>(
         ≡ replay (replaying.lent n m t a.now b.now start.now x.now y.now
         answers.old names.old work.old) p }
 {
-    let reply = call_replay::replay(n, m, t, p, a, b, start, x, y, answers, names, work);
-    match reply {
-        ReplayReply::Done(s) => {
-            return LumReplayReply {
-                code: 0,
-                place: 0,
-                queries: s.queries,
-                open: s.open,
-                kept: s.kept,
-            };
-        }
-        ReplayReply::Refused(code, place) => {
-            return LumReplayReply {
-                code: code,
-                place: place,
-                queries: 0,
-                open: 0,
-                kept: 0,
-            };
-        }
-    }
+    LumReplayReply::from(call_replay::replay(n, m, t, p, a, b, start, x, y, answers, names, work))
 }
 
 // The replay.
@@ -269,6 +300,7 @@ pub fn lum_replay<'a>(lent: LumReplayLent<'a>) -> LumReplayReply
 }
 
 // Internal: the replay by the loss of a junction on the fields of the struct that it is lent, in their order.
+// Kept: the law `lent_call`, by which the call over the struct is proved, hands the fields on one by one.
 pub fn replay_junctions_tables<'a>(
     n: usize,
     m: usize,
@@ -286,27 +318,9 @@ pub fn replay_junctions_tables<'a>(
         ≡ replay_junctions (junction_lent n m t a.now b.now start.now x.now y.now
         answers.old work.old) p }
 {
-    let reply = call_replay_junctions::replay_junctions(
+    LumReplayJunctionsReply::from(call_replay_junctions::replay_junctions(
         n, m, t, p, a, b, start, x, y, answers, work,
-    );
-    match reply {
-        JunctionReply::Done(s) => {
-            return LumReplayJunctionsReply {
-                code: 0,
-                place: 0,
-                queries: s.queries,
-                open: s.open,
-            };
-        }
-        JunctionReply::Refused(code, place) => {
-            return LumReplayJunctionsReply {
-                code: code,
-                place: place,
-                queries: 0,
-                open: 0,
-            };
-        }
-    }
+    ))
 }
 
 // The replay by the loss of a junction.

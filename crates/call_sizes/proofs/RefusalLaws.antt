@@ -11,7 +11,7 @@ use lib.ListN.{get_or, length, take}
 use lib.Seq.{length-take-le}
 use native.Mathlib.Numerals.{add-one}
 use native.Mathlib.Omega.{arith}
-use borrow.Author.Tests.{eqb-false, eqb-true, le-leb, le-ltb, lt-leb, lt-ltb, ltb-false, ne_eqb}
+use borrow.Author.Tests.{eqb-false, eqb-true, le-ltb, lt-leb, ltb-false, ne_eqb}
 use Rattle.std.specs.Prelude.{IsErrAnd, None, Option, Result, Some, position}
 use Rattle.std.specs.List.{list_any, prefix_len}
 use Rattle.std.proofs.lemmas.List.{get_or-take}
@@ -197,17 +197,6 @@ module _ (p : ℕ → Bool) (s m : ℕ) where
   pub seek_past : m ≤ s → seek p s (m - s) ≡ s
   seek_past l = let e : m - s ≡ 0 = omega arith in rw e refl
 
-pub seek_start : (p : ℕ → Bool) (m : ℕ) → seek p 0 m ≡ seek p 0 (m - 0)
-seek_start p m = let e : m - 0 ≡ m = omega arith in rw e refl
-
--- what a search answers: the first that passes, where one does
-module _ (f : ℕ → Bool) (m s : ℕ) (e : seek f 0 m ≡ seek f s (m - s)) where
-  pub first_here : s < m → f s ≡ true → Some s ≡ first_of f m
-  first_here l q = let h : seek f 0 m ≡ s = e ∙ seek_here f s m l q in rw (h, lt-ltb s m l) refl
-
-  pub first_none : m ≤ s → None ≡ first_of f m
-  first_none l = let h : seek f 0 m ≡ s = e ∙ seek_past f s m l in rw (h, le-ltb s m l) refl
-
 -- the first entry that passes, by its index
 seek_suc : (f : ℕ → Bool) (i k : ℕ) → seek f (i + 1) k ≡ suc (seek (λ j. f (suc j)) i k)
 seek_suc f i zero = add-one i
@@ -254,11 +243,5 @@ module _ (f : ℕ → Bool) (m c : ℕ) where
       go false i e = refl
 
 module _ (n : ℕ) (from to : List ℕ) (s : ℕ) where
-  pub bad_from : n ≤ get_or from s 0 → bad_ends n from to s ≡ true
-  bad_from l = rw (le-leb n (get_or from s 0) l) refl
-
-  pub bad_to : get_or from s 0 < n → n ≤ get_or to s 0 → bad_ends n from to s ≡ true
-  bad_to k l = rw (lt-leb n (get_or from s 0) k, le-leb n (get_or to s 0) l) refl
-
   pub good_ends : get_or from s 0 < n → get_or to s 0 < n → bad_ends n from to s ≡ false
   good_ends k l = rw (lt-leb n (get_or from s 0) k, lt-leb n (get_or to s 0) l) refl

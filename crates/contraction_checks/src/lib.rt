@@ -1,11 +1,11 @@
 // The faults of an input, in document 01's order: sizes, lengths, ends of edges, active entries.
 #![tactic(auto)]
 
-ghost use Rattle.std.specs.Prelude.{◌≡◌, ◌≤◌, [], ◌∷◌, List, length, ltb, nat_le, position, ℕ};
+ghost use Rattle.std.specs.Prelude.{◌≡◌, ◌≤◌, [], ◌∷◌, length, ltb, nat_le, position};
 ghost use Rattle.call_sizes.specs.Numbers.{refused_by};
 ghost use Rattle.call_sizes.specs.Refusal.{first_fault, row, seek};
 ghost use Rattle.theory_contraction.specs.Contraction.{bad_entry, fault, required};
-ghost use Rattle.contraction_checks.specs.Checks.{lent_graph, room_in};
+ghost use Rattle.contraction_checks.specs.Checks.{lent_graph};
 
 use call_sizes::{Refusal, Sizes};
 
@@ -20,17 +20,6 @@ pub struct Graph<'a> {
     pub to: &'a [u16],
     pub names: &'a [u16],
     pub active: &'a [u16],
-}
-
-// Internal: the lengths of the tables that a contraction writes.
-#[derive(Clone, Copy, Debug, PartialEq, Eq)]
-pub struct Room {
-    pub map: usize,
-    pub out_from: usize,
-    pub out_to: usize,
-    pub out_names: usize,
-    pub pieces: usize,
-    pub work: usize,
 }
 
 // Internal: the words that a contraction of n nodes and m edges needs.
@@ -59,10 +48,17 @@ fn check_entries(n: usize, k: usize, active: &[u16]) -> Result<(), Refusal>
     }
 }
 
-// Internal: the first fault of a call that is lent this graph, and tables with this room to write.
-pub fn check(graph: Graph, room: Room) -> Result<(), Refusal>
-    ensures { (map out_from out_to out_names pieces work : List ℕ) → room ≡ room_in map out_from out_to out_names pieces work
-        → refused_by result ≡ fault (lent_graph graph.entry map out_from out_to out_names pieces work) }
+// Internal: the first fault of a call that is lent this graph, and these tables to write.
+pub fn check(
+    graph: Graph,
+    map: &[u16],
+    out_from: &[u16],
+    out_to: &[u16],
+    out_names: &[u16],
+    pieces: &[u16],
+    work: &[u32],
+) -> Result<(), Refusal>
+    ensures { refused_by result ≡ fault (lent_graph graph.entry map.now out_from.now out_to.now out_names.now pieces.now work.now) }
 {
     let Graph {
         n,
@@ -79,12 +75,12 @@ pub fn check(graph: Graph, room: Room) -> Result<(), Refusal>
         (to.len(), m),
         (names.len(), m),
         (active.len(), k),
-        (room.map, k),
-        (room.out_from, 2 * k),
-        (room.out_to, 2 * k),
-        (room.out_names, 2 * k),
-        (room.pieces, k),
-        (room.work, required(n, m)),
+        (map.len(), k),
+        (out_from.len(), 2 * k),
+        (out_to.len(), 2 * k),
+        (out_names.len(), 2 * k),
+        (pieces.len(), k),
+        (work.len(), required(n, m)),
     ];
     call_sizes::check_pairs(&lengths, Refusal::ShortTable)?;
     call_sizes::check_ends(n, m, from, to)?;

@@ -1,17 +1,10 @@
--- `contract` meets its contract.
-use native.Mathlib.Omega.{arith}
-use Rattle.call_contract.proofs.OutcomeLaws.{faultless, outcome_done, outcome_refused}
-use Rattle.theory_contraction.specs.Contraction.{lent}
+-- Where the check accepts, the contraction is that of a call without a fault; its refusal is the outcome's.
+-- Assumes nothing.
+use Rattle.call_contract.proofs.OutcomeLaws.{outcome_done, outcome_refused}
 use Rattle.call_contract.proofs.contract.Goals as goal
 
-pub returns-then-fault-ne0 : goal.returns-then-fault-ne0
-returns-then-fault-ne0 c =
-    outcome_refused (lent c.args.n c.args.m c.args.k c.args.from.now c.args.to.now c.args.names.now c.args.active.now c.args.map.now c.args.out_from.now c.args.out_to.now c.args.out_names.now c.args.pieces.now c.args.work.now) c.first_fault-fault.ensures (λ e. omega arith)
-
-pub contracted-requires : goal.contracted-requires
-contracted-requires c =
-    faultless (lent c.args.n c.args.m c.args.k c.args.from.now c.args.to.now c.args.names.now c.args.active.now c.args.map.now c.args.out_from.now c.args.out_to.now c.args.out_names.now c.args.pieces.now c.args.work.now) c.first_fault-fault.ensures (omega arith)
-
 pub returns : goal.returns
-returns c =
-    outcome_done (lent c.args.n c.args.m c.args.k c.args.from.now c.args.to.now c.args.names.now c.args.active.now c.args.map.now c.args.out_from.now c.args.out_to.now c.args.out_names.now c.args.pieces.now c.args.work.now) c.first_fault-fault.ensures (omega (arith, c.if-fault-ne0.false)) c.contracted.ensures
+returns c = outcome_done _ c.in_ok-check.ensures c.contracted.ensures
+
+pub returns-in_err-check : goal.returns-in_err-check
+returns-in_err-check c = outcome_refused _ _ _ c.from_residual.ensures.1 c.in_err-check.ensures

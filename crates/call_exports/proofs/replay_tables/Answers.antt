@@ -1,9 +1,8 @@
--- The struct says what the reply of the replay says.
-use Rattle.call_exports.proofs.ReplyLaws.{replay_done, replay_refused}
+-- The struct says what the reply says, and that is as defined. Rattle would find this by itself; it stands here so that tables in each other's place are refused
+-- as such.
+-- Assumes nothing.
+use Rattle.std.proofs.Common.{◌∙◌}
 use Rattle.call_exports.proofs.replay_tables.Goals as goal
 
-pub returns-in-Done : goal.returns-in-Done
-returns-in-Done c = replay_done _ _ _ _ _ c.replay-reply.ensures.as_defined c.in-Done.is
-
-pub returns-in-Refused : goal.returns-in-Refused
-returns-in-Refused c = replay_refused _ _ _ _ _ c.replay-reply.ensures.as_defined c.in-Refused.is
+pub returns : goal.returns
+returns c = c.from.ensures _ _ _ ∙ c.replay.ensures.as_defined
