@@ -1,31 +1,34 @@
 -- Laws of the program's text: texts written one after the other, numbers in base ten, the lines of the queries.
 -- Assumes nothing.
-use Prim.Native.Nat.{◌%◌, ◌+◌, ◌/◌, ◌<◌, ◌^◌, ◌≤◌, suc, zero, ℕ}
-use mathlib.Core.Bool.{Bool, false, true}
+use Prim.Native.Nat.{◌%◌, ◌+◌, ◌-◌, ◌/◌, ◌<◌, ◌^◌, ◌≤◌, suc, zero, ℕ}
+use mathlib.Core.Bool.{Bool, cond, false, true}
 use mathlib.Core.List.{List, [], ◌++◌, ◌∷◌, append_assoc, append-nil}
 use mathlib.Core.Path.{◌∙◌, ◌≡◌, ap, ap₂, refl, subst, sym}
 use lib.Dec.{ltb}
-use lib.ListN.{get_or, length, length-append, set, take}
-use lib.Seq.{length-sets, length-take-le, sets, take-suc}
-use native.Mathlib.Nat.{pow-suc}
-use native.Mathlib.Numerals.{add-one}
+use borrow.Rule.Slice.PartMut.{put_mid}
+use lib.ListN.{drop, get_or, length, length-append, take}
+use lib.Seq.{length-sets, sets}
+use Rattle.std.proofs.lemmas.List.{drop-drop}
+use Rattle.std.proofs.lemmas.Fmt.{decimal_from_prepends, decimal_step, length-decimal-le}
+use Rattle.std.proofs.lemmas.List.Edits.{sets-eq}
+use Rattle.std.specs.Fmt as printed
 use native.Mathlib.Omega.{arith}
-use borrow.Author.Tests.{ltb-false, ltb-true}
-use Rattle.theory_graph.proofs.Booleans.{on_bool}
 use Rattle.theory_graph.proofs.TableLaws.{sets_append}
 use Rattle.call_kinds.specs.Kinds.{is_query, kind_of}
 use Rattle.program_printing.specs.Printing.{Wrote}
+use Rattle.theory_timeline.proofs.EventLoops.{Met}
 use Rattle.theory_timeline.proofs.Decimals.{spell_more, spell_one}
 use Rattle.theory_timeline.specs.Program.{decimal, query_line, query_lines, spell}
 
--- one byte more of a text
-pub sets_more : (a t : List ℕ) (at i : ℕ) → i < length t → set (sets a at (take i t)) (at + i) (get_or t i 0) ≡ sets a at (take (i + 1) t)
-sets_more a t at i l =
-    let e : at + length (take i t) ≡ at + i = omega (arith, length-take-le i t (omega arith)) in
-    sym (ap (λ (k : ℕ). sets a at (take k t)) (add-one i)
-    ∙ ap (sets a at) (take-suc t i 0 l)
-    ∙ sets_append (take i t) a at (get_or t i 0 ∷ [])
-    ∙ ap (λ (k : ℕ). set (sets a at (take i t)) k (get_or t i 0)) e)
+-- a text that is copied into its place
+pub wrote_text : (at : ℕ) (text a b : List ℕ) → at + length text ≤ length a → b ≡ text → Wrote at text a (put_mid at (at + length text - at) a b) (at + length text)
+wrote_text at text a b l e = record { table = placed ∙ sym (sets-eq text a at l); next = refl }
+  where
+    after : drop (at + length text - at) (drop at a) ≡ drop (at + length text) a
+    after = let k : at + length text - at ≡ length text = omega arith in ap (λ (k : ℕ). drop k (drop at a)) k ∙ drop-drop (length text) at a
+
+    placed : put_mid at (at + length text - at) a b ≡ take at a ++ text ++ drop (at + length text) a
+    placed = ap₂ (λ (x y : List ℕ). take at a ++ (x ++ y)) e after ∙ sym (append_assoc (take at a) text (drop (at + length text) a))
 
 pub wrote_then : {at r q : ℕ} (s t : List ℕ) {a b c : List ℕ} → Wrote at s a b r → Wrote r t b c q → Wrote at (s ++ t) a c q
 wrote_then {at} s t {a} {b} w v =
@@ -55,31 +58,13 @@ pub decimal_most : (n : ℕ) → length (decimal n) ≤ 20
 unfolding decimal
 decimal_most n = omega (arith, spell_most 20 n [])
 
--- what follows stays behind
-spell_rest : (k n : ℕ) (rest : List ℕ) → spell k n rest ≡ spell k n [] ++ rest
-unfolding spell
-spell_rest zero n rest = refl
-spell_rest (suc k) n rest = on_bool (ltb n 10)
-    (λ t. let l = ltb-true n 10 t in spell_one k n rest l ∙ sym (ap (λ (x : List ℕ). x ++ rest) (spell_one k n [] l)))
-    (λ t.
-    let l = ltb-false n 10 t in
-    spell_more k n rest l ∙ spell_rest k (n / 10) ((48 + n % 10) ∷ rest)
-    ∙ sym (ap (λ (x : List ℕ). x ++ rest) (spell_more k n [] l ∙ spell_rest k (n / 10) ((48 + n % 10) ∷ [])) ∙ append_assoc (spell k (n / 10) []) ((48 + n % 10) ∷ []) rest))
-
--- more room for digits than there are changes nothing
-spell_room : (k n : ℕ) (rest : List ℕ) → n < 10 ^ suc k → spell (suc k) n rest ≡ spell (suc (suc k)) n rest
-spell_room zero n rest l = let m : n < 10 = l in spell_one zero n rest m ∙ sym (spell_one 1 n rest m)
-spell_room (suc k) n rest l = on_bool (ltb n 10)
-    (λ t. let m = ltb-true n 10 t in spell_one (suc k) n rest m ∙ sym (spell_one (suc (suc k)) n rest m))
-    (λ t.
-    let m = ltb-false n 10 t in
-    spell_more (suc k) n rest m ∙ spell_room k (n / 10) ((48 + n % 10) ∷ rest) (omega (arith, pow-suc 10 (suc k))) ∙ sym (spell_more (suc (suc k)) n rest m))
-
-pub decimal_more : (n : ℕ) → 10 ≤ n → n < 18446744073709551616 → decimal n ≡ decimal (n / 10) ++ ((48 + n % 10) ∷ [])
+-- the library's text of a number is the definition's
+decimal_is : (n : ℕ) → n < 2 ^ 64 → decimal n ≡ printed.decimal n
 unfolding decimal
-decimal_more n l h =
-    spell_more 19 n [] l ∙ spell_rest 19 (n / 10) ((48 + n % 10) ∷ [])
-    ∙ ap (λ (x : List ℕ). x ++ ((48 + n % 10) ∷ [])) (spell_room 18 (n / 10) [] (omega arith))
+decimal_is n h = decimal_from_prepends spell (record { one = spell_one; more = spell_more }) 20 n [] h (length-decimal-le 20 n (omega arith) (omega arith) h) ∙ append-nil (printed.decimal n)
+
+pub decimal_more : (n : ℕ) → 10 ≤ n → n < 2 ^ 64 → decimal n ≡ decimal (n / 10) ++ ((48 + n % 10) ∷ [])
+decimal_more n l h = decimal_is n h ∙ decimal_step n l h ∙ sym (ap (λ (x : List ℕ). x ++ ((48 + n % 10) ∷ [])) (decimal_is (n / 10) (omega arith)))
 
 -- ---- the lines of the queries
 module _ (n : ℕ) (x answers : List ℕ) where
@@ -119,6 +104,14 @@ module _ (n : ℕ) (x answers : List ℕ) where
   unfolding query_lines
   lines_none i h = ap (λ (b : Bool). in_front i b []) h
 
+  -- what an event adds
+  pub line_met : {k i event_x answer : ℕ} → Met x answers k i event_x answer → cond (is_query (kind_of n event_x)) (query_line i answer) [] ≡ lines (0 + k) 1
+  line_met {k} e = (λ j. cond (is_query (kind_of n (e.x_is j))) (query_line (e.place j) (e.y_is j)) []) ∙ of (is_query (kind_of n (get_or x k 0))) refl ∙ from_zero k
+    where
+      of : (b : Bool) → is_query (kind_of n (get_or x k 0)) ≡ b → cond b (query_line k (get_or answers k 0)) [] ≡ lines k 1
+      of true t = sym (lines_query k t)
+      of false t = sym (lines_none k t)
+
 -- ---- where a text ends
 pub number_end : (n : ℕ) {at r : ℕ} {a b : List ℕ} → Wrote at (decimal n) a b r → (r ≤ at + 20) × (length b ≡ length a)
 number_end n w = (omega (arith, w.next, decimal_most n), wrote_length (decimal n) w)
@@ -131,5 +124,5 @@ pub wrote_as : {at r : ℕ} {s t a b : List ℕ} → s ≡ t → Wrote at s a b 
 wrote_as {at} {r} {a = a} {b = b} e w = subst (λ (s : List ℕ). Wrote at s a b r) e w
 
 -- the last digit
-pub decimal_length : (n : ℕ) → 10 ≤ n → n < 18446744073709551616 → length (decimal n) ≡ length (decimal (n / 10)) + 1
+pub decimal_length : (n : ℕ) → 10 ≤ n → n < 2 ^ 64 → length (decimal n) ≡ length (decimal (n / 10)) + 1
 decimal_length n l h = ap length (decimal_more n l h) ∙ length-append (decimal (n / 10)) ((48 + n % 10) ∷ [])

@@ -5,38 +5,38 @@ use mathlib.Core.Bool.{false, true}
 use mathlib.Core.List.{List, [], ◌++◌, ◌∷◌}
 use mathlib.Core.Path.{◌∙◌, ◌≡◌, ap, ap₂, refl, sym}
 use lib.Dec.{eqb, ltb}
-use lib.ListN.{drop, get_or, length, length-append, replicate, take}
+use lib.ListN.{drop, get_or, length, length-append, length-drop, replicate, take}
 use lib.Seq.{get_or-take, length-take-le, take_all}
 use native.Mathlib.Omega.{arith}
+use Rattle.std.proofs.Math.Seq.{take-append_seam}
 use borrow.Author.Tests.{eqb-true, ltb-false, ltb-true}
+use Rattle.std.specs.Prelude.{Err, Ok, Result}
+use Rattle.call_sizes.specs.Numbers.{number_of, place_of}
+use Rattle.call_sizes.specs.Refusal.{Refusal}
+use Rattle.call_sizes.specs.declared.Refusal as declared
 use Rattle.theory_graph.proofs.Booleans.{on_bool}
-use Rattle.program_reading.proofs.ReadingLaws.{filled_take, many_events, many_junctions, many_segments, other_length, word_at}
+use Rattle.program_reading.proofs.ReadingLaws.{many_events, many_junctions, many_segments, other_length, word_at}
 use Rattle.program_printing.proofs.TextLaws.{decimal_most}
-use Rattle.program_reading.specs.Reading.{Filled, HeaderOutcome, Read, check_input, header_outcome}
-use Rattle.program_reading.specs.declared.Header.TheVariants.{Refused, Sizes}
+use Rattle.program_reading.specs.Reading.{HeaderOutcome, Read, check_input, header_outcome}
+use Rattle.program_reading.specs.declared.Header.{Header}
 use Rattle.theory_timeline.proofs.ProgramLaws.{input_within, words16_length}
 use Rattle.theory_timeline.specs.Call.{lent, outcome}
 use Rattle.theory_timeline.specs.Program.{decimal, events_of, input_fault, input_length, input_lent, junctions_of}
 use Rattle.theory_timeline.specs.Program.{output_with, printed, printed_input, refused_line, segments_of, share_of, totals_line, words16}
 use Rattle.theory_timeline.specs.Replay.{Lent, Outcome, replay}
-use Rattle.theory_timeline.specs.declared.ReplayReply.{ReplayReply}
-use Rattle.theory_timeline.specs.declared.ReplayReply.TheVariants as reply
+use Rattle.theory_timeline.specs.declared.Totals.{Totals}
 use Rattle.program_response.specs.Response.{work_after}
-
--- the filled part of a table
-pub part_length : {ws : List ℕ} {i k : ℕ} {a b : List ℕ} → Filled ws i k a b → k ≤ length a → length (take k b) ≡ k
-part_length {k = k} {b = b} f l = length-take-le k b (omega (arith, f.same))
 
 -- ---- the header
 module _ (I : List ℕ) where
-  module _ {n m t p : ℕ} (e : header_outcome (Sizes n m t p) ≡ check_input I) where
+  module _ {h : Header} (e : header_outcome (Ok h) ≡ check_input I) where
     accepts : eqb (input_fault I).0 0 ≡ true
     accepts = sym (ap (λ (o : HeaderOutcome). o.accepted) e)
 
-    pub header_read : Read n m t I
+    pub header_read : Read h.n h.m h.t I
     header_read =
-        let f : m ≡ segments_of (words16 I) = rw accepts at (ap (λ (o : HeaderOutcome). o.m) e) in
-        let g : t ≡ events_of (words16 I) = rw accepts at (ap (λ (o : HeaderOutcome). o.t) e) in
+        let f : h.m ≡ segments_of (words16 I) = rw accepts at (ap (λ (o : HeaderOutcome). o.m) e) in
+        let g : h.t ≡ events_of (words16 I) = rw accepts at (ap (λ (o : HeaderOutcome). o.t) e) in
         let w = input_within I (eqb-true (input_fault I).0 0 accepts) in
         record {
           junctions = rw accepts at (ap (λ (o : HeaderOutcome). o.n) e);
@@ -47,42 +47,55 @@ module _ (I : List ℕ) where
           long = w.long ∙ ap₂ (λ (x y : ℕ). 2 * input_length x y) (sym f) (sym g);
         }
 
-    header_share : p ≡ share_of (words16 I)
+    header_share : h.p ≡ share_of (words16 I)
     header_share = rw accepts at (ap (λ (o : HeaderOutcome). o.p) e)
 
-    pub output_accepted : (work : List ℕ) → printed_input work I p ≡ output_with work I
+    pub output_accepted : (work : List ℕ) → printed_input work I h.p ≡ output_with work I
     unfolding output_with
     output_accepted work = rw (output_with, accepts) (ap (printed_input work I) header_share)
 
-    pub work_accepted : (work : List ℕ) {left : List ℕ} → left ≡ (replay (input_lent work I) p).work → left ≡ work_after work I
+    pub work_accepted : (work : List ℕ) {left : List ℕ} → left ≡ (replay (input_lent work I) h.p).work → left ≡ work_after work I
     unfolding work_after
-    work_accepted work h = rw (work_after, accepts) (h ∙ ap (λ (q : ℕ). (replay (input_lent work I) q).work) header_share)
+    work_accepted work l = rw (work_after, accepts) (l ∙ ap (λ (q : ℕ). (replay (input_lent work I) q).work) header_share)
 
-  pub output_refused : {c : ℕ} → header_outcome (Refused c) ≡ check_input I → (work : List ℕ) → refused_line c 0 ≡ output_with work I
+  -- an input that is refused
+  output_fault : {f : Refusal} → input_fault I ≡ f → eqb f.0 0 ≡ false → (work : List ℕ) → refused_line f.0 f.1 ≡ output_with work I
   unfolding output_with
-  output_refused e work =
-      let r : eqb (input_fault I).0 0 ≡ false = sym (ap (λ (o : HeaderOutcome). o.accepted) e) in
-      rw (output_with, r) (ap₂ refused_line (ap (λ (o : HeaderOutcome). o.code) e) (ap (λ (o : HeaderOutcome). o.place) e))
+  output_fault e n work =
+      let r = ap (λ (g : Refusal). eqb g.0 0) e ∙ n in
+      rw (output_with, r) (ap₂ refused_line (ap (λ (g : Refusal). g.0) (sym e)) (ap (λ (g : Refusal). g.1) (sym e)))
 
-  pub work_refused : {c : ℕ} → header_outcome (Refused c) ≡ check_input I → (work : List ℕ) → work ≡ work_after work I
-  unfolding work_after
-  work_refused e work = let r : eqb (input_fault I).0 0 ≡ false = sym (ap (λ (o : HeaderOutcome). o.accepted) e) in rw (work_after, r) refl
+  module _ (r : declared.Refusal) (e : header_outcome (Err r) ≡ check_input I) where
+    refuses : eqb (input_fault I).0 0 ≡ false
+    refuses = sym (ap (λ (o : HeaderOutcome). o.accepted) e)
+
+    pub output_refused : (work : List ℕ) → refused_line (number_of r) (place_of r) ≡ output_with work I
+    unfolding output_with
+    output_refused work = rw (output_with, refuses) (ap₂ refused_line (ap (λ (o : HeaderOutcome). o.code) e) (ap (λ (o : HeaderOutcome). o.place) e))
+
+    pub work_refused : (work : List ℕ) → work ≡ work_after work I
+    unfolding work_after
+    work_refused work = rw (work_after, refuses) refl
 
   -- ---- the tables
   module _ {n m t : ℕ} (r : Read n m t I) where
     pub numbers : length (words16 I) ≡ input_length m t
     numbers = words16_length I (input_length m t) r.long
 
-    -- a table filled from number i on
-    pub table_is : (i k : ℕ) (a b : List ℕ) → Filled (words16 I) i k a b → k ≤ length a → i + k ≤ input_length m t → take k b ≡ take k (drop i (words16 I))
-    table_is i k a b f l h = filled_take (words16 I) i k a b f l (omega (arith, numbers))
+    -- the front of a table, once it is filled from number i on
+    pub table_is : (i k : ℕ) (old rest : List ℕ) {part : List ℕ} → part ≡ take (length old) (drop i (words16 I)) → length old ≡ k → i + k ≤ input_length m t
+        → take k (part ++ rest) ≡ take k (drop i (words16 I))
+    table_is i k old rest {part} e l b =
+        let whole : part ≡ take k (drop i (words16 I)) = e ∙ ap (λ (k : ℕ). take k (drop i (words16 I))) l in
+        let long : length part ≡ k = ap length whole ∙ length-take-le k (drop i (words16 I)) (omega (arith, length-drop i (words16 I), numbers)) in
+        ap (λ (k : ℕ). take k (part ++ rest)) (sym long) ∙ take-append_seam part rest ∙ whole
 
     pub lent_input : (work : List ℕ) {a b start x y : List ℕ} → a ≡ take m (drop 4 (words16 I)) → b ≡ take m (drop (4 + m) (words16 I))
         → start ≡ take m (drop (4 + 2 * m) (words16 I)) → x ≡ take t (drop (4 + 3 * m) (words16 I)) → y ≡ take t (drop (4 + 3 * m + t) (words16 I))
         → lent n m t a b start x y (replicate 32 0) (replicate 32 0) work ≡ input_lent work I
     unfolding input_lent
-    lent_input work e f s g h =
-        (λ i. lent n m t (e i) (f i) (s i) (g i) (h i) (replicate 32 0) (replicate 32 0) work)
+    lent_input work e f s g k =
+        (λ i. lent n m t (e i) (f i) (s i) (g i) (k i) (replicate 32 0) (replicate 32 0) work)
         ∙ (λ i. lent (r.junctions i) (r.segments i) (r.events i)
         (take (r.segments i) (drop 4 (words16 I))) (take (r.segments i) (drop (4 + r.segments i) (words16 I)))
         (take (r.segments i) (drop (4 + 2 * r.segments i) (words16 I)))
@@ -90,19 +103,21 @@ module _ (I : List ℕ) where
         (replicate 32 0) (replicate 32 0) work)
 
 -- ---- the reply
-outcome_work : (r : ReplayReply) (answers names work : List ℕ) → (outcome r answers names work).work ≡ work
-outcome_work (reply.Done t) answers names work = refl
-outcome_work (reply.Refused c i) answers names work = refl
+outcome_work : (r : Result Totals declared.Refusal) (answers names work : List ℕ) → (outcome r answers names work).work ≡ work
+outcome_work (Ok t) answers names work = refl
+outcome_work (Err e) answers names work = refl
 
 -- to what an input lends: its print, and the work table
 pub replied : (I : List ℕ) {n m t : ℕ} (r : Read n m t I) (p : ℕ) (work : List ℕ) {a b start x y : List ℕ}
     → a ≡ take m (drop 4 (words16 I)) → b ≡ take m (drop (4 + m) (words16 I)) → start ≡ take m (drop (4 + 2 * m) (words16 I))
     → x ≡ take t (drop (4 + 3 * m) (words16 I)) → y ≡ take t (drop (4 + 3 * m + t) (words16 I))
-    → (reply : ReplayReply) (answers names left : List ℕ) → outcome reply answers names left ≡ replay (lent n m t a b start x y (replicate 32 0) (replicate 32 0) work) p
-    → length x ≡ t → (printed n (length x) x (outcome reply answers names left) ≡ printed_input work I p) × (left ≡ (replay (input_lent work I) p).work)
+    → (reply : Result Totals declared.Refusal) (answers names left : List ℕ)
+    → outcome reply answers names left ≡ replay (lent n m t a b start x y (replicate 32 0) (replicate 32 0) work) p
+    → (printed n (length x) x (outcome reply answers names left) ≡ printed_input work I p) × (left ≡ (replay (input_lent work I) p).work)
 unfolding input_lent
-replied I {n} {m} {t} r p work {x = x} ea eb es ex ey reply answers names left e lx =
+replied I {n} {m} {t} r p work {x = x} ea eb es ex ey reply answers names left e =
     let l = lent_input I r work ea eb es ex ey in
+    let lx : length x ≡ t = ap length ex ∙ length-take-le t (drop (4 + 3 * m) (words16 I)) (omega (arith, length-drop (4 + 3 * m) (words16 I), numbers I r)) in
     let f = e ∙ ap (λ (l : Lent). replay l p) l in (
       ap₂ (λ (k : ℕ) (o : Outcome). printed n k x o) lx e ∙ ap (λ (l : Lent). printed l.n l.t l.x (replay l p)) l,
       sym (outcome_work reply answers names left) ∙ ap (λ (o : Outcome). o.work) f,
@@ -132,21 +147,21 @@ longer : (work I J : List ℕ) → 520 < length I → 520 < length J → junctio
     → output_with work I ≡ output_with work J
 longer work I J a b e f g =
     on_bool (ltb 176 (junctions_of (words16 I)))
-    (λ h. let l = ltb-true 176 (junctions_of (words16 I)) h in both (many_junctions I (omega arith) l) (many_junctions J (omega arith) (omega arith)))
+    (λ h. let l = ltb-true 176 (junctions_of (words16 I)) h in both 10 refl (many_junctions I (omega arith) l) (many_junctions J (omega arith) (omega arith)))
     (λ h.
     let l = ltb-false 176 (junctions_of (words16 I)) h in
     on_bool (ltb 64 (segments_of (words16 I)))
-    (λ h. let k = ltb-true 64 (segments_of (words16 I)) h in both (many_segments I (omega arith) l k) (many_segments J (omega arith) (omega arith) (omega arith)))
+    (λ h. let k = ltb-true 64 (segments_of (words16 I)) h in both 10 refl (many_segments I (omega arith) l k) (many_segments J (omega arith) (omega arith) (omega arith)))
     (λ h.
     let k = ltb-false 64 (segments_of (words16 I)) h in
     on_bool (ltb 32 (events_of (words16 I)))
-    (λ h. let j = ltb-true 32 (events_of (words16 I)) h in both (many_events I (omega arith) l k j) (many_events J (omega arith) (omega arith) (omega arith) (omega arith)))
+    (λ h. let j = ltb-true 32 (events_of (words16 I)) h in both 10 refl (many_events I (omega arith) l k j) (many_events J (omega arith) (omega arith) (omega arith) (omega arith)))
     (λ h.
     let j = ltb-false 32 (events_of (words16 I)) h in
-    both (other_length I (omega arith) l k j (λ q. omega arith)) (other_length J (omega arith) (omega arith) (omega arith) (omega arith) (λ q. omega arith)))))
+    both 9 refl (other_length I (omega arith) l k j (λ q. omega arith)) (other_length J (omega arith) (omega arith) (omega arith) (omega arith) (λ q. omega arith)))))
   where
-    both : {c : ℕ} → header_outcome (Refused c) ≡ check_input I → header_outcome (Refused c) ≡ check_input J → output_with work I ≡ output_with work J
-    both p q = sym (output_refused I p work) ∙ output_refused J q work
+    both : (c : ℕ) → eqb c 0 ≡ false → input_fault I ≡ (c, 0) → input_fault J ≡ (c, 0) → output_with work I ≡ output_with work J
+    both c n p q = sym (output_fault I p n work) ∙ output_fault J q n work
 
 pub enough : (work bytes : List ℕ) → output_with work (take 1024 bytes) ≡ output_with work bytes
 enough work bytes = on_bool (ltb 1024 (length bytes))

@@ -15,13 +15,8 @@ pub fn respond(input: &[u8], work: &mut [u32], out: &mut [u8]) -> usize
     ensures wrote { Wrote 0 (output_with work.old input.now) out.old out.new result × (result ≤ 2048) }
     ensures work_after { work.new ≡ work_after work.old input.now }
 {
-    let header = program_reading::read_header(input);
-    match header {
-        program_reading::Header::Sizes(n, m, t, p) => {
-            return response::replay_input(input, n, m, t, p, work, out);
-        }
-        program_reading::Header::Refused(code) => {
-            return program_printing::put_refused(out, 0, code, 0);
-        }
+    match program_reading::read_header(input) {
+        Ok(header) => response::replay_input(input, header, work, out),
+        Err(refusal) => program_printing::put_refused(out, refusal),
     }
 }

@@ -6,13 +6,17 @@ ghost use Rattle.theory_timeline.specs.Replay.{replay};
 ghost use Rattle.program_printing.specs.Printing.{Wrote};
 ghost use Rattle.program_reading.specs.Reading.{Read};
 
+use call_sizes::Refusal;
+use program_reading::Header;
+use theory_timeline::Totals;
+
 // Prints a reply to events with these X, over n junctions.
 pub(crate) fn put_reply(
     out: &mut [u8],
     n: usize,
     x: &[u16],
     answers: &[u8],
-    reply: theory_timeline::ReplayReply,
+    reply: Result<Totals, Refusal>,
 ) -> usize
     requires { (2048 ≤ length out.old) × (length x.now ≤ 32) × (length x.now ≤ length answers.now) }
     ensures { ((names work : List ℕ)
@@ -20,30 +24,21 @@ pub(crate) fn put_reply(
         × (result ≤ 2048) }
 {
     match reply {
-        theory_timeline::ReplayReply::Done(totals) => {
+        Ok(totals) => {
             let at = program_printing::put_queries(out, n, x, answers);
-            return program_printing::put_totals(out, at, totals.queries, totals.open, totals.kept);
+            program_printing::put_totals(out, at, totals)
         }
-        theory_timeline::ReplayReply::Refused(code, place) => {
-            return program_printing::put_refused(out, 0, code, place);
-        }
+        Err(refusal) => program_printing::put_refused(out, refusal),
     }
 }
 
-// Replays an input with these sizes and this share, and prints the reply.
-pub(crate) fn replay_input(
-    input: &[u8],
-    n: usize,
-    m: usize,
-    t: usize,
-    p: usize,
-    work: &mut [u32],
-    out: &mut [u8],
-) -> usize
-    requires { Read n m t input.now × (2048 ≤ length out.old) }
-    ensures wrote { Wrote 0 (printed_input work.old input.now p) out.old out.new result × (result ≤ 2048) }
-    ensures work_after { work.new ≡ (replay (input_lent work.old input.now) p).work }
+// Replays an input with this header, and prints the reply.
+pub(crate) fn replay_input(input: &[u8], header: Header, work: &mut [u32], out: &mut [u8]) -> usize
+    requires { Read header.n header.m header.t input.now × (2048 ≤ length out.old) }
+    ensures wrote { Wrote 0 (printed_input work.old input.now header.p) out.old out.new result × (result ≤ 2048) }
+    ensures work_after { work.new ≡ (replay (input_lent work.old input.now) header.p).work }
 {
+    let Header { n, m, t, p } = header;
     let mut a = [0u16; 64];
     let mut b = [0u16; 64];
     let mut start = [0u16; 64];
@@ -52,11 +47,11 @@ pub(crate) fn replay_input(
     let mut answers = [0u8; 32];
     // Names are asked for by the replay and not printed.
     let mut names = [0u16; 32];
-    program_reading::fill(input, 4, m, &mut a);
-    program_reading::fill(input, 4 + m, m, &mut b);
-    program_reading::fill(input, 4 + 2 * m, m, &mut start);
-    program_reading::fill(input, 4 + 3 * m, t, &mut x);
-    program_reading::fill(input, 4 + 3 * m + t, t, &mut y);
+    program_reading::fill(input, 4, &mut a[..m]);
+    program_reading::fill(input, 4 + m, &mut b[..m]);
+    program_reading::fill(input, 4 + 2 * m, &mut start[..m]);
+    program_reading::fill(input, 4 + 3 * m, &mut x[..t]);
+    program_reading::fill(input, 4 + 3 * m + t, &mut y[..t]);
     let reply = call_replay::replay(
         n,
         m,

@@ -17,3 +17,4 @@ pub mod OutputLaws
 pub mod Leaves
 pub mod Cases
 pub mod Example
+pub mod EventLoops

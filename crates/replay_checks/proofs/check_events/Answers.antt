@@ -1,7 +1,8 @@
 -- Event by event; the set changes as the event says.
 -- Assumes nothing.
 use Rattle.std.proofs.Common.{◌∙◌, inl, inr, length-append, subst, sym}
-use Rattle.replay_checks.proofs.CheckLaws.{all_met, event_fits, event_met, event_passes, event_refused, events_pass, refusal_returned, set_closed, set_kept, set_opened}
+use Rattle.theory_timeline.proofs.EventLoops.{all_met, event_met}
+use Rattle.replay_checks.proofs.CheckLaws.{event_fits, event_passes, event_refused, events_pass, refusal_returned, set_closed, set_kept, set_opened}
 use Rattle.replay_checks.specs.Check.{CheckedEvents}
 use Rattle.replay_checks.proofs.check_events.Goals as goal
 

@@ -1,33 +1,34 @@
--- `put_reply` meets its contract: the lines of the queries and the totals, or the line of the refusal.
-use mathlib.Core.Path.{ap, sym}
-use lib.ListN.{length}
-use native.Mathlib.Omega.{arith}
-use Rattle.theory_timeline.specs.Call.{outcome}
-use Rattle.theory_timeline.specs.declared.ReplayReply.{ReplayReply}
+-- The lines of the queries and the totals, or the line of the refusal.
+-- Assumes nothing.
+use Rattle.std.proofs.Common.{ap, arith, length, Result, sym}
+use Rattle.call_sizes.specs.Numbers.{number_of, place_of}
+use Rattle.call_sizes.specs.declared.Refusal.{Refusal}
 use Rattle.program_printing.proofs.TextLaws.{wrote_as, wrote_then}
+use Rattle.theory_timeline.specs.Call.{outcome}
 use Rattle.theory_timeline.specs.Program.{printed}
+use Rattle.theory_timeline.specs.declared.Totals.{Totals}
 use Rattle.program_response.proofs.ResponseLaws.{refused_most, totals_most}
 use Rattle.program_response.proofs.response.put_reply.Goals as goal
 
-pub returns-in-Done : goal.returns-in-Done
+pub returns-in-Ok : goal.returns-in-Ok
 unfolding printed
-returns-in-Done c =
+returns-in-Ok c =
     let a = c.args in
-    let totals = c.in-Done.totals in
+    let t = c.in-Ok.totals in
     let w = c.put_queries-at.ensures in (
       λ names work.
-          wrote_as (ap (λ (k : ReplayReply). printed a.n (length a.x.now) a.x.now (outcome k a.answers.now names work)) (sym c.in-Done.is))
+          wrote_as (ap (λ (k : Result Totals Refusal). printed a.n (length a.x.now) a.x.now (outcome k a.answers.now names work)) (sym c.in-Ok.is))
           (wrote_then _ _ w.0 c.put_totals.ensures),
-      omega (arith, c.put_totals.ensures.next, w.1, totals_most totals.queries totals.«open» totals.kept),
+      omega (arith, c.put_totals.ensures.next, w.1, totals_most t.queries t.«open» t.kept),
     )
 
-pub returns-in-Refused : goal.returns-in-Refused
+pub returns-in-Err : goal.returns-in-Err
 unfolding printed
-returns-in-Refused c =
+returns-in-Err c =
     let a = c.args in
-    let refusal = c.in-Refused in (
+    let r = c.in-Err.refusal in (
       λ names work.
-          wrote_as (ap (λ (k : ReplayReply). printed a.n (length a.x.now) a.x.now (outcome k a.answers.now names work)) (sym c.in-Refused.is))
+          wrote_as (ap (λ (k : Result Totals Refusal). printed a.n (length a.x.now) a.x.now (outcome k a.answers.now names work)) (sym c.in-Err.is))
           c.put_refused.ensures,
-      omega (arith, c.put_refused.ensures.next, refused_most refusal.code refusal.place),
+      omega (arith, c.put_refused.ensures.next, refused_most (number_of r) (place_of r)),
     )
