@@ -154,13 +154,6 @@ pub record Copying (from q m s n : ℕ) (w z : List ℕ) (j : ℕ) : Type 0 wher
   pub edged : Edged s n j w z
   pub same : edges_in n j (drop s z) ≡ table (edge_at from q w) 0 j
 
-pub copying_none : (from q m s n : ℕ) (w : List ℕ) → Copying from q m s n w w 0
-copying_none from q m s n w = record {
-  long = refl;
-  edged = record { front = refl; nodes = λ i t v u. refl; ends = λ h u. absurd (omega arith); names = λ h u. absurd (omega arith) };
-  same = refl;
-}
-
 module _ {from q m s n j : ℕ} {w z : List ℕ} (e : EdgesReady from q m s n w) (k : Copying from q m s n w z j) (l : j < m) where
   reads : (i : ℕ) → i < from + 3 * q → get_or z i 0 ≡ get_or w i 0
   reads i u = front_get s i w z k.edged.front (omega (arith, e.front))
@@ -176,17 +169,6 @@ module _ {from q m s n j : ℕ} {w z : List ℕ} (e : EdgesReady from q m s n w)
         omega (arith, r.1, reads (from + q + j) (omega (arith, e.few))),
         omega (arith, r.2, reads (from + 2 * q + j) (omega (arith, e.few))),
       )
-
-  pub copying_need : (16 * n + 6 * j + 6 ≤ length (take (length z - s) (drop s z))) × (get_or z (from + j) 0 < 65536) × (get_or z (from + q + j) 0 < 65536)
-      × (get_or z (from + 2 * q + j) 0 < 65536) × (n ≤ 65536) × (j < 32768)
-  copying_need = (
-    rw (length-take, length-drop) (omega (arith, e.room, k.long)),
-    omega (arith, copying_ends.0, e.many),
-    omega (arith, copying_ends.1, e.many),
-    copying_ends.2,
-    e.many,
-    omega (arith, e.much),
-  )
 
   pub copying_more : (zs : List ℕ) → PutEdge n j (get_or z (from + j) 0) (get_or z (from + q + j) 0) (get_or z (from + 2 * q + j) 0) (take (length z - s) (drop s z)) zs
       → Copying from q m s n w (put_mid s (length z - s) z zs) (j + 1)
