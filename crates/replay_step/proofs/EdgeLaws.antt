@@ -2,8 +2,8 @@
 -- loop that copies them.
 -- Assumes nothing.
 use Prim.Native.Nat.{◌*◌, ◌+◌, ◌-◌, ◌<◌, ◌≤◌, suc, ℕ}
-use mathlib.Core.Bool.{Bool, cond, false, true}
-use mathlib.Core.List.{List, [], ◌++◌, ◌∷◌, append_assoc, append-nil}
+use mathlib.Core.Bool.{Bool, cond, true}
+use mathlib.Core.List.{List, [], ◌++◌, ◌∷◌, append_assoc}
 use mathlib.Core.Path.{◌∙◌, ◌≡◌, ap, ap₂, refl, sym}
 use lib.Dec.{eqb}
 use lib.ListN.{drop, get_or, length, length-drop, length-take, take}
@@ -81,19 +81,6 @@ edged_none : (s n m : ℕ) (v : List ℕ) → There s n m v → Edged s n m v v
 edged_none s n m v e = record { front = refl; nodes = λ j l u b. refl; ends = e.ends; names = e.names }
 
 module _ {s n : ℕ} {f : ℕ → Bool} {E : ℕ → Entry} {i m : ℕ} {v : List ℕ} (there : There s n m v) where
-  pub added_none : AddedBy s n f E i i m v v m
-  added_none =
-      let z : i - i ≡ 0 = omega arith in
-      record { long = refl; edged = edged_none s n m v there; more = sym (ap (λ (k : ℕ). edges_in n m (drop s v) ++ pick_events f E i k) z ∙ append-nil (edges_in n m (drop s v))); most = omega arith }
-
-  pub added_skip : f i ≡ false → AddedBy s n f E i (i + 1) m v v m
-  added_skip e = record {
-    long = refl;
-    edged = edged_none s n m v there;
-    more = sym (ap (λ (G : Named). edges_in n m (drop s v) ++ G) (one_number f E i false e) ∙ append-nil (edges_in n m (drop s v)));
-    most = omega arith;
-  }
-
   pub added_put : f i ≡ true → {a b c : ℕ} → ((a, b), c) ≡ E i → a < n → b < n → c < 65536 → s ≤ length v → {zs : List ℕ} → PutEdge n m a b c (take (length v - s) (drop s v)) zs
       → AddedBy s n f E i (i + 1) m v (put_mid s (length v - s) v zs) (m + 1)
   added_put e {a} {b} ee la lb lc h {zs} k = record {
