@@ -64,9 +64,6 @@ module _ {w : Window} (v : List ℕ) (one : w.events ≡ 1) (l : 29 ≤ length v
       (λ t. let h = eqb-false (get_or v 2 0) 0 t in ap (λ (b : Bool). cond b asked 3) t ∙ sym (change_byte g w.at (leaf_changes w one 29 v (omega arith) g sound i a.σ a.events h)))
 
 module _ {w : Window} {p : ℕ} {v : List ℕ} (q : WindowReadyOf JunctionArea (words_of 29) (words_of 340) w p v) (one : w.events ≡ 1) where
-  pub byte_need : (w.edges ≤ 8) × (29 ≤ length v)
-  byte_need = (omega (arith, q.area.graph.few), omega (arith, q.enough))
-
   pub one_done : (before : List ℕ) {after : List ℕ} (b : ℕ) → b ≡ byte_at w.edges v → after ≡ set before w.at b
       → (g : Timeline) → Sound g → w.at < size g → JunctionArea g w (take 29 v) → JunctionReplied g w.at 1 before after
   one_done before b e x g s i a = x ∙ ap (set before w.at) (e ∙ byte_is v one (omega (arith, q.enough)) g s i a)

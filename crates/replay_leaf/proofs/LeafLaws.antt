@@ -16,15 +16,6 @@ module _ (tag nodes edges : ℕ) where
   pub byte_3 : ¬ (tag ≡ 0) → byte_by 1 0 0 ≡ byte_by tag nodes edges
   byte_3 h = rw (ne_eqb tag 0 h) refl
 
-  pub byte_2 : tag ≡ 0 → nodes ≡ 1 → byte_by 0 1 0 ≡ byte_by tag nodes edges
-  byte_2 z e = rw (eq-eqb tag 0 z, eq-eqb nodes 1 e) refl
-
-  pub byte_0 : tag ≡ 0 → ¬ (nodes ≡ 1) → edges ≡ 0 → byte_by 0 0 0 ≡ byte_by tag nodes edges
-  byte_0 z h e = rw (eq-eqb tag 0 z, ne_eqb nodes 1 h, eq-eqb edges 0 e) refl
-
-  pub byte_1 : tag ≡ 0 → ¬ (nodes ≡ 1) → ¬ (edges ≡ 0) → byte_by 0 0 1 ≡ byte_by tag nodes edges
-  byte_1 z h e = rw (eq-eqb tag 0 z, ne_eqb nodes 1 h, ne_eqb edges 0 e) refl
-
   -- demand 2 at a leaf: the byte of a query by the counts is the one that is read off the small graph
   pub byte_read : (H : Named) → tag ≡ 0 → length H ≡ edges → byte_by tag nodes edges ≡ read_off nodes (plain H)
   byte_read [] z e = rw (eq-eqb tag 0 z, eq-eqb edges 0 (sym e)) refl

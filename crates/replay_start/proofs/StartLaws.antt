@@ -5,15 +5,15 @@ use mathlib.Core.Bool.{Bool, ◌&&◌, ◌||◌, cond, false, or-false, true}
 use mathlib.Core.List.{List, [], ◌∷◌}
 use mathlib.Core.Path.{◌∙◌, ◌≡◌, ap, ap₂, refl, subst, sym}
 use lib.Dec.{eqb, ltb}
-use lib.ListN.{drop, get_or, length, length-drop, length-set, length-take, set, take}
+use lib.ListN.{drop, get_or, length, length-set, set, take}
 use lib.Seq.{get_or-set_other, get_or-set_same}
 use native.Mathlib.Omega.{arith}
-use borrow.Author.Tests.{eqb-false, eqb-true, le-ltb, lt-ltb}
+use borrow.Author.Tests.{eqb-false, eqb-true, lt-ltb}
 use borrow.Rule.Slice.PartMut.{put_mid}
 use Rattle.core_loading.specs.Loading.{PutEdge}
 use Rattle.replay_events.specs.Writing.{names_tag}
 use Rattle.replay_start.specs.Start.{ClearReady, Cleared, LoadReady, fixed, named_by, segment, tags_from}
-use Rattle.replay_step.proofs.EdgeLaws.{added_more, added_none, added_put, added_skip}
+use Rattle.replay_step.proofs.EdgeLaws.{added_more, added_put}
 use Rattle.replay_step.proofs.WordLaws.{front_get}
 use Rattle.replay_step.specs.Load.{AddedBy}
 use Rattle.theory_graph.proofs.Booleans.{on_bool}
@@ -65,14 +65,6 @@ pub named_same : (from i j : ℕ) (w z : List ℕ) → ((u : ℕ) → i ≤ u �
 named_same from i j w z e s = any_same (names_tag (tags_from from z) s) (names_tag (tags_from from w) s) i (j - i) λ u a b.
     ap (λ (t : ℕ). ltb 0 t && eqb s (key_of t)) (e u a (omega arith))
 
-pub clearing_none : (from i counts : ℕ) (w : List ℕ) → Cleared from i i counts w w
-clearing_none from i counts w = record {
-  long = refl;
-  front = λ d l. refl;
-  left = λ r l. let z : i - i ≡ 0 = omega arith in
-      sym (ap (λ (k : ℕ). cond (any (names_tag (tags_from from w) r) (range i k)) 0 (get_or w (counts + r) 0)) z);
-}
-
 module _ {from t counts e : ℕ} {w z : List ℕ} (q : ClearReady from t counts w) (c : Cleared from 0 e counts w z) (l : e < t) where
   tags_kept : (j : ℕ) → j < t → tags_from from z j ≡ tags_from from w j
   tags_kept j u = c.front (from + 3 * j) (omega (arith, q.apart))
@@ -106,26 +98,8 @@ module _ {from t counts e : ℕ} {w z : List ℕ} (q : ClearReady from t counts 
       both true false v = refl
       both false b v = refl
 
-pub clearing_all : {from e t counts : ℕ} {w z : List ℕ} → Cleared from 0 e counts w z → e ≡ t → Cleared from 0 t counts w z
-clearing_all a x = rw x at a
-
 -- ---- one road
 module _ {n s : ℕ} {a b : List ℕ} {counts j k : ℕ} {v : List ℕ} (q : LoadReady n s a b counts j (j + 1) k v) where
-  -- it has no count, or one
-  pub load_none : get_or v (counts + j) 0 ≡ 0 → AddedBy s n (fixed counts v) (segment a b) j (j + 1) k v v k
-  load_none h = added_skip (record { ends = q.ends; names = q.names }) (le-ltb 0 (get_or v (counts + j) 0) (omega arith))
-
-  pub load_need : (16 * n + 6 * k + 6 ≤ length (take (length v - s) (drop s v))) × (get_or a j 0 < 65536) × (get_or b j 0 < 65536) × (j < 65536) × (n ≤ 65536) × (k < 32768)
-  load_need =
-      let (la, lb) = q.nodes j (omega (arith, q.inside)) in (
-        rw (length-take, length-drop) (omega (arith, q.room)),
-        omega (arith, q.many),
-        omega (arith, q.many),
-        omega (arith, q.inside, q.much),
-        q.many,
-        omega (arith, q.few, q.inside, q.much),
-      )
-
   pub load_put : ¬ (get_or v (counts + j) 0 ≡ 0) → (zs : List ℕ) → PutEdge n k (get_or a j 0) (get_or b j 0) j (take (length v - s) (drop s v)) zs
       → AddedBy s n (fixed counts v) (segment a b) j (j + 1) k v (put_mid s (length v - s) v zs) (k + 1)
   load_put h zs p =
@@ -134,34 +108,12 @@ module _ {n s : ℕ} {a b : List ℕ} {counts j k : ℕ} {v : List ℕ} (q : Loa
 
 -- ---- roads one after another
 module _ {n s : ℕ} {a b : List ℕ} {counts : ℕ} {v : List ℕ} (q : LoadReady n s a b counts 0 (length a) 0 v) where
-  pub loading_none : AddedBy s n (fixed counts v) (segment a b) 0 0 0 v v 0
-  loading_none = added_none (record { ends = q.ends; names = q.names })
-
   module _ {j k : ℕ} {z : List ℕ} (c : AddedBy s n (fixed counts v) (segment a b) 0 j 0 v z k) (l : j < length a) where
-    pub loading_ready : LoadReady n s a b counts j (j + 1) k z
-    loading_ready = record {
-      b_long = q.b_long;
-      apart = q.apart;
-      order = omega arith;
-      inside = omega arith;
-      much = q.much;
-      many = q.many;
-      few = omega (arith, c.most);
-      room = omega (arith, q.room, c.long, c.most);
-      nodes = q.nodes;
-      ends = c.edged.ends;
-      names = c.edged.names;
-    }
-
     -- the counts stand before the words of the graph, and stay
     pub loading_more : {y : List ℕ} {r : ℕ} → AddedBy s n (fixed counts z) (segment a b) j (j + 1) k z y r
         → AddedBy s n (fixed counts v) (segment a b) 0 (j + 1) 0 v y r
     loading_more d = added_more c (omega arith) d
         (ap (λ (x : ℕ). cond (ltb 0 x) (segment a b j ∷ []) []) (front_get s (counts + j) v z c.edged.front (omega (arith, q.apart))))
-
-  pub loading_all : {j k : ℕ} {z : List ℕ} → AddedBy s n (fixed counts v) (segment a b) 0 j 0 v z k → j ≡ length a
-      → AddedBy s n (fixed counts v) (segment a b) 0 (length a) 0 v z k
-  loading_all c x = rw x at c
 
 -- ---- which they are
 -- of the numbers from i on, as many as there are edges, and of the list of these edges

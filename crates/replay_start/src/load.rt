@@ -33,6 +33,7 @@ pub(crate) fn clear_named(from: usize, t: usize, counts: usize, work: &mut [u32]
 }
 
 // Road j: where its count is not 0, its edge is loaded as the k-th, with the name j. The edges then.
+// Kept: the new form is no plainer: with `a`, `b` and `counts` in one struct each clause reads `roads.entry.a.now` where it reads `a.now`.
 pub(crate) fn load_road(
     n: usize,
     s: usize,

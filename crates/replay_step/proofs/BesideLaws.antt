@@ -5,7 +5,7 @@ use mathlib.Core.Bool.{Bool, ◌&&◌, cond, false, true}
 use mathlib.Core.List.{List}
 use mathlib.Core.Path.{◌∙◌, ◌≡◌, ap, ap₂, sym}
 use lib.Dec.{leb, ltb}
-use lib.ListN.{drop, get_or, length, length-drop, length-take, take}
+use lib.ListN.{drop, get_or, length, take}
 use native.Mathlib.Omega.{arith}
 use borrow.Author.Tests.{le-leb, le-ltb, lt-leb, lt-ltb, ltb-true}
 use borrow.Rule.Slice.PartMut.{put_mid}
@@ -15,7 +15,7 @@ use Rattle.theory_graph.specs.Graph.{Edge}
 use Rattle.theory_timeline.proofs.TagLaws.{pick_ext_events}
 use Rattle.theory_timeline.specs.Tags.{adds, is_open_after, key_of, pick_events, was_open}
 use Rattle.theory_timeline.specs.Windows as Windows
-use Rattle.replay_step.proofs.EdgeLaws.{There, added_more, added_none, added_put, added_skip}
+use Rattle.replay_step.proofs.EdgeLaws.{There, added_more, added_put}
 use Rattle.replay_step.proofs.WordLaws.{front_get}
 use Rattle.replay_step.specs.Area.{span}
 use Rattle.replay_step.specs.Load.{AddReady, Added, adds_in, entry_in}
@@ -57,26 +57,10 @@ module _ {w : Window} {p : Part} {i m : ℕ} {v : List ℕ} (q : AddReady w p i 
   there : There p.scratch w.nodes m v
   there = record { ends = q.ends; names = q.names }
 
-  pub add_none : adds_in w p v i ≡ false → Added w p i (i + 1) m v v m
-  add_none e = added_skip there e
-
   -- an event that adds its key has a tag
   pub adds_tag : adds_in w p v i ≡ true → 0 < get_or v (2 * w.events + 3 * i) 0
   unfolding adds
   adds_tag e = and_elim (ltb 0 (get_or v (2 * w.events + 3 * i) 0)) _ e (λ t _. ltb-true 0 (get_or v (2 * w.events + 3 * i) 0) t)
-
-  pub add_need : (a b t : ℕ) → a ≡ get_or v (2 * i) 0 → b ≡ get_or v (2 * i + 1) 0 → t ≡ get_or v (2 * w.events + 3 * i) 0
-      → (16 * w.nodes + 6 * m + 6 ≤ length (take (length v - p.scratch) (drop p.scratch v))) × (a < 65536) × (b < 65536) × (key_of t < 65536) × (w.nodes ≤ 65536) × (m < 32768)
-  add_need a b t ea eb et =
-      let la = q.nodes (2 * i) (omega (arith, q.inside)) in
-      let lb = q.nodes (2 * i + 1) (omega (arith, q.inside)) in (
-        rw (length-take, length-drop) (omega (arith, q.room)),
-        omega (arith, q.many),
-        omega (arith, q.many),
-        rw et (q.keys i (omega (arith, q.inside))),
-        q.many,
-        omega (arith, q.few),
-      )
 
   pub add_put : adds_in w p v i ≡ true → (a b t : ℕ) → a ≡ get_or v (2 * i) 0 → b ≡ get_or v (2 * i + 1) 0 → t ≡ get_or v (2 * w.events + 3 * i) 0 → (zs : List ℕ)
       → PutEdge w.nodes m a b (key_of t) (take (length v - p.scratch) (drop p.scratch v)) zs
@@ -95,31 +79,9 @@ beside_same w p v z h i k l = pick_ext_events (adds_in w p z) (adds_in w p v) (e
 
 -- ---- events one after another
 module _ {w : Window} {p : Part} {i j m : ℕ} {v : List ℕ} (q : AddReady w p i j m v) where
-  pub adding_none : Added w p i i m v v m
-  adding_none = added_none (record { ends = q.ends; names = q.names })
-
   module _ {e k : ℕ} {z : List ℕ} (a : Added w p i e m v z k) (lo : i ≤ e) (l : e < j) where
     front_is : (d : ℕ) → d < 5 * w.events → get_or z d 0 ≡ get_or v d 0
     front_is d u = front_get p.scratch d v z a.edged.front (omega (arith, q.front))
 
-    pub adding_ready : AddReady w p e (e + 1) k z
-    adding_ready = record {
-      order = omega arith;
-      inside = omega (arith, q.inside);
-      much = q.much;
-      part = q.part;
-      front = q.front;
-      room = omega (arith, q.room, a.long, a.most);
-      few = omega (arith, q.few, a.most);
-      many = q.many;
-      nodes = λ d u. omega (arith, q.nodes d u, front_is d (omega arith));
-      keys = λ d u. rw (front_is (2 * w.events + 3 * d) (omega arith)) (q.keys d u);
-      ends = a.edged.ends;
-      names = a.edged.names;
-    }
-
     pub adding_more : {y : List ℕ} {r : ℕ} → Added w p e (e + 1) k z y r → Added w p i (e + 1) m v y r
     adding_more b = added_more a lo b (beside_same w p v z front_is e 1 (omega (arith, q.inside)))
-
-  pub adding_all : {e k : ℕ} {z : List ℕ} → Added w p i e m v z k → e ≡ j → Added w p i j m v z k
-  adding_all a x = rw x at a

@@ -2,8 +2,8 @@
 -- loop that copies them.
 -- Assumes nothing.
 use Prim.Native.Nat.{◌*◌, ◌+◌, ◌-◌, ◌<◌, ◌≤◌, suc, ℕ}
-use mathlib.Core.Bool.{Bool, cond, false, true}
-use mathlib.Core.List.{List, [], ◌++◌, ◌∷◌, append_assoc, append-nil}
+use mathlib.Core.Bool.{Bool, cond, true}
+use mathlib.Core.List.{List, [], ◌++◌, ◌∷◌, append_assoc}
 use mathlib.Core.Path.{◌∙◌, ◌≡◌, ap, ap₂, refl, sym}
 use lib.Dec.{eqb}
 use lib.ListN.{drop, get_or, length, length-drop, length-take, take}
@@ -81,19 +81,6 @@ edged_none : (s n m : ℕ) (v : List ℕ) → There s n m v → Edged s n m v v
 edged_none s n m v e = record { front = refl; nodes = λ j l u b. refl; ends = e.ends; names = e.names }
 
 module _ {s n : ℕ} {f : ℕ → Bool} {E : ℕ → Entry} {i m : ℕ} {v : List ℕ} (there : There s n m v) where
-  pub added_none : AddedBy s n f E i i m v v m
-  added_none =
-      let z : i - i ≡ 0 = omega arith in
-      record { long = refl; edged = edged_none s n m v there; more = sym (ap (λ (k : ℕ). edges_in n m (drop s v) ++ pick_events f E i k) z ∙ append-nil (edges_in n m (drop s v))); most = omega arith }
-
-  pub added_skip : f i ≡ false → AddedBy s n f E i (i + 1) m v v m
-  added_skip e = record {
-    long = refl;
-    edged = edged_none s n m v there;
-    more = sym (ap (λ (G : Named). edges_in n m (drop s v) ++ G) (one_number f E i false e) ∙ append-nil (edges_in n m (drop s v)));
-    most = omega arith;
-  }
-
   pub added_put : f i ≡ true → {a b c : ℕ} → ((a, b), c) ≡ E i → a < n → b < n → c < 65536 → s ≤ length v → {zs : List ℕ} → PutEdge n m a b c (take (length v - s) (drop s v)) zs
       → AddedBy s n f E i (i + 1) m v (put_mid s (length v - s) v zs) (m + 1)
   added_put e {a} {b} ee la lb lc h {zs} k = record {
@@ -154,13 +141,6 @@ pub record Copying (from q m s n : ℕ) (w z : List ℕ) (j : ℕ) : Type 0 wher
   pub edged : Edged s n j w z
   pub same : edges_in n j (drop s z) ≡ table (edge_at from q w) 0 j
 
-pub copying_none : (from q m s n : ℕ) (w : List ℕ) → Copying from q m s n w w 0
-copying_none from q m s n w = record {
-  long = refl;
-  edged = record { front = refl; nodes = λ i t v u. refl; ends = λ h u. absurd (omega arith); names = λ h u. absurd (omega arith) };
-  same = refl;
-}
-
 module _ {from q m s n j : ℕ} {w z : List ℕ} (e : EdgesReady from q m s n w) (k : Copying from q m s n w z j) (l : j < m) where
   reads : (i : ℕ) → i < from + 3 * q → get_or z i 0 ≡ get_or w i 0
   reads i u = front_get s i w z k.edged.front (omega (arith, e.front))
@@ -176,17 +156,6 @@ module _ {from q m s n j : ℕ} {w z : List ℕ} (e : EdgesReady from q m s n w)
         omega (arith, r.1, reads (from + q + j) (omega (arith, e.few))),
         omega (arith, r.2, reads (from + 2 * q + j) (omega (arith, e.few))),
       )
-
-  pub copying_need : (16 * n + 6 * j + 6 ≤ length (take (length z - s) (drop s z))) × (get_or z (from + j) 0 < 65536) × (get_or z (from + q + j) 0 < 65536)
-      × (get_or z (from + 2 * q + j) 0 < 65536) × (n ≤ 65536) × (j < 32768)
-  copying_need = (
-    rw (length-take, length-drop) (omega (arith, e.room, k.long)),
-    omega (arith, copying_ends.0, e.many),
-    omega (arith, copying_ends.1, e.many),
-    copying_ends.2,
-    e.many,
-    omega (arith, e.much),
-  )
 
   pub copying_more : (zs : List ℕ) → PutEdge n j (get_or z (from + j) 0) (get_or z (from + q + j) 0) (get_or z (from + 2 * q + j) 0) (take (length z - s) (drop s z)) zs
       → Copying from q m s n w (put_mid s (length z - s) z zs) (j + 1)

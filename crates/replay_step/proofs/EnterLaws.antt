@@ -1,15 +1,15 @@
 -- Active nodes entered one after another behind a front: the loop over the listed nodes, and the marks cleared first.
 -- Assumes nothing.
-use Prim.Native.Nat.{◌*◌, ◌+◌, ◌-◌, ◌<◌, ◌≤◌, ℕ}
+use Prim.Native.Nat.{◌+◌, ◌-◌, ◌<◌, ◌≤◌, ℕ}
 use mathlib.Core.List.{List, [], ◌++◌, ◌∷◌}
-use mathlib.Core.Path.{◌∙◌, ◌≡◌, ap, refl, sym}
-use lib.ListN.{drop, get_or, length, length-drop, length-take, take}
+use mathlib.Core.Path.{◌∙◌, ◌≡◌, ap, sym}
+use lib.ListN.{drop, get_or, length, length-drop, take}
 use lib.Seq.{get_or-drop, take-suc}
 use native.Mathlib.Numerals.{add-one}
 use native.Mathlib.Omega.{arith}
 use borrow.Rule.Slice.PartMut.{put_mid, same_len_mid, take_put}
 use Rattle.replay_step.proofs.WordLaws.{drop_back, front_get, mid_less, take_whole}
-use Rattle.core_loading.proofs.LoadingLaws.{cleared_unmarked, entered_none}
+use Rattle.core_loading.proofs.LoadingLaws.{cleared_unmarked}
 use Rattle.core_loading.specs.Loading.{Entered, Entering, Unmarked}
 use Rattle.core_words.specs.Clearing.{Cleared}
 use Rattle.replay_step.specs.Load.{ActiveReady, Actives}
@@ -24,22 +24,9 @@ pub record EnteredSoFar (from count s n : ℕ) (w z : List ℕ) (k i : ℕ) : Ty
 abbrev pub Needs : ℕ → ℕ → ℕ → ℕ → List ℕ → Type 0
 Needs from count s n w = ActiveReady from count s n w × Unmarked n (drop s w)
 
-pub entering_none : (from count s n : ℕ) (w : List ℕ) → Needs from count s n w → EnteredSoFar from count s n w w 0 0
-entering_none from count s n w q =
-    record {
-      long = refl;
-      front = refl;
-      entered = entered_none (node MARK (drop s w)) (node ACTIVE (drop s w)) q.1;
-    }
-
 module _ {from count s n k i : ℕ} {w z : List ℕ} (q : Needs from count s n w) (e : EnteredSoFar from count s n w z k i) (l : i < count) where
   pub reads : get_or z (from + i) 0 ≡ get_or w (from + i) 0
   reads = front_get s (from + i) w z e.front (omega (arith, q.0.front))
-
-  pub entering_need : (n ≤ 65536) × (16 * n ≤ length (take (length z - s) (drop s z))) × (get_or z (from + i) 0 < n)
-      × ((T : List ℕ) × Entered n T k (node MARK (take (length z - s) (drop s z))) (node ACTIVE (take (length z - s) (drop s z))))
-  entering_need =
-      (q.0.many, rw (length-take, length-drop) (omega (arith, q.0.room, e.long)), rw reads (q.0.nodes i l), (take i (drop from w), rw take_whole e.entered))
 
   pub entering_more : (r : ℕ) (zs : List ℕ) → Entering n k (get_or z (from + i) 0) (take (length z - s) (drop s z)) zs r
       → EnteredSoFar from count s n w (put_mid s (length z - s) z zs) r (i + 1)
@@ -53,9 +40,6 @@ module _ {from count s n k i : ℕ} {w z : List ℕ} (q : Needs from count s n w
         front = take_put s (length z - s) z zs h ∙ e.front;
         entered = rw (drop_back s z zs h, ← t) (f.more (take i (drop from w)) (rw take_whole e.entered));
       }
-
-pub entering_all : {from count s n k i : ℕ} {w z : List ℕ} → EnteredSoFar from count s n w z k i → i ≡ count → Actives from count s n w z k
-entering_all {from} {count} {s} {n} {k} {i} {w} {z} e q = let r : Actives from i s n w z k = record { front = e.front; entered = e.entered } in rw q at r
 
 -- ---- cleared first
 pub after_clear : {from count s n k : ℕ} (w zs : List ℕ) {z : List ℕ} → s ≤ length w → length zs ≡ length (take (length w - s) (drop s w)) → from + count ≤ s

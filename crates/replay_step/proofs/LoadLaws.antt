@@ -29,10 +29,9 @@ use Rattle.theory_timeline.specs.Tags.{adds_event, ends_at, entry_at, event_word
 use Rattle.theory_timeline.specs.Windows as Windows
 use Rattle.theory_timeline.specs.Windows.{Timeline, active, during, event, size}
 use Rattle.replay_step.proofs.BesideLaws.{adds_same, beside_same}
-use Rattle.replay_step.proofs.EdgeLaws.{There}
 use Rattle.replay_step.proofs.WordLaws.{front_get, mid_less, mid_take}
 use Rattle.replay_step.specs.Area.{EventsIn, span}
-use Rattle.replay_step.specs.Load.{ActiveReady, Actives, AddReady, Added, Copied, EdgesReady, LoadReady, PartLoaded, adds_in, edge_at, entry_in}
+use Rattle.replay_step.specs.Load.{ActiveReady, Actives, Added, Copied, LoadReady, PartLoaded, adds_in, edge_at, entry_in}
 use Rattle.replay_step.specs.declared.Graph.{Graph}
 use Rattle.replay_step.specs.declared.Part.{Part}
 use Rattle.replay_step.specs.declared.Window.{Window}
@@ -117,43 +116,6 @@ module _ {w : Window} {most : ℕ} {p : Part} {v : List ℕ} (q : LoadReady w mo
 
   part_active : ActiveReady p.places (2 * p.events) s w.nodes v
   part_active = active_need p.places (2 * p.events) (omega (arith, q.starts, q.ends, q.places))
-
-  pub edges_need : (z : List ℕ) → take s z ≡ take s v → length z ≡ length v → EdgesReady (5 * n) most w.edges s w.nodes z
-  edges_need z f e = record {
-    front = omega (arith, q.front, q.behind);
-    room = omega (arith, q.room);
-    few = q.few;
-    much = omega (arith, q.light);
-    many = q.many;
-    nodes = λ j l.
-        let r = q.edges j l in (
-          omega (arith, r.0, front_get s (5 * n + j) v z f (omega (arith, q.few, q.front, q.behind))),
-          omega (arith, r.1, front_get s (5 * n + most + j) v z f (omega (arith, q.few, q.front, q.behind))),
-          omega (arith, r.2, front_get s (5 * n + 2 * most + j) v z f (omega (arith, q.few, q.front, q.behind))),
-        );
-  }
-
-  pub events_need : (i j m : ℕ) (z : List ℕ) → i ≤ j → j ≤ n → m ≤ w.edges + i → take s z ≡ take s v → length z ≡ length v
-      → There s w.nodes m z → AddReady w p i j m z
-  events_need i j m z a b l f e h = record {
-    order = a;
-    inside = b;
-    much = q.much;
-    part = omega (arith, q.starts, q.ends, q.much);
-    front = omega (arith, q.front, q.behind);
-    room = omega (arith, q.room);
-    few = omega (arith, q.light);
-    many = q.many;
-    nodes = λ d u. omega (arith, q.nodes d u, front_get s d v z f (omega (arith, q.front, q.behind)));
-    keys = λ d u. rw (front_get s (2 * n + 3 * d) v z f (omega (arith, q.front, q.behind))) (q.keys d u);
-    ends = h.ends;
-    names = h.names;
-  }
-
-  pub behind_need : {y z : List ℕ} {m : ℕ} → Added w p 0 (p.at - w.at) w.edges y z m → take s y ≡ take s v → length y ≡ length v
-      → AddReady w p (p.at - w.at + p.events) n m z
-  behind_need {z = z} {m} a f e =
-      events_need (p.at - w.at + p.events) n m z (omega (arith, q.starts, q.ends)) (omega arith) (omega (arith, a.most)) (a.edged.front ∙ f) (a.long ∙ e) (record { ends = a.edged.ends; names = a.edged.names })
 
   -- ---- what is loaded: active nodes entered (w₁), edges copied (w₂), the events before the part (w₃) and behind it (w₄)
   module _ {w₁ w₂ w₃ w₄ : List ℕ} {k m r : ℕ} (A₁ : Actives p.places (2 * p.events) s w.nodes v w₁ k) (B : Copied (5 * n) most w.edges s w.nodes w₁ w₂)

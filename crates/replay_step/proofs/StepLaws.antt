@@ -34,7 +34,7 @@ use Rattle.replay_step.proofs.LoadLaws.{edges_are, places_are, window_length, wo
 use Rattle.replay_step.proofs.WordLaws.{low_map, take_less}
 use Rattle.replay_step.specs.Area.{Area, EventsIn, IsPart, IsPartOf, SmallArea, StepReady, StepReadyOf, Stepped, SteppedOf, area_edges, road_room, span}
 use Rattle.replay_step.specs.Load.{AreaMade, AreaMadeOf, LoadReady, PartLoaded}
-use Rattle.replay_step.specs.Reduction.{MakeReadyBy, Reduces, StepReadyBy, window_of, words_of}
+use Rattle.replay_step.specs.Reduction.{Reduces, StepReadyBy, window_of, words_of}
 use Rattle.replay_step.specs.declared.Graph.{Graph}
 use Rattle.replay_step.specs.declared.Part.{Part}
 use Rattle.replay_step.specs.declared.Window.{Window}
@@ -241,13 +241,6 @@ module _ {A B : Timeline → Window → List ℕ → Type 0} {words edges window
   edges_fit = omega (arith, (o.loads w p v st ip).front, ip.area, st.room)
 
   module _ {z : List ℕ} {l : Graph} (pl : PartLoaded w (edges * w.events) p v z l) (lz : length z ≡ length v) where
-    pub make_ready : MakeReadyBy words room p l z
-    make_ready = record {
-      ready = pl.ready;
-      behind = omega (arith, ip.area, ip.scratch);
-      enough = omega (arith, st.room, ip.scratch, ap (λ (n : ℕ). room n l.edges p.events) pl.nodes, o.fewer w.nodes l.edges (w.edges + w.events) p.events pl.most_edges, lz);
-    }
-
     pub stepped_by : {y : List ℕ} {r : Counts} → Made p l z y r → {lo : ℕ} → p.at ≡ lo
         → SteppedOf A B (words_of words) w lo p.events v y (record { at = lo; events = p.events; nodes = r.nodes; edges = r.edges })
     stepped_by {y} {r} am e =

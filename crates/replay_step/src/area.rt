@@ -6,6 +6,7 @@ ghost use Rattle.core_words.specs.Fields.{MAPPED, node};
 ghost use Rattle.replay_step.specs.Load.{AreaMade, Behind, MakeReady};
 
 // Internal: writes the new numbers of the nodes at the `count` words from `from` on, at q.
+// Kept: the new form is no plainer: as one function with put_every it takes a closure that reads `work` while it is written, and a clause on what it reads.
 pub fn put_map(work: &mut [u32], from: usize, count: usize, s: usize, q: usize, n: usize)
     requires { (from + count ≤ q) × (q + count ≤ s) × (s + 16 * n ≤ length work.old) ×
         ((i : ℕ) → i < count → get_or work.old (from + i) 0 < n) }
