@@ -19,19 +19,12 @@ pub(crate) fn count_after(x: u16, n: usize, c: usize) -> usize
     }
 }
 
-// 1 where c is not 0.
-pub(crate) fn sign(c: usize) -> usize
-    ensures { (result ≡ bit (ltb 0 c)) × (result ≤ 1) }
-{
-    usize::from(c > 0)
-}
-
 // The tag of an event that names a segment of road r, where c of its segments are open before it and d after it.
 pub(crate) fn tag_of(r: usize, c: usize, d: usize) -> usize
     requires { r < 8192 }
     ensures { (result ≡ tag_by r c d) × (result ≤ 32768) }
 {
-    1 + 4 * r + 2 * sign(c) + sign(d)
+    1 + 4 * r + 2 * usize::from(c > 0) + usize::from(d > 0)
 }
 
 // Where the tags are made from, beside the events: the number n of junctions, and the places from which on the work table has the names of the segments' roads
