@@ -29,7 +29,7 @@ use Rattle.theory_timeline.specs.Tags.{bit, key, open_count, tag, word}
 use Rattle.theory_timeline.specs.Windows.{Timeline, changes_at, closes_at, event, open_before, opens_at, size}
 use Rattle.replay_events.proofs.KindLaws.{count_kind}
 use Rattle.replay_events.specs.Kinds.{kind_at}
-use Rattle.replay_events.specs.Tagging.{ChangePut, TagPut, TagReady, Tagged, TagsReady, count_after, count_at, counts_by, tag_by, tags_by}
+use Rattle.replay_events.specs.Tagging.{TagPut, TagReady, Tagged, TagsReady, count_after, count_at, counts_by, tag_by, tags_by}
 
 -- ---- how far a count goes
 after_most : (k : Kind) (c : ℕ) → count_after k c ≤ c + 1
@@ -68,16 +68,6 @@ module _ (n : ℕ) (x y : List ℕ) (N C : ℕ → ℕ) where
   counts_own i h =
       ap (λ (k : ℕ). counts_by n x y N C k (N (get_or y i 0))) (add-one i)
       ∙ ap₂ (λ (a b : Bool). cond (not a && b) (count_after (kind_at n x i) (count_at n x y N C i)) (count_at n x y N C i)) h (eq-eqb (N (get_or y i 0)) (N (get_or y i 0)) refl)
-
--- ---- one event in the words
--- what was read and written is what the statement names
-pub change_put : (n x s names counts at : ℕ) (w : List ℕ) (r c d u : ℕ) → r ≡ run names w s → c ≡ run counts w r → d ≡ count_after (kind_of n x) c → u ≡ tag_by r c d
-    → ChangePut n x s names counts at w (set (set w (counts + r) d) at u)
-change_put n x s names counts at w r c d u er ec ed eu r' c' d' er' ec' ed' =
-    let e1 : r ≡ r' = er ∙ sym er' in
-    let e2 : c ≡ c' = ec ∙ ap (run counts w) e1 ∙ sym ec' in
-    let e3 : d ≡ d' = ed ∙ ap (count_after (kind_of n x)) e2 ∙ sym ed' in
-    ap₂ (λ (k v : ℕ). set (set w (counts + k) v) at u) e1 e3 ∙ ap (set (set w (counts + r') d') at) (eu ∙ ap₂ (λ (k v : ℕ). tag_by k v d) e1 e2 ∙ ap (tag_by r' c') e3)
 
 -- ---- one event more
 pub tagged_none : (n : ℕ) (x y : List ℕ) (names counts : ℕ) (w : List ℕ) → Tagged n x y names counts w w 0

@@ -13,6 +13,7 @@ ghost use Rattle.replay_events.specs.Kinds.{queries_by};
 ghost use Rattle.replay_events.specs.Writing.{CanPlace, CanWriteEvents, EventsWritten, LinkRoom, LinkedEvent, TagsFit, Written, last_by, next_by, tags_in};
 
 // Writes the two junctions of event i.
+// Kept: the tables travel as they come: a struct of n, a and b is no plainer for this function and the next alone.
 fn put_ends(n: usize, a: &[u16], b: &[u16], x: u16, y: u16, i: usize, work: &mut [u32])
     requires { (2 * i + 2 ≤ length work.old) × (is_query (kind_of n x) ≡ false → (y < length a.now) × (y < length b.now)) }
     ensures { work.new ≡
@@ -101,7 +102,12 @@ pub fn write_events(
     let names = 5 * t;
     replay_roads::count_roads(n, a, b, start, work, names);
     put_junctions(n, a, b, x, y, work);
-    tags::put_tags(n, x, y, names, names + a.len(), work);
+    let places = tags::Counts {
+        n,
+        names,
+        counts: names + a.len(),
+    };
+    places.put_tags(x, y, work);
     link_lasts(work, t);
     link_nexts(work, t);
 }

@@ -19,85 +19,57 @@ pub(crate) fn count_after(x: u16, n: usize, c: usize) -> usize
     }
 }
 
-// 1 where c is not 0.
-pub(crate) fn sign(c: usize) -> usize
-    ensures { (result ≡ bit (ltb 0 c)) × (result ≤ 1) }
-{
-    usize::from(c > 0)
-}
-
 // The tag of an event that names a segment of road r, where c of its segments are open before it and d after it.
 pub(crate) fn tag_of(r: usize, c: usize, d: usize) -> usize
     requires { r < 8192 }
     ensures { (result ≡ tag_by r c d) × (result ≤ 32768) }
 {
-    1 + 4 * r + 2 * sign(c) + sign(d)
+    1 + 4 * r + 2 * usize::from(c > 0) + usize::from(d > 0)
 }
 
-// An event that names segment s: the count of the segment's road changes, and the tag is written at its place.
-pub(crate) fn put_change(
-    n: usize,
-    x: u16,
-    s: usize,
-    names: usize,
-    counts: usize,
-    at: usize,
-    work: &mut [u32],
-)
-    requires { ChangeReady n x s names counts at work.old }
-    ensures { ChangePut n x s names counts at work.old work.new }
-{
-    let r = work[names + s] as usize;
-    let c = work[counts + r] as usize;
-    let d = count_after(x, n, c);
-    work[counts + r] = d as u32;
-    let tag = tag_of(r, c, d);
-    work[at] = tag as u32;
+// Where the tags are made from, beside the events: the number n of junctions, and the places from which on the work table has the names of the segments' roads
+// and the counts of the roads.
+#[derive(Clone, Copy)]
+pub(crate) struct Counts {
+    pub n: usize,
+    pub names: usize,
+    pub counts: usize,
 }
 
-// Writes the tag of an event at its place: 0 for a query.
-pub(crate) fn put_tag(
-    n: usize,
-    x: u16,
-    s: usize,
-    names: usize,
-    counts: usize,
-    at: usize,
-    work: &mut [u32],
-)
-    requires { TagReady n x s names counts at work.old }
-    ensures { TagPut n x s names counts at work.old work.new }
-{
-    if call_kinds::is_query(x, n) {
-        work[at] = 0;
-        return;
+impl Counts {
+    // An event that names segment s: the count of the segment's road changes, and the tag is written at its place.
+    fn put_change(self, x: u16, s: usize, at: usize, work: &mut [u32])
+        requires { ChangeReady self.n x s self.names self.counts at work.old }
+        ensures { ChangePut self.n x s self.names self.counts at work.old work.new }
+    {
+        let r = work[self.names + s] as usize;
+        let c = work[self.counts + r] as usize;
+        let d = count_after(x, self.n, c);
+        work[self.counts + r] = d as u32;
+        work[at] = tag_of(r, c, d) as u32;
     }
-    put_change(n, x, s, names, counts, at, work);
-}
 
-// The tags of all events. The names of the segments' roads stand from place `names` on, the counts of the roads from place `counts` on.
-pub(crate) fn put_tags(
-    n: usize,
-    x: &[u16],
-    y: &[u16],
-    names: usize,
-    counts: usize,
-    work: &mut [u32],
-)
-    requires { TagsReady n x.now y.now names counts work.old }
-    ensures { Tagged n x.now y.now names counts work.old work.new (length x.now) }
-{
-    let t = x.len();
-    // The tags of the first i events are written, and the counts are those before event i.
-    for (i, &event_x) in x.iter().enumerate() {
-        put_tag(
-            n,
-            event_x,
-            y[i] as usize,
-            names,
-            counts,
-            2 * t + 3 * i,
-            work,
-        );
+    // Writes the tag of an event at its place: 0 for a query.
+    fn put_tag(self, x: u16, s: usize, at: usize, work: &mut [u32])
+        requires { TagReady self.n x s self.names self.counts at work.old }
+        ensures { TagPut self.n x s self.names self.counts at work.old work.new }
+    {
+        if call_kinds::is_query(x, self.n) {
+            work[at] = 0;
+            return;
+        }
+        self.put_change(x, s, at, work);
+    }
+
+    // The tags of all events.
+    pub(crate) fn put_tags(self, x: &[u16], y: &[u16], work: &mut [u32])
+        requires { TagsReady self.n x.now y.now self.names self.counts work.old }
+        ensures { Tagged self.n x.now y.now self.names self.counts work.old work.new (length x.now) }
+    {
+        let t = x.len();
+        // The tags of the first i events are written, and the counts are those before event i.
+        for (i, &event_x) in x.iter().enumerate() {
+            self.put_tag(event_x, y[i] as usize, 2 * t + 3 * i, work);
+        }
     }
 }
