@@ -2,18 +2,18 @@
 // it opens or closes segment 1, or asks for junction 1 with the junction X; and the segments that no number is for are open at the start.
 #![tactic(auto)]
 
-use test_library::replays::{CLOSES, List, OPENS, Sizes};
-use test_library::{counts, entries, replays};
-use test_random::networks;
-use test_random::networks::Network;
+use test_library::calls::Lending;
+use test_library::refusals::Refusal;
+use test_library::replays::{CLOSES, List, OPENS, ReplayCall, Replayed, Sizes};
+use test_library::{refusals, tables};
+use test_random::networks::{Kind, Network};
 
-// The sizes; the table that is one entry short and the one that is one entry longer than its size, or 0; and the numbers that vary: the end at which segment 1
-// begins, the starting entries of segments 0 and 1, and X of the first three events.
+// The sizes; how the tables are lent; and the numbers that vary: the end at which segment 1 begins, the starting entries of segments 0 and 1, and X of the first
+// three events.
 #[derive(Clone, Copy)]
 pub struct Case {
     pub sizes: Sizes,
-    pub short: usize,
-    pub long: usize,
+    pub lending: Lending,
     pub end: usize,
     pub start: [usize; 2],
     pub x: [usize; 3],
@@ -25,37 +25,12 @@ pub const ASKS: usize = 0;
 // X of an event of no kind.
 const NO_KIND: usize = 65533;
 
-// Internal: the list of a case.
-pub fn make(c: Case) -> List {
-    let sizes = c.sizes;
-    let w = Network {
-        kind: networks::PATH,
-        seed: 0,
-        segments: sizes.m,
-        places: 3,
-        roads: 0,
-    };
-    let mut l = replays::filled(sizes, 1);
-    networks::make_ends(&mut l.a, w, 0);
-    networks::make_ends(&mut l.b, w, 1);
-    entries::set(&mut l.a, 1, c.end);
-    entries::set(&mut l.start, 0, c.start[0]);
-    entries::set(&mut l.start, 1, c.start[1]);
-    let mut x = [0u16; 8200];
-    entries::set(&mut x, 0, c.x[0]);
-    entries::set(&mut x, 1, c.x[1]);
-    entries::set(&mut x, 2, c.x[2]);
-    l.x = x;
-    l
-}
-
 impl Case {
     // Internal: no fault and no change: all segments are open, and the events ask.
     pub fn sized(n: usize, m: usize, t: usize) -> Case {
         Case {
             sizes: Sizes { n, m, t, p: 8 },
-            short: 0,
-            long: 0,
+            lending: Lending::default(),
             end: 1,
             start: [1, 1],
             x: [ASKS, ASKS, ASKS],
@@ -89,7 +64,7 @@ impl Case {
     fn past_the_segments(entry: usize) -> Case {
         let mut c = Case::path(entry, ASKS, ASKS);
         c.sizes.m = 1;
-        c.long = 3;
+        c.lending.long = Some(3);
         c
     }
 
@@ -97,8 +72,8 @@ impl Case {
     pub fn with_fault(mut self, f: Fault) -> Case {
         match f {
             Fault::Size => self.sizes.n = 4097,
-            Fault::Short(table) => self.short = table,
-            Fault::Long(table) => self.long = table,
+            Fault::Short(table) => self.lending.short = Some(table),
+            Fault::Long(table) => self.lending.long = Some(table),
             Fault::Share => self.sizes.p = 13,
             Fault::End => self.end = 65000,
             Fault::Start => self.start[0] = 2,
@@ -107,6 +82,33 @@ impl Case {
             Fault::Kind => self.x[2] = NO_KIND,
         }
         self
+    }
+
+    // Internal: its list.
+    pub fn list(&self) -> List {
+        let network = Network {
+            kind: Kind::Path,
+            seed: 0,
+            segments: self.sizes.m,
+            places: 3,
+            roads: None,
+        };
+        let mut list = List::filled(self.sizes, 1);
+        network.make_ends(&mut list.segments);
+        tables::set(&mut list.segments.from, 1, self.end);
+        for (entry, varied) in list.start.iter_mut().zip(self.start) {
+            *entry = (varied % 65536) as u16;
+        }
+        list.x = [0; 8200];
+        for (entry, varied) in list.x.iter_mut().zip(self.x) {
+            *entry = (varied % 65536) as u16;
+        }
+        list
+    }
+
+    // Internal: the outcome of the call on it.
+    pub fn run<C: ReplayCall>(&self, work: &mut [u32]) -> Replayed {
+        C::run(&self.list(), C::lengths(self.sizes, self.lending), work)
     }
 }
 
@@ -125,25 +127,21 @@ pub enum Fault {
     Kind,
 }
 
-// A refusal's number and its place.
-#[derive(Clone, Copy)]
-pub struct Refusal {
-    pub code: usize,
-    pub place: usize,
-}
-
-// Internal: the refusal of a fault.
-pub fn refusal_of(f: Fault) -> Refusal {
-    match f {
-        Fault::Size => Refusal { code: 1, place: 0 },
-        Fault::Short(_) => Refusal { code: 2, place: 0 },
-        Fault::Long(_) => Refusal { code: 12, place: 0 },
-        Fault::Share => Refusal { code: 3, place: 0 },
-        Fault::End => Refusal { code: 4, place: 1 },
-        Fault::Start => Refusal { code: 11, place: 0 },
-        Fault::Opens => Refusal { code: 6, place: 0 },
-        Fault::Closes => Refusal { code: 7, place: 1 },
-        Fault::Kind => Refusal { code: 5, place: 2 },
+impl Fault {
+    // Internal: its refusal.
+    pub fn refusal(self) -> Refusal {
+        let (code, place) = match self {
+            Fault::Size => (refusals::SIZE, 0),
+            Fault::Short(_) => (refusals::SHORT, 0),
+            Fault::Long(_) => (refusals::LONG, 0),
+            Fault::Share => (refusals::SHARE, 0),
+            Fault::End => (refusals::END, 1),
+            Fault::Start => (refusals::START, 0),
+            Fault::Opens => (refusals::OPENS, 0),
+            Fault::Closes => (refusals::CLOSES, 1),
+            Fault::Kind => (refusals::KIND, 2),
+        };
+        Refusal { code, place }
     }
 }
 
@@ -164,45 +162,86 @@ pub fn fault_at(i: usize) -> Fault {
 
 // A case whose second event has no kind, with the six faults before those of events, but for the first so many.
 fn with_all_from(first: usize) -> Case {
-    let mut c = Case::path(0, OPENS, NO_KIND);
-    for i in first..6 {
-        let d = c.with_fault(fault_at(i));
-        c = d;
-    }
-    c
+    (first..6).fold(
+        Case::path(0, OPENS, NO_KIND),
+        |c, i| c.with_fault(fault_at(i)),
+    )
 }
 
-// Internal: case i. Sizes are refused before short tables, these before long ones, these before the share, the share before ends, ends before starting
-// entries, and these before events: the last seven have all these faults, all but the first, and so on.
-pub fn case_at(i: usize) -> Case {
+// Internal: case i of 27, and what is printed of it. Sizes are refused before short tables, these before long ones, these before the share, the share before ends,
+// ends before starting entries, and these before events: the last seven have all these faults, all but the first, and so on.
+pub fn case_at(i: usize) -> (&'static str, Case) {
     match i {
-        0 => Case::sized(4096, 8192, 4096),
-        1 => Case::sized(4097, 8192, 4096),
-        2 => Case::sized(4096, 8193, 4096),
-        3 => Case::sized(4096, 8192, 4097),
-        4 => Case::path(0, ASKS, CLOSES),
-        5 => Case::path(0, OPENS, OPENS),
-        6 => Case::path(1, OPENS, ASKS),
-        7 => Case::path(1, CLOSES, CLOSES),
-        8 => Case::path(1, CLOSES, OPENS),
-        9 => Case::doubled(0, OPENS, ASKS),
-        10 => Case::doubled(0, OPENS, OPENS),
-        11 => Case::doubled(1, CLOSES, ASKS),
-        12 => Case::doubled(0, CLOSES, ASKS),
-        13 => Case::path(2, ASKS, ASKS),
-        14 => Case::past_the_segments(2),
-        15 => Case::with_share(3),
-        16 => Case::with_share(4),
-        17 => Case::with_share(12),
-        18 => Case::with_share(13),
-        19 => Case::path(0, OPENS, ASKS),
-        _ => with_all_from(counts::minus(i, 20)),
+        0 => (
+            "4096 junctions, 8192 segments, 4096 events, reply",
+            Case::sized(4096, 8192, 4096),
+        ),
+        1 => ("4097 junctions, reply", Case::sized(4097, 8192, 4096)),
+        2 => ("8193 segments, reply", Case::sized(4096, 8193, 4096)),
+        3 => ("4097 events, reply", Case::sized(4096, 8192, 4097)),
+        4 => (
+            "close of a segment never opened, reply",
+            Case::path(0, ASKS, CLOSES),
+        ),
+        5 => ("open twice, reply", Case::path(0, OPENS, OPENS)),
+        6 => (
+            "open of a segment that is open at the start, reply",
+            Case::path(1, OPENS, ASKS),
+        ),
+        7 => ("close of it, twice, reply", Case::path(1, CLOSES, CLOSES)),
+        8 => ("close and open of it, reply", Case::path(1, CLOSES, OPENS)),
+        9 => (
+            "open of a segment while another one of its road is open, reply",
+            Case::doubled(0, OPENS, ASKS),
+        ),
+        10 => ("open of it twice, reply", Case::doubled(0, OPENS, OPENS)),
+        11 => (
+            "close of a segment while another one of its road is open, reply",
+            Case::doubled(1, CLOSES, ASKS),
+        ),
+        12 => (
+            "close of a closed segment while another one of its road is open, reply",
+            Case::doubled(0, CLOSES, ASKS),
+        ),
+        13 => ("starting entry 2, reply", Case::path(2, ASKS, ASKS)),
+        14 => (
+            "starting entry 2 past the segments, reply",
+            Case::past_the_segments(2),
+        ),
+        15 => ("share 3, reply", Case::with_share(3)),
+        16 => ("share 4, reply", Case::with_share(4)),
+        17 => ("share 12, reply", Case::with_share(12)),
+        18 => ("share 13, reply", Case::with_share(13)),
+        19 => ("least lengths, reply", Case::path(0, OPENS, ASKS)),
+        20 => (
+            "faults of size, short table, long table, share, end, start and event at once, reply",
+            with_all_from(0),
+        ),
+        21 => (
+            "of short table, long table, share, end, start and event",
+            with_all_from(1),
+        ),
+        22 => (
+            "of long table, share, end, start and event",
+            with_all_from(2),
+        ),
+        23 => ("of share, end, start and event", with_all_from(3)),
+        24 => ("of end, start and event", with_all_from(4)),
+        25 => ("of start and event", with_all_from(5)),
+        _ => ("of event", with_all_from(6)),
     }
 }
 
-// Internal: a case with two faults, or with the first alone where both set the same number. Without them its first event closes segment 1.
-pub fn pair(first: Fault, second: Fault) -> Case {
+// A case with two faults, or with the first alone where both set the same number. Without them its first event closes segment 1.
+fn pair(first: Fault, second: Fault) -> Case {
     let mut c = Case::path(1, CLOSES, ASKS);
     c.sizes.t = 3;
     c.with_fault(second).with_fault(first)
+}
+
+// Internal: whether a case with two faults is refused by the first, at its place, and leaves all entries as they were.
+pub fn first_counts<C: ReplayCall>(first: Fault, second: Fault, work: &mut [u32]) -> bool {
+    pair(first, second)
+        .run::<C>(work)
+        .is_refused_by(first.refusal())
 }

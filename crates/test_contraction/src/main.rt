@@ -7,30 +7,25 @@ mod vectors;
 use std::io;
 use test_contraction_calls::{calls, limits};
 use test_random::graphs;
-use test_totals::graph_totals;
+use test_slow_contraction::contraction;
 use test_totals::graph_totals::Totals;
 
-// Counts a random graph, of which one table may be short.
-fn add_random(t: Totals, s: usize) -> Totals {
-    let g = graphs::make(s);
-    let lengths = calls::lengths(g.sizes, graphs::short(s));
-    let want = calls::slow(&g, lengths);
-    let right = calls::agrees(&g, lengths, &want);
-    graph_totals::add(t, &g, &want, right)
-}
-
+// Compares the random graphs, of which one table may be short.
 fn run_random() -> Totals {
-    let mut t = graph_totals::none();
+    let mut totals = Totals::default();
     for s in 0..40320 {
-        let next = add_random(t, s);
-        t = next;
+        let g = graphs::make(s);
+        let lengths = calls::lengths(g.sizes, graphs::lending(s));
+        let want = contraction::reply(&g, lengths);
+        let is_right = calls::run(&g, lengths, &want).agrees(want.reply);
+        totals.add(&g, &want, is_right);
     }
-    t
+    totals
 }
 
 fn main(rt: HostRuntime) -> io::Result<()> {
     vectors::report(&rt)?;
-    graph_totals::report(&rt, run_random())?;
+    run_random().report(&rt)?;
     limits::report_refusals(&rt)?;
     limits::report_full(&rt)
 }

@@ -6,21 +6,23 @@
 // first four tables of these lengths; and where it is accepted the map, the first and the second ends of the edges out, their names, and the pieces.
 use std::io;
 use test_contraction_calls::calls;
-use test_library::contractions::{Graph, Lengths, Reply, Sizes, Small};
-use test_library::text::Text;
-use test_library::{contractions, counts, print, text};
+use test_library::contractions::{Counts, Graph, Lengths, Reply, Sizes, Small};
+use test_library::counts::Count;
+use test_library::refusals::Refusal;
+use test_library::text::Numbers;
+use test_library::{print, text};
+use test_slow_contraction::contraction;
 
-// How many vectors there are, how many are accepted, how many of them the call does not give, and on how many the slow contraction differs from the call.
-#[derive(Clone, Copy)]
-struct Counts {
-    vectors: usize,
-    accepted: usize,
-    wrong: usize,
-    slow_differs: usize,
+// A graph, the lengths of its tables, and the small graph that is wanted.
+#[derive(Drop)]
+struct Vector {
+    graph: Graph,
+    lengths: Lengths,
+    want: Small,
 }
 
-fn read_sizes(text: &Text, start: usize) -> Sizes {
-    let r = text::row(text, start, 0);
+fn read_sizes(numbers: &mut Numbers) -> Sizes {
+    let r = numbers.row();
     Sizes {
         n: r[0],
         m: r[1],
@@ -28,8 +30,8 @@ fn read_sizes(text: &Text, start: usize) -> Sizes {
     }
 }
 
-fn read_lengths(text: &Text, start: usize) -> Lengths {
-    let r = text::row(text, start, 10);
+fn read_lengths(numbers: &mut Numbers) -> Lengths {
+    let r = numbers.row();
     Lengths {
         from: r[0],
         to: r[1],
@@ -44,93 +46,94 @@ fn read_lengths(text: &Text, start: usize) -> Lengths {
     }
 }
 
-fn read_reply(text: &Text, start: usize) -> Reply {
-    let r = text::row(text, start, 20);
-    Reply {
-        code: r[0],
-        place: r[1],
+fn read_reply(numbers: &mut Numbers) -> Reply {
+    let r = numbers.row();
+    if r[0] > 0 {
+        return Err(Refusal {
+            code: r[0],
+            place: r[1],
+        });
+    }
+    Ok(Counts {
         nodes: r[2],
         edges: r[3],
-    }
+    })
 }
 
-fn read_graph(text: &Text, start: usize, sizes: Sizes, lengths: Lengths) -> Graph {
-    let mut g = contractions::filled(sizes, 65000);
-    let to = text::copy(&mut g.from, text, start, 30, lengths.from);
-    let names = text::copy(&mut g.to, text, start, to, lengths.to);
-    let active = text::copy(&mut g.names, text, start, names, lengths.names);
-    text::copy(&mut g.active, text, start, active, lengths.active);
+fn read_graph(numbers: &mut Numbers, sizes: Sizes, lengths: Lengths) -> Graph {
+    let mut g = Graph::filled(sizes, 65000);
+    numbers.copy(&mut g.edges.from, lengths.from);
+    numbers.copy(&mut g.edges.to, lengths.to);
+    numbers.copy(&mut g.names, lengths.names);
+    numbers.copy(&mut g.active, lengths.active);
     g
 }
 
-// Which number comes behind the tables of the graph.
-fn behind(l: Lengths) -> usize {
-    let edges = counts::plus(l.from, counts::plus(l.to, l.names));
-    counts::plus(counts::plus(30, edges), l.active)
-}
-
 // What is wanted, of k active entries.
-fn read_small(text: &Text, start: usize, from: usize, k: usize) -> Small {
-    let reply = read_reply(text, start);
-    let mut w = contractions::empty(reply);
-    let a = text::copy(&mut w.map, text, start, from, k);
-    let b = text::copy(&mut w.from, text, start, a, reply.edges);
-    let names = text::copy(&mut w.to, text, start, b, reply.edges);
-    let pieces = text::copy(&mut w.names, text, start, names, reply.edges);
-    text::copy(&mut w.pieces, text, start, pieces, k);
-    w
+fn read_small(numbers: &mut Numbers, reply: Reply, k: usize) -> Small {
+    let mut small = Small::empty(reply);
+    if let Ok(counts) = reply {
+        numbers.copy(&mut small.map, k);
+        numbers.copy(&mut small.edges.from, counts.edges);
+        numbers.copy(&mut small.edges.to, counts.edges);
+        numbers.copy(&mut small.names, counts.edges);
+        numbers.copy(&mut small.pieces, k);
+    }
+    small
 }
 
-// Counts the vector that begins at start.
-fn add(c: Counts, text: &Text, start: usize) -> Counts {
-    let sizes = read_sizes(text, start);
-    let lengths = read_lengths(text, start);
-    let g = read_graph(text, start, sizes, lengths);
-    let want = read_small(text, start, behind(lengths), sizes.k);
-    let right = calls::agrees(&g, lengths, &want);
-    let slow_right = calls::agrees(&g, lengths, &calls::slow(&g, lengths));
-    Counts {
-        vectors: counts::plus(c.vectors, 1),
-        accepted: counts::counted(c.accepted, want.reply.code == 0),
-        wrong: counts::counted(c.wrong, !right),
-        slow_differs: counts::counted(c.slow_differs, !slow_right),
+fn read(line: &[u8]) -> Vector {
+    let mut numbers = Numbers::new(line);
+    let sizes = read_sizes(&mut numbers);
+    let lengths = read_lengths(&mut numbers);
+    let reply = read_reply(&mut numbers);
+    let graph = read_graph(&mut numbers, sizes, lengths);
+    let want = read_small(&mut numbers, reply, sizes.k);
+    Vector {
+        graph,
+        lengths,
+        want,
     }
 }
 
-// Counts all vectors. After the last one there is no ;.
-fn run(text: &Text, length: usize) -> Counts {
-    let mut c = Counts {
-        vectors: 0,
-        accepted: 0,
-        wrong: 0,
-        slow_differs: 0,
-    };
-    let mut start: usize = 0;
-    for _ in 0..120usize {
-        let end = text::find(text, start, 59);
-        if end < length {
-            let next = add(c, text, start);
-            c = next;
-            start = counts::plus(end, 2);
-        }
+// How many vectors there are, how many are accepted, how many of them the call does not give, and on how many the slow contraction differs from the call.
+#[derive(Clone, Copy, Default)]
+struct Compared {
+    vectors: Count,
+    accepted: Count,
+    wrong: Count,
+    slow_differs: Count,
+}
+
+impl Compared {
+    fn add(&mut self, vector: &Vector) {
+        let Vector {
+            graph,
+            lengths,
+            want,
+        } = vector;
+        let slow = contraction::reply(graph, *lengths);
+        let is_right = calls::run(graph, *lengths, want).agrees(want.reply);
+        let is_slow_right = calls::run(graph, *lengths, &slow).agrees(slow.reply);
+        self.vectors.add(1);
+        self.accepted.add_if(want.reply.is_ok());
+        self.wrong.add_if(!is_right);
+        self.slow_differs.add_if(!is_slow_right);
     }
-    c
 }
 
 // Reads the vectors and runs them.
-pub(crate) fn report(rt: &(impl Input + Print)) -> io::Result<()> {
-    let mut text = [0u8; 65536];
-    let length = text::read(rt, &mut text)?;
-    let c = run(&text, length);
-    let numbers = [c.vectors, c.accepted, c.wrong, c.slow_differs];
-    print::report(
-        rt,
-        b"\
-vectors: #\n\
-accepted: #\n\
-wrong: #\n\
-on which the slow contraction differs from the call: #\n\
-",
-        &numbers,
-    )
+pub(crate) fn report(rt: &(impl Input + Print + Alloc)) -> io::Result<()> {
+    let mut compared = Compared::default();
+    text::each_vector(rt, |line| compared.add(&read(line)))?;
+    let rows = [
+        ("vectors", compared.vectors),
+        ("accepted", compared.accepted),
+        ("wrong", compared.wrong),
+        (
+            "on which the slow contraction differs from the call",
+            compared.slow_differs,
+        ),
+    ];
+    print::counts(rt, &rows)
 }

@@ -1,89 +1,69 @@
-// Calls of replay_junctions.
-use test_library::calls::LONGER;
-use test_library::entries::Entries;
-use test_library::replays::{Lengths, List, Replayed, Reply, Sizes};
-use test_library::{calls, counts, entries, replays};
+// The call of replay_junctions.
+use test_library::calls;
+use test_library::calls::Lending;
+use test_library::refusals::Refusal;
+use test_library::replays::{Lengths, List, ReplayCall, Replayed, Reply, Sizes, Totals};
 use theory_junction_timeline::JunctionReply;
 
-// Internal: the work table for 4096 junctions, 8192 segments and 1200 events, and some words behind it. The one for 4096 events, 17 MB, is more than the stack
-// of a program has by default.
-pub type Work = [u32; 1427464];
+// The work table for 4096 junctions, 8192 segments and 1200 events, and some words behind it. For 4096 events it would be 17 MB.
+pub const WORDS: usize = 1427464;
+
+// The sibling, by the loss of a junction.
+pub struct ByJunctions;
 
 fn plain(r: JunctionReply) -> Reply {
     match r {
-        JunctionReply::Done(t) => replays::accepted(t.queries, t.open, 0),
-        JunctionReply::Refused(code, place) => replays::refused(code, place),
+        JunctionReply::Done(t) => Ok(Totals {
+            queries: t.queries,
+            open: t.open,
+            kept: 0,
+        }),
+        JunctionReply::Refused(code, place) => Err(Refusal { code, place }),
     }
 }
 
-// Internal: the lengths of the tables that a list is lent, as `replays::lengths_of` has them. There is no name table, whatever is said of its length.
-pub fn lengths(sizes: Sizes, short: usize, long: usize) -> Lengths {
-    let words = test_slow_junctions::required(sizes.n, sizes.m, sizes.t);
-    replays::lengths_of(sizes, words, short, long)
-}
+// There is no name table, whatever is said of its length.
+impl ReplayCall for ByJunctions {
+    fn slow(list: &List, lengths: Lengths, ring: Option<usize>) -> Replayed {
+        test_slow_junctions::reply(list, lengths, ring).junctions
+    }
 
-// The call with tables of these lengths.
-fn call<'a>(
-    sizes: Sizes,
-    lengths: Lengths,
-    a: &'a Entries,
-    b: &'a Entries,
-    start: &'a Entries,
-    x: &'a Entries,
-    y: &'a Entries,
-    answers: &mut [u8],
-    work: &mut [u32],
-) -> JunctionReply {
-    let bytes = counts::least(lengths.answers, answers.len());
-    let words = counts::least(lengths.work, work.len());
-    call_replay_junctions::replay_junctions(
-        sizes.n,
-        sizes.m,
-        sizes.t,
-        sizes.p,
-        entries::first(a, lengths.a),
-        entries::first(b, lengths.b),
-        entries::first(start, lengths.start),
-        entries::first(x, lengths.x),
-        entries::first(y, lengths.y),
-        &mut answers[..bytes],
-        &mut work[..words],
-    )
-}
+    fn required(sizes: Sizes) -> usize {
+        test_slow_junctions::required(sizes)
+    }
 
-// Internal: the outcome of the call. Of the work table the required length must be 0 where it is accepted, and all else as before.
-pub fn run(l: &List, lengths: Lengths, work: &mut Work) -> Replayed {
-    let sizes = l.sizes;
-    let words = test_slow_junctions::required(sizes.n, sizes.m, sizes.t);
-    calls::refill(work, words + 8);
-    let mut answers = [7u8; 4104];
-    let reply = plain(call(
-        sizes,
-        lengths,
-        &l.a,
-        &l.b,
-        &l.start,
-        &l.x,
-        &l.y,
-        &mut answers,
-        work,
-    ));
-    let count = calls::written(reply.code, words);
-    Replayed {
-        reply,
-        answers,
-        names: [7u16; 8200],
-        words_wrong: calls::words_wrong(work, count, counts::plus(words, 8)),
+    fn call(
+        list: &List,
+        lengths: Lengths,
+        answers: &mut [u8],
+        _names: &mut [u16],
+        work: &mut [u32],
+    ) -> Reply {
+        let sizes = list.sizes;
+        plain(call_replay_junctions::replay_junctions(
+            sizes.n,
+            sizes.m,
+            sizes.t,
+            sizes.p,
+            calls::first(&list.segments.from, lengths.a),
+            calls::first(&list.segments.to, lengths.b),
+            calls::first(&list.start, lengths.start),
+            calls::first(&list.x, lengths.x),
+            calls::first(&list.y, lengths.y),
+            calls::first_mut(answers, lengths.answers),
+            calls::first_mut(work, lengths.work),
+        ))
     }
 }
 
 // Internal: whether the call gives what is wanted with each share from 4 to 12.
-pub fn all_shares_agree(list: &List, want: &Replayed, work: &mut Work) -> bool {
-    let mut l = List { ..*list };
-    for p in 4..13 {
-        l.sizes.p = p;
-        let r = run(&l, lengths(l.sizes, LONGER, 0), work);
-        if !replays::agrees(&r, want, l.sizes.t) {
+pub fn all_shares_agree(list: &List, want: &Replayed, work: &mut [u32]) -> bool {
+    let mut list = List { ..*list };
+    for share in 4..13 {
+        list.sizes.p = share;
+        let lengths = ByJunctions::lengths(list.sizes, Lending::longer());
+        let replayed = ByJunctions::run(&list, lengths, work);
+        if !replayed.agrees(want, list.sizes.t) {
             return false;
         }
     }

@@ -4,123 +4,115 @@
 #![tactic(auto)]
 
 mod totals;
-mod vectors;
 
 use std::io;
-use test_junction_calls::calls::Work;
+use test_junction_calls::calls::{ByJunctions, WORDS};
 use test_junction_calls::{calls, limits};
-use test_library::calls::LONGER;
-use test_library::replays::{Lengths, List, Replayed};
-use test_library::{counts, print, random, replays};
+use test_library::counts::Count;
+use test_library::replays::ReplayCall;
+use test_library::{print, tables, vectors};
 use test_random::lists;
-use totals::Totals;
+use test_random::lists::Drawn;
+use totals::{Differences, Totals};
 
-// Runs the call and the slow version on a list whose tables have these lengths, and where it is accepted with all shares, and counts it.
-fn compare(t: Totals, l: &List, lengths: Lengths, most: usize, work: &mut Work) -> Totals {
-    let want = test_slow_junctions::reply(l, lengths, 0);
-    let r = calls::run(l, lengths, work);
-    let disagrees = !replays::agrees(&r, &want.junctions, l.sizes.t);
-    let mut with_list = totals::add(t, l, &want, disagrees, most);
-    if want.junctions.reply.code == 0 {
-        let differ = !calls::all_shares_agree(l, &want.junctions, work);
-        with_list.shares_differ = counts::counted(with_list.shares_differ, differ);
+// Runs the call and the slow version on a list, and where it is accepted with all shares, and counts it.
+fn compare(totals: &mut Totals, drawn: &Drawn, work: &mut [u32]) {
+    let list = &drawn.list;
+    let lengths = ByJunctions::lengths(list.sizes, drawn.lending);
+    let want = test_slow_junctions::reply(list, lengths, None);
+    let replayed = ByJunctions::run(list, lengths, work);
+    let disagrees = !replayed.agrees(&want.junctions, list.sizes.t);
+    totals.add(list, &want, drawn.most, disagrees);
+    if want.junctions.reply.is_ok() {
+        let shares_agree = calls::all_shares_agree(list, &want.junctions, work);
+        totals.shares_differ.add_if(!shares_agree);
     }
-    with_list
 }
 
-// Counts list s, of which a table may be one entry short or longer: a small one, or one on cycles and blocks that share junctions.
-fn with_list(t: Totals, s: usize, of_blocks: bool, work: &mut Work) -> Totals {
-    let mut l = lists::small(s);
-    let mut most: usize = 12;
-    if of_blocks {
-        l = lists::blocks(s);
-        most = 16;
+// Compares so many lists.
+fn run<F: Fn(usize) -> Drawn>(count: usize, draw: F, work: &mut [u32]) -> Totals
+    requires { F.IsAlwaysCallable draw }
+{
+    let mut totals = Totals::default();
+    for i in 0..count {
+        compare(&mut totals, &draw(i), work);
     }
-    let lengths = calls::lengths(l.sizes, lists::short(s), lists::long(s));
-    compare(t, &l, lengths, most, work)
+    totals
 }
 
-fn run_lists(of_blocks: bool, work: &mut Work) -> Totals {
-    let mut t = totals::none();
-    for s in 0..21000 {
-        let next = with_list(t, s, of_blocks, work);
-        t = next;
+// Of rings: on how many the call disagrees, how many changed answers are noticed, the answers, and how they differ from the replay's.
+#[derive(Clone, Copy, Default)]
+struct RingTotals {
+    disagreements: Count,
+    noticed: Count,
+    answers: [Count; 3],
+    differences: Differences,
+}
+
+impl RingTotals {
+    // Counts ring i.
+    fn add(&mut self, i: usize, work: &mut [u32]) {
+        let drawn = lists::shorter_ring(i);
+        let list = &drawn.list;
+        let t = list.sizes.t;
+        let lengths = ByJunctions::lengths(list.sizes, drawn.lending);
+        let want = test_slow_junctions::reply(list, lengths, drawn.ring);
+        let replayed = ByJunctions::run(list, lengths, work);
+        let noticed = replayed.noticed(&want.junctions, t, i, false);
+        self.disagreements
+            .add_if(!replayed.agrees(&want.junctions, t));
+        self.noticed.add(noticed);
+        for (number, count) in self.answers.iter_mut().enumerate() {
+            count.add(tables::tally(&want.junctions.answers, t, number));
+        }
+        self.differences.add(&want, t);
     }
-    t
 }
 
-fn run_large(work: &mut Work) -> Totals {
-    let mut t = totals::none();
-    for s in 0..18 {
-        let l = lists::large(s);
-        let next = compare(t, &l, calls::lengths(l.sizes, LONGER, 0), 512, work);
-        t = next;
-    }
-    t
-}
-
-// How many of 64 answers that are wanted otherwise are noticed.
-fn noticed(r: &Replayed, want: &Replayed, t: usize, s: usize) -> usize {
-    let mut count: usize = 0;
-    for j in 0..64 {
-        let mut w = Replayed { ..*want };
-        let i = random::at(s, 7, j, t);
-        let v = replays::answer_at(&w.answers, i);
-        replays::set_answer(&mut w.answers, i, counts::plus(v, 1));
-        count = counts::counted(count, !replays::agrees(r, &w, t));
-    }
-    count
-}
-
-// Counts ring i: whether it disagrees, how many changed answers are noticed, the answers 0, 1 and 2, and the 2 where there is one way alone.
-fn with_ring(before: [usize; 6], i: usize, work: &mut Work) -> [usize; 6] {
-    let l = lists::shorter_ring(i);
-    let t = l.sizes.t;
-    let lengths = calls::lengths(l.sizes, LONGER, 0);
-    let want = test_slow_junctions::reply(&l, lengths, lists::places(i));
-    let r = calls::run(&l, lengths, work);
-    let p = totals::pairs(&want.by_roads, &want.junctions.answers, t);
-    [
-        counts::counted(before[0], !replays::agrees(&r, &want.junctions, t)),
-        counts::plus(before[1], noticed(&r, &want.junctions, t, i)),
-        counts::plus(before[2], p[0]),
-        counts::plus(before[3], p[5]),
-        counts::plus(before[4], counts::plus(p[6], p[10])),
-        counts::plus(before[5], p[6]),
-    ]
-}
-
-fn run_rings(work: &mut Work) -> [usize; 6] {
-    let mut numbers = [0usize; 6];
+fn report_rings(rt: &impl Print, work: &mut [u32]) -> io::Result<()> {
+    let mut totals = RingTotals::default();
     for i in 0..10 {
-        let next = with_ring(numbers, i, work);
-        numbers = next;
+        totals.add(i, work);
     }
-    numbers
+    let rows = [
+        (
+            "10 lists of 4096 junctions, 8192 segments and 1200 events, disagreements",
+            totals.disagreements,
+        ),
+        ("of 640 answers changed on purpose, noticed", totals.noticed),
+        ("answers 0", totals.answers[0]),
+        ("answers 1", totals.answers[1]),
+        ("answers 2", totals.answers[2]),
+        (
+            "of two junctions that one road joins, and no other way",
+            totals.differences.two_for_one,
+        ),
+    ];
+    print::counts(rt, &rows)
 }
 
-fn report_rings(rt: &impl Print, work: &mut Work) -> io::Result<()> {
-    let numbers = run_rings(work);
-    print::report(
-        rt,
-        b"\
-10 lists of 4096 junctions, 8192 segments and 1200 events, disagreements: #\n\
-of 640 answers changed on purpose, noticed: #\n\
-answers 0: #\n\
-answers 1: #\n\
-answers 2: #\n\
-of two junctions that one road joins, and no other way: #\n\
-",
-        &numbers,
-    )
+// The vectors of document 02, No. 8, all 80, made by a slow program before any code of the product; they stand on standard input, in the form of
+// test_library::vectors, with 0 for the length of the names, and without names: 31 are accepted and 49 refused.
+fn report_vectors(rt: &(impl Input + Print + Alloc), work: &mut [u32]) -> io::Result<()> {
+    let compared = vectors::compare::<ByJunctions>(rt, work)?;
+    let rows = [
+        ("vectors", compared.vectors),
+        ("wrong", compared.wrong),
+        (
+            "on which the slow version differs from the call",
+            compared.slow_differs,
+        ),
+    ];
+    print::counts(rt, &rows)
 }
 
 fn main(rt: HostRuntime) -> io::Result<()> {
-    let mut work = [7u32; 1427464];
-    vectors::report(&rt, &mut work)?;
-    totals::report(&rt, run_lists(false, &mut work))?;
-    totals::report(&rt, run_lists(true, &mut work))?;
-    totals::report(&rt, run_large(&mut work))?;
-    report_rings(&rt, &mut work)?;
-    limits::report(&rt, &mut work)
+    let mut work = vec![in rt.alloc(); 0u32; WORDS]?;
+    let work = work.as_mut_slice();
+    report_vectors(&rt, work)?;
+    run(21000, lists::small, work).report(&rt)?;
+    run(21000, lists::blocks, work).report(&rt)?;
+    run(18, lists::large, work).report(&rt)?;
+    report_rings(&rt, work)?;
+    limits::report(&rt, work)
 }

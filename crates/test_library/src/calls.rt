@@ -1,77 +1,89 @@
 // What calls of the product share. Each table that a call may write holds 7 before.
-ghost use Rattle.std.specs.Prelude.{◌+◌, ◌≤◌};
 
-use crate::entries::Entries;
-use crate::{counts, entries};
+// The value in each table that a call may write.
+pub const BEFORE: u8 = 7;
 
-// Tables are longer than they have to be: all of a contraction, and those that a replay writes.
-pub const LONGER: usize = 11;
-
-// Internal: the length of a table that is lent: the least; one less where it is the table that is short; three more where all are longer.
-pub fn length(least: usize, table: usize, short: usize) -> usize
-    ensures { result ≤ least + 3 }
-{
-    if short == LONGER {
-        return least % 4000000 + 3;
-    }
-    counts::minus(least, (table == short) as usize)
+// How tables are lent. A table is named by its place among those of a call, from 1 on.
+#[derive(Clone, Copy, Default)]
+pub struct Lending {
+    // Whether the tables that may be longer are longer than they have to be: all of a contraction, and those that a replay writes.
+    pub longer: bool,
+    // The table that is one entry short.
+    pub short: Option<usize>,
+    // The table that is only read and has one entry more than its size.
+    pub long: Option<usize>,
 }
 
-// Internal: the length of a table that is only read: its size, one entry less where it is the table that is short, one more where it is the one that is longer.
-pub fn exact(size: usize, table: usize, short: usize, long: usize) -> usize {
-    let most = counts::plus(size, (table == long) as usize);
-    counts::minus(most, (table == short) as usize)
+impl Lending {
+    // Internal: longer tables than they have to be.
+    pub fn longer() -> Lending {
+        Lending {
+            longer: true,
+            short: None,
+            long: None,
+        }
+    }
+
+    // Internal: the length of a table of which this is the least length.
+    pub fn length(&self, table: usize, least: usize) -> usize {
+        if self.longer {
+            return least.saturating_add(3);
+        }
+        least.saturating_sub(usize::from(self.short == Some(table)))
+    }
+
+    // Internal: the length of a table that is only read, and may have no other length than this size.
+    pub fn exact(&self, table: usize, size: usize) -> usize {
+        let most = size.saturating_add(usize::from(self.long == Some(table)));
+        most.saturating_sub(usize::from(self.short == Some(table)))
+    }
 }
 
-// Internal: the number by which a call is refused, or 99 where it is refused and changed so many entries.
-pub fn code(code: usize, changed: usize) -> usize {
-    if (code > 0) & (changed > 0) {
-        return 99;
-    }
-    code
+// Internal: the first count entries, or all. Those behind a list's own are lent where the table is to be longer than it is.
+pub fn first<T>(t: &[T], count: usize) -> &[T] {
+    let n = count.min(t.len());
+    &t[..n]
 }
 
-// Internal: how many entries a call writes that would write so many, where it is not refused.
-pub fn written(code: usize, count: usize) -> usize {
-    if code > 0 {
-        return 0;
-    }
-    count
+// Internal: the same of a table that a call may write.
+pub fn first_mut<T>(t: &mut [T], count: usize) -> &mut [T] {
+    let n = count.min(t.len());
+    &mut t[..n]
 }
 
-// Internal: what entry i is to be, where the first count are written.
-pub fn wanted(v: usize, count: usize, i: usize) -> usize {
-    if i < count {
-        return v;
-    }
-    7
+// Internal: how many entries are no longer as before, of those from the first count on that were lent, all of them.
+pub fn changed<T: Copy + PartialEq + From<u8>>(t: &[T], count: usize, all: usize) -> usize {
+    let before = T::from(BEFORE);
+    t.iter()
+        .take(all)
+        .skip(count)
+        .filter(|v| **v != before)
+        .count()
 }
 
 // Internal: how many entries are wrong of all that were lent, where the first count are to be as wanted and the others as before.
-pub fn entries_wrong(t: &[u16], want: &Entries, count: usize, all: usize) -> usize {
-    let n = counts::least(all, t.len());
-    let mut wrong: usize = 0;
-    for i in 0..n {
-        let v = wanted(entries::at(want, i), count, i);
-        wrong = counts::counted(wrong, counts::entry(t[i]) != v);
-    }
-    wrong
-}
-
-// Internal: fills the first count words, or all, with what is in a table before a call.
-pub fn refill(w: &mut [u32], count: usize) {
-    let n = counts::least(count, w.len());
-    for i in 0..n {
-        w[i] = 7;
-    }
+pub fn wrong<T: Copy + PartialEq + From<u8>>(
+    t: &[T],
+    want: &[T],
+    count: usize,
+    all: usize,
+) -> usize {
+    let written = t
+        .iter()
+        .zip(want)
+        .take(count)
+        .filter(|(v, w)| v != w)
+        .count();
+    written.saturating_add(changed(t, count, all))
 }
 
 // Internal: how many words are wrong of all that were lent, where the first count are to be 0 and the others as before.
-pub fn words_wrong(w: &[u32], count: usize, all: usize) -> usize {
-    let n = counts::least(all, w.len());
-    let mut wrong: usize = 0;
-    for i in 0..n {
-        wrong = counts::counted(wrong, counts::word(w[i]) != wanted(0, count, i));
-    }
-    wrong
+pub fn words_wrong(work: &[u32], count: usize, all: usize) -> usize {
+    let cleared = work.iter().take(count).filter(|w| **w != 0).count();
+    cleared.saturating_add(changed(work, count, all))
+}
+
+// Internal: fills the first count words, or all, with what is in a table before a call.
+pub fn refill(work: &mut [u32], count: usize) {
+    first_mut(work, count).fill(u32::from(BEFORE));
 }

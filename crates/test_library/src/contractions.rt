@@ -1,6 +1,9 @@
 // What a contraction is lent, and what comes of it.
-use crate::entries::Entries;
-use crate::{calls, counts};
+use crate::calls::Lending;
+use crate::edges::Edges;
+use crate::refusals;
+use crate::refusals::Refusal;
+use crate::tables::Entries;
 
 // The nodes, the edges and the active entries.
 #[derive(Clone, Copy)]
@@ -14,10 +17,21 @@ pub struct Sizes {
 #[derive(Drop)]
 pub struct Graph {
     pub sizes: Sizes,
-    pub from: Entries,
-    pub to: Entries,
+    pub edges: Edges,
     pub names: Entries,
     pub active: Entries,
+}
+
+impl Graph {
+    // Internal: a graph of these sizes, with the same entry everywhere.
+    pub fn filled(sizes: Sizes, entry: u16) -> Graph {
+        Graph {
+            sizes,
+            edges: Edges::filled(entry),
+            names: [entry; 8200],
+            active: [entry; 8200],
+        }
+    }
 }
 
 // The lengths of the tables.
@@ -35,30 +49,65 @@ pub struct Lengths {
     pub work: usize,
 }
 
-// A refusal's number and its place, both 0 where there is none, and the two numbers that are returned.
-#[derive(Clone, Copy)]
-pub struct Reply {
-    pub code: usize,
-    pub place: usize,
+impl Lengths {
+    // Internal: those of a graph of these sizes, with a work table of at least so many words, lent so. The tables have the numbers from 1 to 10.
+    pub fn new(sizes: Sizes, words: usize, lending: Lending) -> Lengths {
+        let m = sizes.m;
+        let k = sizes.k;
+        let ends = k.saturating_add(k);
+        Lengths {
+            from: lending.length(1, m),
+            to: lending.length(2, m),
+            names: lending.length(3, m),
+            active: lending.length(4, k),
+            map: lending.length(5, k),
+            out_from: lending.length(6, ends),
+            out_to: lending.length(7, ends),
+            out_names: lending.length(8, ends),
+            pieces: lending.length(9, k),
+            work: lending.length(10, words),
+        }
+    }
+}
+
+// The two numbers that are returned: of the small graph the nodes and the edges.
+#[derive(Clone, Copy, PartialEq, Eq, Default)]
+pub struct Counts {
     pub nodes: usize,
     pub edges: usize,
 }
+
+pub type Reply = Result<Counts, Refusal>;
 
 // The small graph that is wanted: the reply, the tables, how many nodes have no active one, and how many edges stand for two or more.
 #[derive(Drop)]
 pub struct Small {
     pub reply: Reply,
     pub map: Entries,
-    pub from: Entries,
-    pub to: Entries,
+    pub edges: Edges,
     pub names: Entries,
     pub pieces: Entries,
     pub inner: usize,
     pub spliced: usize,
 }
 
+impl Small {
+    // Internal: with this reply and with zeros in its tables.
+    pub fn empty(reply: Reply) -> Small {
+        Small {
+            reply,
+            map: [0; 8200],
+            edges: Edges::filled(0),
+            names: [0; 8200],
+            pieces: [0; 8200],
+            inner: 0,
+            spliced: 0,
+        }
+    }
+}
+
 // How many entries of the tables that a call writes are wrong; of the ends of both tables together.
-#[derive(Clone, Copy)]
+#[derive(Clone, Copy, PartialEq, Eq, Default)]
 pub struct Wrong {
     pub map: usize,
     pub ends: usize,
@@ -67,66 +116,24 @@ pub struct Wrong {
     pub work: usize,
 }
 
-// Internal: a graph of these sizes, with the same entry everywhere.
-pub fn filled(sizes: Sizes, entry: u16) -> Graph {
-    let all = [entry; 8200];
-    Graph {
-        sizes,
-        from: all,
-        to: all,
-        names: all,
-        active: all,
+// What comes of a call: the reply, and how many entries are wrong.
+#[derive(Clone, Copy)]
+pub struct Contracted {
+    pub reply: Reply,
+    pub wrong: Wrong,
+}
+
+impl Contracted {
+    // Internal: whether it gives the reply that is wanted, and no wrong entry.
+    pub fn agrees(&self, want: Reply) -> bool {
+        self.reply == want && self.wrong == Wrong::default()
     }
-}
 
-// Internal: the reply of a refusal.
-pub fn refused(code: usize, place: usize) -> Reply {
-    Reply {
-        code,
-        place,
-        nodes: 0,
-        edges: 0,
+    // Internal: the number by which it is refused, as it is printed: 0 where there is none, and 99, which is no refusal's number, where an entry was changed.
+    pub fn code(&self) -> usize {
+        if self.reply.is_err() && self.wrong != Wrong::default() {
+            return 99;
+        }
+        refusals::printed(&self.reply).code
     }
-}
-
-// Internal: the reply of a graph that is accepted.
-pub fn accepted(nodes: usize, edges: usize) -> Reply {
-    Reply {
-        code: 0,
-        place: 0,
-        nodes,
-        edges,
-    }
-}
-
-// Internal: a small graph with this reply and with zeros in its tables.
-pub fn empty(reply: Reply) -> Small {
-    let none = [0u16; 8200];
-    Small {
-        reply,
-        map: none,
-        from: none,
-        to: none,
-        names: none,
-        pieces: none,
-        inner: 0,
-        spliced: 0,
-    }
-}
-
-// Internal: how many entries are wrong in all.
-pub fn sum(w: Wrong) -> usize {
-    let edges = counts::plus(w.ends, w.names);
-    counts::plus(edges, counts::plus(w.map, counts::plus(w.pieces, w.work)))
-}
-
-// Internal: whether a contraction gives the reply that is wanted, and no wrong entry.
-pub fn agrees(r: Reply, w: Wrong, want: Reply) -> bool {
-    let refusal = (r.code == want.code) & (r.place == want.place);
-    refusal & (r.nodes == want.nodes) & (r.edges == want.edges) & (sum(w) == 0)
-}
-
-// Internal: the number by which it is refused, or 99 where it is refused and changed an entry.
-pub fn code(r: Reply, w: Wrong) -> usize {
-    calls::code(r.code, sum(w))
 }

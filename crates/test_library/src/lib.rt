@@ -5,9 +5,10 @@
 pub mod calls;
 pub mod contractions;
 pub mod counts;
-pub mod entries;
+pub mod edges;
 pub mod print;
 pub mod random;
+pub mod refusals;
 pub mod replays;
 pub mod tables;
 pub mod text;

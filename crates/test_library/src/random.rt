@@ -10,10 +10,7 @@ pub fn next(s: usize) -> usize
 
 // Internal: x below n, going round, or 0.
 pub fn round(x: usize, n: usize) -> usize {
-    if n == 0 {
-        return 0;
-    }
-    x % n
+    x.checked_rem(n).unwrap_or(0)
 }
 
 // Internal: a number below n for place i of the table t, or 0.

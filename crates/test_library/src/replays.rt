@@ -1,6 +1,9 @@
 // What a replay is lent, and what comes of it.
-use crate::entries::Entries;
-use crate::{calls, counts, entries, random};
+use crate::calls::Lending;
+use crate::edges::Edges;
+use crate::refusals::Refusal;
+use crate::tables::Entries;
+use crate::{calls, random, refusals, tables};
 
 // The junctions, the segments, the events and the share.
 #[derive(Clone, Copy)]
@@ -15,23 +18,70 @@ pub struct Sizes {
 #[derive(Drop)]
 pub struct List {
     pub sizes: Sizes,
-    pub a: Entries,
-    pub b: Entries,
+    pub segments: Edges,
     pub start: Entries,
     pub x: Entries,
     pub y: Entries,
-}
-
-#[derive(Clone, Copy)]
-pub struct Event {
-    pub x: usize,
-    pub y: usize,
 }
 
 // X of an event that closes a segment, and of one that opens it. All other numbers are below them.
 pub const CLOSES: usize = 65534;
 
 pub const OPENS: usize = 65535;
+
+// An event: it asks for two junctions, or closes or opens a segment.
+#[derive(Clone, Copy)]
+pub enum Event {
+    Asks(usize, usize),
+    Closes(usize),
+    Opens(usize),
+}
+
+impl Event {
+    // Internal: the event with this X and Y.
+    pub fn new(x: usize, y: usize) -> Event {
+        match x {
+            CLOSES => Event::Closes(y),
+            OPENS => Event::Opens(y),
+            _ => Event::Asks(x, y),
+        }
+    }
+
+    // Internal: X and Y.
+    pub fn numbers(self) -> (usize, usize) {
+        match self {
+            Event::Asks(u, v) => (u, v),
+            Event::Closes(e) => (CLOSES, e),
+            Event::Opens(e) => (OPENS, e),
+        }
+    }
+}
+
+impl List {
+    // Internal: a list of these sizes, with the same entry everywhere.
+    pub fn filled(sizes: Sizes, entry: u16) -> List {
+        let all = [entry; 8200];
+        List {
+            sizes,
+            segments: Edges::filled(entry),
+            start: all,
+            x: all,
+            y: all,
+        }
+    }
+
+    // Internal: event i.
+    pub fn event(&self, i: usize) -> Event {
+        Event::new(tables::at(&self.x, i), tables::at(&self.y, i))
+    }
+
+    // Internal: sets event i.
+    pub fn set_event(&mut self, i: usize, event: Event) {
+        let (x, y) = event.numbers();
+        tables::set(&mut self.x, i, x);
+        tables::set(&mut self.y, i, y);
+    }
+}
 
 // The lengths of the tables.
 #[derive(Clone, Copy)]
@@ -46,32 +96,34 @@ pub struct Lengths {
     pub work: usize,
 }
 
-// Internal: the sizes of the tables that are only read and the least lengths of the others, so many words among them; one of them one entry short, 1 to 8, or
-// those that are written longer; and one of those that are only read one entry longer, 1 to 5.
-pub fn lengths_of(sizes: Sizes, words: usize, short: usize, long: usize) -> Lengths {
-    let m = sizes.m;
-    let t = sizes.t;
-    Lengths {
-        a: calls::exact(m, 1, short, long),
-        b: calls::exact(m, 2, short, long),
-        start: calls::exact(m, 3, short, long),
-        x: calls::exact(t, 4, short, long),
-        y: calls::exact(t, 5, short, long),
-        answers: calls::length(t, 6, short),
-        names: calls::length(t, 7, short),
-        work: calls::length(words, 8, short),
+impl Lengths {
+    // Internal: those of a list of these sizes, with a work table of at least so many words, lent so. The tables have the numbers from 1 to 8; the first five
+    // are only read.
+    pub fn new(sizes: Sizes, words: usize, lending: Lending) -> Lengths {
+        let m = sizes.m;
+        let t = sizes.t;
+        Lengths {
+            a: lending.exact(1, m),
+            b: lending.exact(2, m),
+            start: lending.exact(3, m),
+            x: lending.exact(4, t),
+            y: lending.exact(5, t),
+            answers: lending.length(6, t),
+            names: lending.length(7, t),
+            work: lending.length(8, words),
+        }
     }
 }
 
-// A refusal's number and its place, both 0 where there is none, and the three numbers that are returned.
-#[derive(Clone, Copy)]
-pub struct Reply {
-    pub code: usize,
-    pub place: usize,
+// The three numbers that are returned.
+#[derive(Clone, Copy, PartialEq, Eq, Default)]
+pub struct Totals {
     pub queries: usize,
     pub open: usize,
     pub kept: usize,
 }
+
+pub type Reply = Result<Totals, Refusal>;
 
 // The answers of a replay, and some behind them.
 pub type Answers = [u8; 4104];
@@ -85,130 +137,107 @@ pub struct Replayed {
     pub words_wrong: usize,
 }
 
-// Internal: a list of these sizes, with the same entry everywhere.
-pub fn filled(sizes: Sizes, entry: u16) -> List {
-    let all = [entry; 8200];
-    List {
-        sizes,
-        a: all,
-        b: all,
-        start: all,
-        x: all,
-        y: all,
+impl Replayed {
+    // Internal: a refusal that is wanted.
+    pub fn refused(refusal: Refusal) -> Replayed {
+        Replayed {
+            reply: Err(refusal),
+            answers: [0; 4104],
+            names: [0; 8200],
+            words_wrong: 0,
+        }
+    }
+
+    // Internal: whether a replay of t events comes out as wanted, with all entries that it must not change.
+    pub fn agrees(&self, want: &Replayed, t: usize) -> bool {
+        let count = if want.reply.is_ok() { t } else { 0 };
+        let all = t.saturating_add(8);
+        let answers_wrong = calls::wrong(&self.answers, &want.answers, count, all);
+        let names_wrong = calls::wrong(&self.names, &want.names, count, all);
+        self.reply == want.reply && answers_wrong == 0 && names_wrong == 0 && self.words_wrong == 0
+    }
+
+    // Whether no entry was changed.
+    fn is_as_before(&self) -> bool {
+        let answers_changed = calls::changed(&self.answers, 0, 4104);
+        let names_changed = calls::changed(&self.names, 0, 4104);
+        answers_changed == 0 && names_changed == 0 && self.words_wrong == 0
+    }
+
+    // Internal: whether it is refused so, with all entries as they were.
+    pub fn is_refused_by(&self, refusal: Refusal) -> bool {
+        self.reply == Err(refusal) && self.is_as_before()
+    }
+
+    // Internal: the refusal as it is printed: 0 at 0 where there is none, and by 99, which is no refusal's number, where an entry was changed.
+    pub fn printed(&self) -> Refusal {
+        let mut refusal = refusals::printed(&self.reply);
+        if self.reply.is_err() && !self.is_as_before() {
+            refusal.code = 99;
+        }
+        refusal
+    }
+
+    // Internal: how many of 64 faults are noticed that are put into what is wanted of t events, each by itself; into answers alone, or into answers and names
+    // in turn.
+    pub fn noticed(&self, want: &Replayed, t: usize, s: usize, in_names: bool) -> usize {
+        let is_noticed = |j: &usize| {
+            let i = random::at(s, 7, *j, t);
+            !self.agrees(&want.with_fault(i, in_names && j % 2 == 1), t)
+        };
+        (0..64).filter(is_noticed).count()
+    }
+
+    // With another answer, or another name, of event i.
+    fn with_fault(&self, i: usize, in_names: bool) -> Replayed {
+        let mut faulty = Replayed { ..*self };
+        if in_names {
+            if i < 8200 {
+                faulty.names[i] = faulty.names[i].wrapping_add(1);
+            }
+        } else if i < 4104 {
+            faulty.answers[i] = faulty.answers[i].wrapping_add(1);
+        }
+        faulty
     }
 }
 
-// Internal: event i.
-pub fn event_at(x: &Entries, y: &Entries, i: usize) -> Event {
-    Event {
-        x: entries::at(x, i),
-        y: entries::at(y, i),
+// A replay of the product, by the loss of a road or by the loss of a junction, and the slow version that it is compared with.
+pub trait ReplayCall {
+    // Internal: the outcome by the slow version, of a list whose tables have these lengths; on a ring of so many places, where it is on one.
+    fn slow(list: &List, lengths: Lengths, ring: Option<usize>) -> Replayed;
+
+    // Internal: the least length of the work table.
+    fn required(sizes: Sizes) -> usize;
+
+    // Internal: the call, with tables of these lengths at most.
+    fn call(
+        list: &List,
+        lengths: Lengths,
+        answers: &mut [u8],
+        names: &mut [u16],
+        work: &mut [u32],
+    ) -> Reply;
+
+    // Internal: the lengths of the tables that a list is lent.
+    fn lengths(sizes: Sizes, lending: Lending) -> Lengths {
+        Lengths::new(sizes, Self::required(sizes), lending)
     }
-}
 
-// Internal: answer i.
-pub fn answer_at(t: &Answers, i: usize) -> usize {
-    counts::byte(t[i % 4104])
-}
-
-// Internal: sets answer i.
-pub fn set_answer(t: &mut Answers, i: usize, v: usize) {
-    t[i % 4104] = (v % 256) as u8;
-}
-
-// Internal: how many of the first count answers have this value.
-pub fn tally_answers(t: &Answers, count: usize, value: usize) -> usize {
-    let mut found: usize = 0;
-    for i in 0..count {
-        found = counts::counted(found, answer_at(t, i) == value);
+    // Internal: the outcome of the call. Of the work table the required length must be 0 where it is accepted, and all else as before.
+    fn run(list: &List, lengths: Lengths, work: &mut [u32]) -> Replayed {
+        let words = Self::required(list.sizes);
+        let all = words.saturating_add(8);
+        calls::refill(work, all);
+        let mut answers = [calls::BEFORE; 4104];
+        let mut names = [u16::from(calls::BEFORE); 8200];
+        let reply = Self::call(list, lengths, &mut answers, &mut names, work);
+        let cleared = if reply.is_ok() { words } else { 0 };
+        Replayed {
+            reply,
+            answers,
+            names,
+            words_wrong: calls::words_wrong(work, cleared, all),
+        }
     }
-    found
-}
-
-// Internal: the reply of a refusal.
-pub fn refused(code: usize, place: usize) -> Reply {
-    Reply {
-        code,
-        place,
-        queries: 0,
-        open: 0,
-        kept: 0,
-    }
-}
-
-// Internal: the reply of a list that is accepted.
-pub fn accepted(queries: usize, open: usize, kept: usize) -> Reply {
-    Reply {
-        code: 0,
-        place: 0,
-        queries,
-        open,
-        kept,
-    }
-}
-
-fn same(r: Reply, want: Reply) -> bool {
-    let numbers = (r.queries == want.queries) & (r.open == want.open) & (r.kept == want.kept);
-    (r.code == want.code) & (r.place == want.place) & numbers
-}
-
-// How many of so many answers are wrong, where the first count are to be as wanted and the others as before.
-fn answers_wrong(t: &Answers, want: &Answers, count: usize, all: usize) -> usize {
-    let mut wrong: usize = 0;
-    for i in 0..all {
-        let v = calls::wanted(answer_at(want, i), count, i);
-        wrong = counts::counted(wrong, answer_at(t, i) != v);
-    }
-    wrong
-}
-
-// How many of so many answers and names are wrong.
-fn wrong<'a>(
-    answers: &'a Answers,
-    names: &'a Entries,
-    want: &'a Answers,
-    want_names: &'a Entries,
-    count: usize,
-    all: usize,
-) -> usize {
-    let a = answers_wrong(answers, want, count, all);
-    counts::plus(a, calls::entries_wrong(names, want_names, count, all))
-}
-
-// Internal: whether a replay of t events comes out as wanted, with all entries that it must not change.
-pub fn agrees(r: &Replayed, want: &Replayed, t: usize) -> bool {
-    let count = calls::written(want.reply.code, t);
-    let all = counts::plus(t, 8);
-    let tables = wrong(&r.answers, &r.names, &want.answers, &want.names, count, all);
-    same(r.reply, want.reply) & (tables == 0) & (r.words_wrong == 0)
-}
-
-// Internal: the number by which it is refused, or 99 where it is refused and changed an entry.
-pub fn code(r: &Replayed) -> usize {
-    let tables = wrong(&r.answers, &r.names, &r.answers, &r.names, 0, 4104);
-    calls::code(r.reply.code, counts::plus(tables, r.words_wrong))
-}
-
-// Whether the comparison of 4096 answers and names notices a fault that is put into an answer that is wanted, or into a name.
-fn is_noticed(r: &Replayed, want: &Replayed, i: usize, of_names: bool) -> bool {
-    let mut answers = want.answers;
-    let mut names = want.names;
-    if of_names {
-        let v = entries::at(&names, i);
-        entries::set(&mut names, i, counts::plus(v, 1));
-    } else {
-        let v = answer_at(&answers, i);
-        set_answer(&mut answers, i, counts::plus(v, 1));
-    }
-    wrong(&r.answers, &r.names, &answers, &names, 4096, 4096) > 0
-}
-
-// Internal: how many of so many faults are noticed, in answers and names in turn.
-pub fn noticed(r: &Replayed, want: &Replayed, s: usize, planted: usize) -> usize {
-    let mut count: usize = 0;
-    for j in 0..planted {
-        let i = random::at(s, 7, j, 4096);
-        count = counts::counted(count, is_noticed(r, want, i, j % 2 == 1));
-    }
-    count
 }

@@ -1,37 +1,57 @@
-// Tables of numbers and of marks. An index goes round at the end, so that no caller has to know the bounds.
-use crate::counts;
+// Tables of numbers and of marks. Behind the end of a table there are zeros and no marks, and what is set there is lost, so that no caller has to know the bounds.
+
+// The largest table that is lent, and some entries behind it.
+pub type Entries = [u16; 8200];
 
 // Numbers of at most 512 nodes.
-pub type Table = [u32; 512];
+pub type Numbers = [u16; 512];
 
 // A mark for each segment, or for each junction.
 pub type Marks = [bool; 8192];
 
 // Internal: number i.
-pub fn get(t: &Table, i: usize) -> usize {
-    counts::word(t[i % 512])
+pub fn at<T: Copy + Into<usize>>(t: &[T], i: usize) -> usize {
+    if i < t.len() {
+        return t[i].into();
+    }
+    0
 }
 
 // Internal: sets number i.
-pub fn put(t: &mut Table, i: usize, v: usize) {
-    t[i % 512] = (v % 4294967296) as u32;
+pub fn set(t: &mut [u16], i: usize, v: usize) {
+    if i < t.len() {
+        t[i] = (v % 65536) as u16;
+    }
+}
+
+// Internal: copies count numbers of another table from this one on.
+pub fn copy(t: &mut [u16], other: &[u16], from: usize, count: usize) {
+    for (v, w) in t.iter_mut().zip(other.iter().skip(from)).take(count) {
+        *v = *w;
+    }
+}
+
+// Internal: how many of the first count numbers have this value.
+pub fn tally<T: Copy + Into<usize>>(t: &[T], count: usize, value: usize) -> usize {
+    t.iter()
+        .take(count)
+        .filter(|v| (**v).into() == value)
+        .count()
 }
 
 // Internal: whether i is marked.
-pub fn marked(t: &Marks, i: usize) -> bool {
-    t[i % 8192]
-}
-
-// Internal: how many marks are set.
-pub fn ones(t: &Marks) -> usize {
-    let mut count: usize = 0;
-    for i in 0..8192 {
-        count = counts::counted(count, marked(t, i));
-    }
-    count
+pub fn is_marked(t: &[bool], i: usize) -> bool {
+    i < t.len() && t[i]
 }
 
 // Internal: marks i, or takes its mark away.
-pub fn mark(t: &mut Marks, i: usize, to: bool) {
-    t[i % 8192] = to;
+pub fn mark(t: &mut [bool], i: usize, to: bool) {
+    if i < t.len() {
+        t[i] = to;
+    }
+}
+
+// Internal: how many marks are set.
+pub fn ones(t: &[bool]) -> usize {
+    t.iter().filter(|m| **m).count()
 }

@@ -1,78 +1,69 @@
-// Vectors as text, which a test program reads from standard input: each is a line with ; at its end, and numbers stand in base 16.
-ghost use Rattle.std.specs.Prelude.{◌≤◌, length, IfOk};
+// Vectors as text, which a test program reads from standard input: each is a line with ; at its end.
+ghost use Rattle.std.specs.Prelude.{◌<◌};
 
-use crate::entries::Entries;
-use crate::{counts, entries};
 use std::io;
-use std::io::Read;
 
-pub type Text = [u8; 65536];
-
-// Internal: reads standard input to its end, or until the text is full, and answers how many bytes were read.
-pub fn read(rt: &impl Input, text: &mut Text) -> io::Result<usize>
-    ensures { IfOk result (λ n. n ≤ 65536) }
+// Internal: does this with each vector, of which it gets the bytes but for the ; at the end.
+pub fn each_vector<F: FnMut(&[u8])>(rt: &(impl Input + Alloc), mut run: F) -> io::Result<()>
+    requires { F.IsAlwaysCallable run }
 {
-    let mut reader = rt.reader();
-    let mut count = 0;
-    while count < text.len() {
-        let n = reader.read(&mut text[count..])?;
-        if n == 0 {
-            break;
-        }
-        count += n;
-    }
-    Ok(count)
-}
-
-// Internal: byte i.
-pub fn at(text: &Text, i: usize) -> usize {
-    counts::byte(text[i % 65536])
-}
-
-// Internal: the first place of this byte from start on, or the end of the text.
-pub fn find(text: &Text, start: usize, byte: usize) -> usize {
-    for i in start..65536 {
-        if at(text, i) == byte {
-            return i;
+    for line in rt.lines(rt.alloc()) {
+        let line = line?;
+        if let Some(vector) = line.as_bytes().strip_suffix(b";") {
+            run(vector);
         }
     }
-    65536
+    Ok(())
 }
 
 // The value of a digit in base 16.
-fn digit(c: usize) -> usize {
-    if c < 58 {
-        return c % 48;
+fn digit(byte: u8) -> usize
+    ensures { result < 16 }
+{
+    match byte {
+        b'0'..=b'9' => usize::from(byte - b'0'),
+        b'a'..=b'f' => usize::from(byte - b'a' + 10),
+        _ => 0,
     }
-    c % 87
 }
 
-// Internal: the number of the two digits at i.
-pub fn pair(text: &Text, i: usize) -> usize {
-    let high = digit(at(text, i));
-    let low = digit(at(text, counts::plus(i, 1)));
-    high % 16 * 16 + low % 16
+// Internal: the number of at most four digits in base 16.
+pub fn number(digits: &[u8]) -> usize {
+    digits.iter().fold(0, |v, d| v % 4096 * 16 + digit(*d))
 }
 
-// Internal: number j, of four digits, of the line that begins at start.
-pub fn number(text: &Text, start: usize, j: usize) -> usize {
-    let i = counts::plus(start, j % 8192 * 4);
-    pair(text, i) % 256 * 256 + pair(text, counts::plus(i, 2)) % 256
+// The numbers of a vector that are still to be read, of four digits each. Behind the last one there are zeros.
+#[derive(Drop)]
+pub struct Numbers<'a> {
+    digits: &'a [u8],
 }
 
-// Internal: the ten numbers from this one on.
-pub fn row(text: &Text, start: usize, from: usize) -> [usize; 10] {
-    let mut r = [0usize; 10];
-    for i in 0..10 {
-        r[i] = number(text, start, counts::plus(from, i));
+impl<'a> Numbers<'a> {
+    // Internal: all numbers of a vector.
+    pub fn new(digits: &'a [u8]) -> Numbers<'a> {
+        Numbers { digits }
     }
-    r
-}
 
-// Internal: copies the count numbers from this one on into a table, and answers which one comes then.
-pub fn copy(t: &mut Entries, text: &Text, start: usize, from: usize, count: usize) -> usize {
-    for j in 0..count {
-        entries::set(t, j, number(text, start, counts::plus(from, j)));
+    // Internal: the next number.
+    pub fn next(&mut self) -> usize {
+        let (first, others) = self.digits.split_at(self.digits.len().min(4));
+        self.digits = others;
+        number(first)
     }
-    counts::plus(from, count)
+
+    // Internal: the next ten numbers.
+    pub fn row(&mut self) -> [usize; 10] {
+        let mut row = [0; 10];
+        for number in row.iter_mut() {
+            *number = self.next();
+        }
+        row
+    }
+
+    // Internal: copies the next count numbers into a table.
+    pub fn copy(&mut self, t: &mut [u16], count: usize) {
+        for entry in t.iter_mut().take(count) {
+            *entry = (self.next() % 65536) as u16;
+        }
+    }
 }

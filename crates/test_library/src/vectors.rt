@@ -2,13 +2,23 @@
 // share and zeros; ten of the lengths: of A, B, the starting table, X, Y, the answers, the names and the work table, and two zeros; ten of the reply: a
 // refusal's number and its place, the queries, the segments open at the end, kept and zeros. Then come the first five tables of these lengths; and where it is
 // accepted the answers, and the names where there are any.
-use crate::replays::{Answers, Lengths, List, Reply, Sizes};
-use crate::text::Text;
-use crate::{counts, replays, text};
+use crate::counts::Count;
+use crate::refusals::Refusal;
+use crate::replays::{Lengths, List, ReplayCall, Replayed, Reply, Sizes, Totals};
+use crate::text::Numbers;
+use crate::{calls, text};
+use std::io;
 
-// Internal: the sizes of the vector that begins at start.
-pub fn read_sizes(text: &Text, start: usize) -> Sizes {
-    let r = text::row(text, start, 0);
+// A list, the lengths of its tables, and the outcome that is wanted.
+#[derive(Drop)]
+struct Vector {
+    list: List,
+    lengths: Lengths,
+    want: Replayed,
+}
+
+fn read_sizes(numbers: &mut Numbers) -> Sizes {
+    let r = numbers.row();
     Sizes {
         n: r[0],
         m: r[1],
@@ -17,9 +27,8 @@ pub fn read_sizes(text: &Text, start: usize) -> Sizes {
     }
 }
 
-// Internal: the lengths of its tables.
-pub fn read_lengths(text: &Text, start: usize) -> Lengths {
-    let r = text::row(text, start, 10);
+fn read_lengths(numbers: &mut Numbers) -> Lengths {
+    let r = numbers.row();
     Lengths {
         a: r[0],
         b: r[1],
@@ -32,39 +41,82 @@ pub fn read_lengths(text: &Text, start: usize) -> Lengths {
     }
 }
 
-// Internal: its reply.
-pub fn read_reply(text: &Text, start: usize) -> Reply {
-    let r = text::row(text, start, 20);
-    Reply {
-        code: r[0],
-        place: r[1],
+fn read_reply(numbers: &mut Numbers) -> Reply {
+    let r = numbers.row();
+    if r[0] > 0 {
+        return Err(Refusal {
+            code: r[0],
+            place: r[1],
+        });
+    }
+    Ok(Totals {
         queries: r[2],
         open: r[3],
         kept: r[4],
+    })
+}
+
+fn read_list(numbers: &mut Numbers, sizes: Sizes, lengths: Lengths) -> List {
+    let mut list = List::filled(sizes, 65000);
+    numbers.copy(&mut list.segments.from, lengths.a);
+    numbers.copy(&mut list.segments.to, lengths.b);
+    numbers.copy(&mut list.start, lengths.start);
+    numbers.copy(&mut list.x, lengths.x);
+    numbers.copy(&mut list.y, lengths.y);
+    list
+}
+
+// The outcome of t events. The sibling has no names: there a table that is as long as it says must stay as it was.
+fn read_outcome(numbers: &mut Numbers, reply: Reply, t: usize, has_names: bool) -> Replayed {
+    let mut answers = [0; 4104];
+    for answer in answers.iter_mut().take(t) {
+        *answer = (numbers.next() % 256) as u8;
+    }
+    let mut names = [u16::from(calls::BEFORE); 8200];
+    if has_names {
+        numbers.copy(&mut names, t);
+    }
+    Replayed {
+        reply,
+        answers,
+        names,
+        words_wrong: 0,
     }
 }
 
-// Internal: its list.
-pub fn read_list(text: &Text, start: usize, sizes: Sizes, lengths: Lengths) -> List {
-    let mut l = replays::filled(sizes, 65000);
-    let b = text::copy(&mut l.a, text, start, 30, lengths.a);
-    let s = text::copy(&mut l.b, text, start, b, lengths.b);
-    let x = text::copy(&mut l.start, text, start, s, lengths.start);
-    let y = text::copy(&mut l.x, text, start, x, lengths.x);
-    text::copy(&mut l.y, text, start, y, lengths.y);
-    l
-}
-
-// Internal: which number comes behind the tables of the list.
-pub fn behind(l: Lengths) -> usize {
-    let network = counts::plus(l.a, counts::plus(l.b, l.start));
-    counts::plus(counts::plus(30, network), counts::plus(l.x, l.y))
-}
-
-// Internal: copies the count answers from this number on.
-pub fn copy_answers(t: &mut Answers, text: &Text, start: usize, from: usize, count: usize) {
-    for i in 0..count {
-        let v = text::number(text, start, counts::plus(from, i));
-        replays::set_answer(t, i, v);
+fn read(line: &[u8]) -> Vector {
+    let mut numbers = Numbers::new(line);
+    let sizes = read_sizes(&mut numbers);
+    let lengths = read_lengths(&mut numbers);
+    let reply = read_reply(&mut numbers);
+    let list = read_list(&mut numbers, sizes, lengths);
+    let want = read_outcome(&mut numbers, reply, sizes.t, lengths.names > 0);
+    Vector {
+        list,
+        lengths,
+        want,
     }
+}
+
+// How many vectors there are, how many of them the call does not give, and on how many the slow version differs from the call.
+#[derive(Clone, Copy, Default)]
+pub struct Compared {
+    pub vectors: Count,
+    pub wrong: Count,
+    pub slow_differs: Count,
+}
+
+// Internal: runs the call and the slow version on each vector of standard input.
+pub fn compare<C: ReplayCall>(rt: &(impl Input + Alloc), work: &mut [u32]) -> io::Result<Compared> {
+    let mut compared = Compared::default();
+    text::each_vector(rt, |line| {
+        let vector = read(line);
+        let t = vector.list.sizes.t;
+        let replayed = C::run(&vector.list, vector.lengths, work);
+        let by_slow = C::slow(&vector.list, vector.lengths, None);
+        compared.vectors.add(1);
+        compared.wrong.add_if(!replayed.agrees(&vector.want, t));
+        compared.slow_differs.add_if(!replayed.agrees(&by_slow, t));
+    })?;
+    Ok(compared)
 }

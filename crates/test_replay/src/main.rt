@@ -3,109 +3,78 @@
 // several. Prints counts and replies.
 #![tactic(auto)]
 
-mod vectors;
 mod windows;
 
 use std::io;
-use test_library::calls::LONGER;
-use test_library::replays;
-use test_library::replays::{Lengths, List};
+use test_library::replays::ReplayCall;
+use test_library::{print, vectors};
 use test_random::lists;
-use test_replay_calls::calls::Work;
-use test_replay_calls::{calls, limits};
-use test_slow_replay::replay;
-use test_totals::list_totals;
-use test_totals::list_totals::{Totals, Trial};
+use test_random::lists::Drawn;
+use test_replay_calls::calls::{ByRoads, WORDS};
+use test_replay_calls::limits;
+use test_totals::list_totals::Totals;
 
-pub(crate) const SMALL: Trial = Trial {
-    places: 0,
-    most: 12,
-    planted: 0,
-};
-
-// Runs the call and the slow replay on a list whose tables have these lengths, and counts it.
-pub(crate) fn compare(
-    t: Totals,
-    l: &List,
-    lengths: Lengths,
-    trial: Trial,
-    work: &mut Work,
-) -> Totals {
-    let want = replay::reply(l, lengths, trial.places);
-    let r = calls::run(l, lengths, work);
-    let noticed = replays::noticed(&r, &want, trial.places, trial.planted);
-    let disagrees = !replays::agrees(&r, &want, l.sizes.t);
-    list_totals::add(t, l, &want, trial, disagrees, noticed)
-}
-
-// Counts the small list s, of which a table may be one entry short or longer.
-fn with_small(t: Totals, s: usize, work: &mut Work) -> Totals {
-    let l = lists::small(s);
-    let lengths = calls::lengths(l.sizes, lists::short(s), lists::long(s));
-    compare(t, &l, lengths, SMALL, work)
-}
-
-fn with_large(t: Totals, s: usize, work: &mut Work) -> Totals {
-    let l = lists::large(s);
-    let trial = Trial {
-        places: 0,
-        most: 512,
-        planted: 0,
-    };
-    compare(t, &l, calls::lengths(l.sizes, LONGER, 0), trial, work)
-}
-
-fn with_ring(t: Totals, i: usize, work: &mut Work) -> Totals {
-    let l = lists::ring(i);
-    let trial = Trial {
-        places: lists::places(i),
-        most: 4096,
-        planted: 64,
-    };
-    compare(t, &l, calls::lengths(l.sizes, LONGER, 0), trial, work)
-}
-
-fn run_small(work: &mut Work) -> Totals {
-    let mut t = list_totals::none();
-    for s in 0..60000 {
-        let next = with_small(t, s, work);
-        t = next;
+// Runs the call and the slow replay on a list, and counts it.
+pub(crate) fn compare(totals: &mut Totals, drawn: &Drawn, work: &mut [u32]) {
+    let list = &drawn.list;
+    let lengths = ByRoads::lengths(list.sizes, drawn.lending);
+    let want = ByRoads::slow(list, lengths, drawn.ring);
+    let replayed = ByRoads::run(list, lengths, work);
+    let disagrees = !replayed.agrees(&want, list.sizes.t);
+    totals.add(list, &want, drawn.most, disagrees);
+    match drawn.ring {
+        Some(places) => {
+            totals.planted.add(64);
+            totals
+                .noticed
+                .add(replayed.noticed(&want, list.sizes.t, places, true));
+        }
+        None if want.reply.is_ok() => totals.ones.add(list, &want),
+        None => (),
     }
-    t
 }
 
-fn run_large(work: &mut Work) -> Totals {
-    let mut t = list_totals::none();
-    for s in 0..36 {
-        let next = with_large(t, s, work);
-        t = next;
+// Compares so many lists.
+fn run<F: Fn(usize) -> Drawn>(count: usize, draw: F, work: &mut [u32]) -> Totals
+    requires { F.IsAlwaysCallable draw }
+{
+    let mut totals = Totals::default();
+    for i in 0..count {
+        compare(&mut totals, &draw(i), work);
     }
-    t
+    totals
 }
 
-fn run_rings(work: &mut Work) -> Totals {
-    let mut t = list_totals::none();
-    for i in 0..10 {
-        let next = with_ring(t, i, work);
-        t = next;
-    }
-    t
+fn report_lists(rt: &impl Print, work: &mut [u32]) -> io::Result<()> {
+    let small = run(60000, lists::small, work);
+    small.report(rt)?;
+    small.ones.report(rt)?;
+    let large = run(36, lists::large, work);
+    large.report(rt)?;
+    large.ones.report(rt)?;
+    run(10, lists::ring, work).report(rt)
 }
 
-fn report_lists(rt: &impl Print, work: &mut Work) -> io::Result<()> {
-    let small = run_small(work);
-    list_totals::report(rt, small)?;
-    list_totals::report_ones(rt, small)?;
-    let large = run_large(work);
-    list_totals::report(rt, large)?;
-    list_totals::report_ones(rt, large)?;
-    list_totals::report(rt, run_rings(work))
+// Replays made by a slow program before any code of the product; they stand on standard input, in the form of test_library::vectors. The first 50 are those of
+// document 02, No. 7: 17 are accepted and 33 refused. The other five are of No. 5, all accepted.
+fn report_vectors(rt: &(impl Input + Print + Alloc), work: &mut [u32]) -> io::Result<()> {
+    let compared = vectors::compare::<ByRoads>(rt, work)?;
+    let rows = [
+        ("vectors", compared.vectors),
+        ("wrong", compared.wrong),
+        (
+            "on which the slow replay differs from the call",
+            compared.slow_differs,
+        ),
+    ];
+    print::counts(rt, &rows)
 }
 
 fn main(rt: HostRuntime) -> io::Result<()> {
-    let mut work = [7u32; 1247536];
-    vectors::report(&rt, &mut work)?;
-    report_lists(&rt, &mut work)?;
-    windows::report(&rt, &mut work)?;
-    limits::report(&rt, &mut work)
+    let mut work = vec![in rt.alloc(); 0u32; WORDS]?;
+    let work = work.as_mut_slice();
+    report_vectors(&rt, work)?;
+    report_lists(&rt, work)?;
+    windows::report(&rt, work)?;
+    limits::report(&rt, work)
 }

@@ -1,82 +1,57 @@
-// Calls of replay.
-use test_library::entries::Entries;
-use test_library::replays::{Lengths, List, Replayed, Reply, Sizes};
-use test_library::{calls, counts, entries, replays};
+// The call of replay.
+use test_library::calls;
+use test_library::refusals::Refusal;
+use test_library::replays::{Lengths, List, ReplayCall, Replayed, Reply, Sizes, Totals};
 use test_slow_replay::replay;
 use theory_timeline::ReplayReply;
 
-// Internal: the longest work table that a call may want, and some words behind it.
-pub type Work = [u32; 1247536];
+// The longest work table that a call may want, and some words behind it.
+pub const WORDS: usize = 1247536;
+
+// The replay, by the loss of a road.
+pub struct ByRoads;
 
 fn plain(r: ReplayReply) -> Reply {
     match r {
-        ReplayReply::Done(t) => replays::accepted(t.queries, t.open, t.kept),
-        ReplayReply::Refused(code, place) => replays::refused(code, place),
+        ReplayReply::Done(t) => Ok(Totals {
+            queries: t.queries,
+            open: t.open,
+            kept: t.kept,
+        }),
+        ReplayReply::Refused(code, place) => Err(Refusal { code, place }),
     }
 }
 
-// Internal: the lengths of the tables that a list is lent, as `replays::lengths_of` has them.
-pub fn lengths(sizes: Sizes, short: usize, long: usize) -> Lengths {
-    let words = replay::required(sizes.n, sizes.m, sizes.t);
-    replays::lengths_of(sizes, words, short, long)
-}
+impl ReplayCall for ByRoads {
+    fn slow(list: &List, lengths: Lengths, ring: Option<usize>) -> Replayed {
+        replay::reply(list, lengths, ring)
+    }
 
-// The call with tables of these lengths.
-fn call<'a>(
-    sizes: Sizes,
-    lengths: Lengths,
-    a: &'a Entries,
-    b: &'a Entries,
-    start: &'a Entries,
-    x: &'a Entries,
-    y: &'a Entries,
-    answers: &mut [u8],
-    names: &mut [u16],
-    work: &mut [u32],
-) -> ReplayReply {
-    let bytes = counts::least(lengths.answers, answers.len());
-    let entries = counts::least(lengths.names, names.len());
-    let words = counts::least(lengths.work, work.len());
-    call_replay::replay(
-        sizes.n,
-        sizes.m,
-        sizes.t,
-        sizes.p,
-        entries::first(a, lengths.a),
-        entries::first(b, lengths.b),
-        entries::first(start, lengths.start),
-        entries::first(x, lengths.x),
-        entries::first(y, lengths.y),
-        &mut answers[..bytes],
-        &mut names[..entries],
-        &mut work[..words],
-    )
-}
+    fn required(sizes: Sizes) -> usize {
+        replay::required(sizes)
+    }
 
-// Internal: the outcome of the call. Of the work table the required length must be 0 where it is accepted, and all else as before.
-pub fn run(l: &List, lengths: Lengths, work: &mut Work) -> Replayed {
-    let sizes = l.sizes;
-    let words = replay::required(sizes.n, sizes.m, sizes.t);
-    calls::refill(work, words + 8);
-    let mut answers = [7u8; 4104];
-    let mut names = [7u16; 8200];
-    let reply = plain(call(
-        sizes,
-        lengths,
-        &l.a,
-        &l.b,
-        &l.start,
-        &l.x,
-        &l.y,
-        &mut answers,
-        &mut names,
-        work,
-    ));
-    let count = calls::written(reply.code, words);
-    Replayed {
-        reply,
-        answers,
-        names,
-        words_wrong: calls::words_wrong(work, count, counts::plus(words, 8)),
+    fn call(
+        list: &List,
+        lengths: Lengths,
+        answers: &mut [u8],
+        names: &mut [u16],
+        work: &mut [u32],
+    ) -> Reply {
+        let sizes = list.sizes;
+        plain(call_replay::replay(
+            sizes.n,
+            sizes.m,
+            sizes.t,
+            sizes.p,
+            calls::first(&list.segments.from, lengths.a),
+            calls::first(&list.segments.to, lengths.b),
+            calls::first(&list.start, lengths.start),
+            calls::first(&list.x, lengths.x),
+            calls::first(&list.y, lengths.y),
+            calls::first_mut(answers, lengths.answers),
+            calls::first_mut(names, lengths.names),
+            calls::first_mut(work, lengths.work),
+        ))
     }
 }

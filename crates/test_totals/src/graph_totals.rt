@@ -1,173 +1,115 @@
 // Counts of random graphs, and of what is met among them, so that the report shows that the comparison has seen it.
 use std::io;
 use test_library::contractions::{Graph, Small};
-use test_library::entries::Entries;
-use test_library::{counts, entries, print};
+use test_library::counts::Count;
+use test_library::{print, refusals, tables};
 
 // All graphs; those on which the call disagrees; those that are refused by 2, 4 and 8; and those that are accepted, of which there are such with a kept class
 // without an active node; with two pieces or more; with entries that come back to a piece after another; with an active entry twice; with an active node without
 // an edge; and without an active entry. Then the edges out, those that stand for two edges or more, and those with the name 65535.
-#[derive(Clone, Copy)]
+#[derive(Clone, Copy, Default)]
 pub struct Totals {
-    pub graphs: usize,
-    pub disagreements: usize,
-    pub by_two: usize,
-    pub by_four: usize,
-    pub by_eight: usize,
-    pub accepted: usize,
-    pub inner: usize,
-    pub apart: usize,
-    pub returning: usize,
-    pub repeated: usize,
-    pub single: usize,
-    pub silent: usize,
-    pub edges: usize,
-    pub spliced: usize,
-    pub largest: usize,
-}
-
-// Internal: nothing is counted yet.
-pub fn none() -> Totals {
-    Totals {
-        graphs: 0,
-        disagreements: 0,
-        by_two: 0,
-        by_four: 0,
-        by_eight: 0,
-        accepted: 0,
-        inner: 0,
-        apart: 0,
-        returning: 0,
-        repeated: 0,
-        single: 0,
-        silent: 0,
-        edges: 0,
-        spliced: 0,
-        largest: 0,
-    }
+    graphs: Count,
+    disagreements: Count,
+    by_two: Count,
+    by_four: Count,
+    by_eight: Count,
+    accepted: Count,
+    inner: Count,
+    apart: Count,
+    returning: Count,
+    repeated: Count,
+    single: Count,
+    silent: Count,
+    edges: Count,
+    spliced: Count,
+    largest: Count,
 }
 
 // Whether an active entry comes twice.
-fn has_repeated(k: usize, active: &Entries) -> bool {
-    for i in 0..k {
-        if entries::tally(active, k, entries::at(active, i)) > 1 {
-            return true;
-        }
-    }
-    false
+fn has_repeated(g: &Graph) -> bool {
+    let k = g.sizes.k;
+    let active = &g.active;
+    (0..k).any(|i| tables::tally(active, k, tables::at(active, i)) > 1)
 }
 
 // How many ends of edges are at node v.
-fn ends_at(m: usize, from: &Entries, to: &Entries, v: usize) -> usize {
-    counts::plus(entries::tally(from, m, v), entries::tally(to, m, v))
+fn ends_at(g: &Graph, v: usize) -> usize {
+    let m = g.sizes.m;
+    tables::tally(&g.edges.from, m, v).saturating_add(tables::tally(&g.edges.to, m, v))
 }
 
 // Whether an active node has no edge.
-fn has_single<'a>(
-    m: usize,
-    k: usize,
-    from: &'a Entries,
-    to: &'a Entries,
-    active: &'a Entries,
-) -> bool {
-    for i in 0..k {
-        if ends_at(m, from, to, entries::at(active, i)) == 0 {
-            return true;
-        }
-    }
-    false
+fn has_single(g: &Graph) -> bool {
+    (0..g.sizes.k).any(|i| ends_at(g, tables::at(&g.active, i)) == 0)
 }
 
 // Whether the entries come back to a piece after another one: a number is below that before it.
-fn has_return(k: usize, pieces: &Entries) -> bool {
-    for i in 1..k {
-        if entries::at(pieces, i) < entries::at(pieces, i - 1) {
-            return true;
+fn has_return(k: usize, pieces: &[u16]) -> bool {
+    pieces
+        .iter()
+        .zip(pieces.iter().skip(1).take(k.saturating_sub(1)))
+        .any(|(before, number)| number < before)
+}
+
+impl Totals {
+    // Counts an accepted graph by its active entries.
+    fn add_entries(&mut self, g: &Graph) {
+        self.repeated.add_if(has_repeated(g));
+        self.single.add_if(has_single(g));
+        self.silent.add_if(g.sizes.k == 0);
+    }
+
+    // Counts the small graph of k active entries, with so many edges.
+    fn add_small(&mut self, small: &Small, k: usize, edges: usize) {
+        self.accepted.add(1);
+        self.inner.add_if(small.inner > 0);
+        self.apart.add_if(tables::tally(&small.pieces, k, 0) < k);
+        self.returning.add_if(has_return(k, &small.pieces));
+        self.edges.add(edges);
+        self.spliced.add(small.spliced);
+        self.largest.add(tables::tally(&small.names, edges, 65535));
+    }
+
+    // Internal: counts a graph, with the small graph that is wanted.
+    pub fn add(&mut self, g: &Graph, want: &Small, is_right: bool) {
+        self.graphs.add(1);
+        self.disagreements.add_if(!is_right);
+        match want.reply {
+            Ok(counts) => {
+                self.add_small(want, g.sizes.k, counts.edges);
+                self.add_entries(g);
+            }
+            Err(refusal) => {
+                self.by_two.add_if(refusal.code == refusals::SHORT);
+                self.by_four.add_if(refusal.code == refusals::END);
+                self.by_eight.add_if(refusal.code == refusals::ENTRY);
+            }
         }
     }
-    false
-}
 
-// Counts an accepted graph by its active entries.
-fn with_entries(before: Totals, g: &Graph) -> Totals {
-    let mut t = before;
-    let m = g.sizes.m;
-    let k = g.sizes.k;
-    let single = has_single(m, k, &g.from, &g.to, &g.active);
-    t.repeated = counts::counted(t.repeated, has_repeated(k, &g.active));
-    t.single = counts::counted(t.single, single);
-    t.silent = counts::counted(t.silent, k == 0);
-    t
-}
-
-// Counts the small graph of k active entries.
-fn with_small(before: Totals, want: &Small, k: usize) -> Totals {
-    let mut t = before;
-    let edges = want.reply.edges;
-    let first = entries::tally(&want.pieces, k, 0);
-    t.accepted = counts::plus(t.accepted, 1);
-    t.inner = counts::counted(t.inner, want.inner > 0);
-    t.apart = counts::counted(t.apart, first < k);
-    t.returning = counts::counted(t.returning, has_return(k, &want.pieces));
-    t.edges = counts::plus(t.edges, edges);
-    t.spliced = counts::plus(t.spliced, want.spliced);
-    t.largest = counts::plus(t.largest, entries::tally(&want.names, edges, 65535));
-    t
-}
-
-// Internal: counts a graph, with the small graph that is wanted.
-pub fn add(before: Totals, g: &Graph, want: &Small, right: bool) -> Totals {
-    let mut t = before;
-    let code = want.reply.code;
-    t.graphs = counts::plus(t.graphs, 1);
-    t.disagreements = counts::counted(t.disagreements, !right);
-    t.by_two = counts::counted(t.by_two, code == 2);
-    t.by_four = counts::counted(t.by_four, code == 4);
-    t.by_eight = counts::counted(t.by_eight, code == 8);
-    if code > 0 {
-        return t;
+    // Internal: prints the counts.
+    pub fn report(&self, rt: &impl Print) -> io::Result<()> {
+        let rows = [
+            ("random cases", self.graphs),
+            ("disagreements", self.disagreements),
+            ("accepted", self.accepted),
+            ("with a kept class without an active node", self.inner),
+            ("with two pieces or more", self.apart),
+            (
+                "with entries that come back to a piece after another",
+                self.returning,
+            ),
+            ("with an active entry twice", self.repeated),
+            ("with an active node without an edge", self.single),
+            ("without an active entry", self.silent),
+            ("edges out", self.edges),
+            ("for two edges or more", self.spliced),
+            ("with the name 65535", self.largest),
+            ("refused by 2", self.by_two),
+            ("by 4", self.by_four),
+            ("by 8", self.by_eight),
+        ];
+        print::counts(rt, &rows)
     }
-    with_entries(with_small(t, want, g.sizes.k), g)
-}
-
-// Internal: prints the counts.
-pub fn report(rt: &impl Print, t: Totals) -> io::Result<()> {
-    let numbers = [
-        t.graphs,
-        t.disagreements,
-        t.accepted,
-        t.inner,
-        t.apart,
-        t.returning,
-        t.repeated,
-        t.single,
-        t.silent,
-        t.edges,
-        t.spliced,
-        t.largest,
-        t.by_two,
-        t.by_four,
-        t.by_eight,
-    ];
-    print::report(
-        rt,
-        b"\
-random cases: #\n\
-disagreements: #\n\
-accepted: #\n\
-with a kept class without an active node: #\n\
-with two pieces or more: #\n\
-with entries that come back to a piece after another: #\n\
-with an active entry twice: #\n\
-with an active node without an edge: #\n\
-without an active entry: #\n\
-edges out: #\n\
-for two edges or more: #\n\
-with the name 65535: #\n\
-refused by 2: #\n\
-by 4: #\n\
-by 8: #\n\
-",
-        &numbers,
-    )
 }
