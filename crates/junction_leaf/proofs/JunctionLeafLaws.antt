@@ -14,7 +14,7 @@ use Rattle.theory_graph.proofs.TableLaws.{pairs_table, table_equal}
 use Rattle.theory_graph.specs.Graph.{Edge}
 use Rattle.theory_graph.specs.Lists.{pairs}
 use Rattle.theory_graph.specs.SmallGraph.{no_edge}
-use Rattle.theory_junctions.specs.Reply.{adjacent, read_reply}
+use Rattle.theory_junctions.specs.Reply.{adjacent}
 use Rattle.junction_leaf.specs.JunctionLeaf.{byte_at, hits, leaf_graph}
 
 -- ---- the edges of an area
@@ -35,21 +35,11 @@ pub any_adjacent : (G : List Edge) (x y : ℕ) → list_any (λ e. hits e x y) G
 any_adjacent [] x y = refl
 any_adjacent (e ∷ G) x y = ap (λ (b : Bool). hits e x y || b) (any_adjacent G x y)
 
--- ---- the byte, by the tag; and of a query whose nodes are apart and not joined by an edge
-module _ (m : ℕ) (v : List ℕ) where
-  abbrev asked : ℕ
-  asked = read_reply (leaf_graph m v) (get_or v 0 0) (get_or v 1 0)
-
-  pub byte_3 : ¬ (get_or v 2 0 ≡ 0) → ◌≡◌ {A = ℕ} 3 (byte_at m v)
-  byte_3 h = sym (ap (λ (b : Bool). cond b asked 3) (ne_eqb (get_or v 2 0) 0 h))
-
-  pub byte_asked : get_or v 2 0 ≡ 0 → byte_at m v ≡ asked
-  byte_asked z = ap (λ (b : Bool). cond b asked 3) (eq-eqb (get_or v 2 0) 0 z)
-
+-- ---- the byte of a query whose nodes are apart and not joined by an edge
 leaf_none : (m : ℕ) (v : List ℕ) → no_edge (leaf_graph m v) ≡ eqb m 0
 leaf_none zero v = refl
 leaf_none (suc m) v = sym (ne_eqb (suc m) 0 (λ z. omega arith))
 
 pub byte_apart : (m : ℕ) (v : List ℕ) → get_or v 2 0 ≡ 0 → ¬ (get_or v 0 0 ≡ get_or v 1 0) → adjacent (leaf_graph m v) (get_or v 0 0) (get_or v 1 0) ≡ false
     → byte_at m v ≡ cond (eqb m 0) 0 1
-byte_apart m v z n h = byte_asked m v z ∙ rw (ne_eqb (get_or v 0 0) (get_or v 1 0) n, h, leaf_none m v) refl
+byte_apart m v z n h = rw (eq-eqb (get_or v 2 0) 0 z, ne_eqb (get_or v 0 0) (get_or v 1 0) n, h, leaf_none m v) refl
