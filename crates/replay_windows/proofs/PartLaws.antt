@@ -56,7 +56,7 @@ module _ {A B : Timeline → Window → List ℕ → Type 0} {words edges window
 
     -- ---- a step and a part
     module _ {lo c : ℕ} {y z : List ℕ} {k : Window} (t : SteppedOf A B (words_of words) w lo c y z k) (f : take full y ≡ take full v) (e : length z ≡ length v) (h : 11 * c ≤ 10 * n) where
-      part_area : (g : Timeline) → Sound g → w.at + n ≤ size g → B g w (take full v) → B g k (take (words * k.events) (lent_on z))
+      pub part_area : (g : Timeline) → Sound g → w.at + n ≤ size g → B g w (take full v) → B g k (take (words * k.events) (lent_on z))
       part_area g sound i a =
           let x : full + words * k.events ≤ length z = omega (arith, r.enough, o.fits c n h, o.fits 0 c (omega arith), ap (words_of words) t.events, e) in
           let u : take (words * c) (drop full z) ≡ take (words * k.events) (take (length z - full) (drop full z)) =
@@ -98,17 +98,17 @@ module _ {A B : Timeline → Window → List ℕ → Type 0} {words edges window
           abbrev w₂ : List ℕ
           w₂ = put_mid q (length w₁ - q) w₁ zs
 
-          kept : take full w₂ ≡ take full v
-          kept = rw at (take_put full (length w₁ - full) w₁ zs (omega (arith, area_fits, l₁))) ∙ s.front
+          pub area_kept : take full w₂ ≡ take full v
+          area_kept = rw at (take_put full (length w₁ - full) w₁ zs (omega (arith, area_fits, l₁))) ∙ s.front
 
           pub second_step : length w₂ ≡ length v → StepReadyBy A words room w (w.at + c) (n - c) w₂
-          second_step l₂ = o.enough w p v r (w.at + c) (n - c) w₂ (omega arith) (omega (arith, parts.less)) (omega (arith, parts.less)) l₂ kept
+          second_step l₂ = o.enough w p v r (w.at + c) (n - c) w₂ (omega arith) (omega (arith, parts.less)) (omega (arith, parts.less)) l₂ area_kept
 
           module _ {w₃ : List ℕ} {d : Window} (t : SteppedOf A B (words_of words) w (w.at + c) (n - c) w₂ w₃ d) (l₃ : length w₃ ≡ length v) where
             pub second_ready : (d.events < n) × WindowReadyOf B (words_of words) (words_of window) d p (lent_on w₃)
             second_ready = (
               omega (arith, t.events, parts.some, two),
-              part_ready t kept l₃ parts.second (omega arith) (omega (arith, parts.less)) (omega (arith, parts.less)),
+              part_ready t area_kept l₃ parts.second (omega arith) (omega (arith, parts.less)) (omega (arith, parts.less)),
             )
 
             pub second_long : d.at + d.events ≤ w.at + n
@@ -124,6 +124,6 @@ module _ {A B : Timeline → Window → List ℕ → Type 0} {words edges window
               same = m.still before mid after i.same j.same;
               replied = λ g sound h z.
                   let u = rw (s.at, s.events) at (i.replied g sound (omega (arith, s.at, s.events, parts.less)) (part_area s refl l₁ parts.first g sound h z)) in
-                  let x = rw (t.at, t.events) at (j.replied g sound (omega (arith, t.at, t.events, parts.less)) (part_area t kept l₃ parts.second g sound h z)) in
+                  let x = rw (t.at, t.events) at (j.replied g sound (omega (arith, t.at, t.events, parts.less)) (part_area t area_kept l₃ parts.second g sound h z)) in
                   m.both g sound p r.share w (take full v) two z c first before mid after b k u x;
             }
