@@ -60,6 +60,7 @@ fn merge_edge(work: &mut [u32], n: usize, m: usize, e: usize)
     if x == y {
         return;
     }
+    // Kept: the word itself and no Option, since it is compared with another as it stands: no plainer.
     let i = core_words::get(work, x, POSITION);
     if i == 0 {
         return;
