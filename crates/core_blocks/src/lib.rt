@@ -1,6 +1,7 @@
 #![tactic(auto)]
 
 ghost use Rattle.std.specs.Prelude.{◌≡◌, ◌+◌, ◌*◌, ◌<◌, ◌≤◌, length};
+ghost use Rattle.core_words.specs.Room.{NodeRoom};
 ghost use Rattle.core_components.specs.Components.{CanMergeComponents};
 ghost use Rattle.core_blocks.specs.Classes.{BlocksMerged, CanMerge, CanMergeClass, CanMergeEdge, CanMergePath, ClassMerged, EdgesMerged, PathMerged};
 ghost use Rattle.core_blocks.specs.Classes.{TopsJoined};
@@ -9,7 +10,7 @@ use core_words::*;
 
 // Of the tops p and q the later goes under the earlier.
 fn join_tops(work: &mut [u32], n: usize, p: usize, q: usize)
-    requires { (n ≤ 65536) × (16 * n ≤ length work.old) × (p < n) × (q < n) }
+    requires { NodeRoom n work.old × (p < n) × (q < n) }
     ensures { TopsJoined p q work.old work.new }
 {
     let i = core_words::get(work, p, POSITION);

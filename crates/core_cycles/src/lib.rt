@@ -3,6 +3,7 @@
 ghost use Rattle.std.specs.Prelude.{◌≡◌, ◌↔◌, ◌+◌, ◌*◌, ◌<◌, ◌≤◌, IsTrue, length};
 ghost use Rattle.core_words.specs.Fields.{TOP, node};
 ghost use Rattle.core_words.specs.Links.{link_word};
+ghost use Rattle.core_words.specs.Room.{NodeRoom};
 ghost use Rattle.core_cycles.specs.BlocksIn.{CanCount, CanCountNode, CountedNode, Counting};
 ghost use Rattle.core_cycles.specs.Numbering.{CanNumber, CanNumberNode, CanReadLast, MemberNumbered, NodeNumbered, NumberSet, Numbering, last_at, shares_at};
 ghost use Rattle.core_cycles.specs.Writing.{CanMap, CanWriteCycles, CanWriteEdge, CanWriteNode, Mapping, Writing, Written, closing_at, edge_if, edges_at};
@@ -71,7 +72,7 @@ struct Numbers {
 
 // Sets what v gets, where t is the first node of its class.
 fn set_number(work: &mut [u32], n: usize, v: usize, t: usize, numbers: Numbers)
-    requires { (n ≤ 65536) × (16 * n ≤ length work.old) × (v < n) × (t < n)
+    requires { NodeRoom n work.old × (v < n) × (t < n)
         × (numbers.number < 4294967296) × (link_word numbers.last < 4294967296) × (link_word numbers.from < 4294967296) }
     ensures { NumberSet n v numbers.number t (link_word numbers.last) (link_word numbers.from) work.old work.new }
 {
