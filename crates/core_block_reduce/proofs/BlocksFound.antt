@@ -14,7 +14,7 @@ use Rattle.theory_graph.specs.Lists.{member, table}
 use Rattle.theory_junctions.proofs.PathMergingLaws.{merged_blocks, paths_all}
 use Rattle.theory_junctions.proofs.ReduceLaws.{relevance}
 use Rattle.theory_junctions.specs.Blocks.{Blocks}
-use Rattle.theory_junctions.specs.PathMerging.{Forest, PathsMerged}
+use Rattle.theory_junctions.specs.PathMerging.{PathsMerged}
 use Rattle.theory_junctions.specs.Reduce.{Search, relevant_to}
 use Rattle.core_forest.proofs.SearchLaws.{seen_less}
 use Rattle.core_forest.specs.Forest.{ForestAt, HasParent, Root, edges_below}
@@ -41,9 +41,6 @@ module _ {n m k seen : ℕ} {w : List ℕ} (g : BetweenTrees n m k w seen k) (f 
 
   abbrev S : List ℕ
   S = table (node ACTIVE w) 0 k
-
-  forest : Forest (edges_below to m)
-  forest = searched_forest n m to pos par te (node ROOT w) f
 
   merged : PathsMerged (edges_below to m) (searched_forest n m to pos par te (node ROOT w) f) (edges_below to m) (firsts_below n w m)
   unfolding searched_forest

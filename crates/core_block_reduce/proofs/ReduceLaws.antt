@@ -36,7 +36,7 @@ use Rattle.core_cycles.proofs.CycleLaws.{active_low, count_own, covers_written, 
 use Rattle.core_cycles.proofs.NumberingLaws.{counting_done}
 use Rattle.core_cycles.specs.BlocksIn.{CanCount, Counting, LAST}
 use Rattle.core_cycles.specs.Numbering.{CanNumber, Numbering, numbered}
-use Rattle.core_cycles.specs.Writing.{CanMap, CanWriteCycles, Mapping, Writing, edges_to}
+use Rattle.core_cycles.specs.Writing.{CanMap, Mapping, Writing, edges_to}
 use Rattle.core_reduce.proofs.ReduceLaws.{act₂, mark₂, plain_in_words}
 use Rattle.core_reduce.specs.Core.{active_in, edges_in, start_fields}
 use Rattle.core_block_reduce.proofs.BlocksFound.{blocks_at}
@@ -82,9 +82,6 @@ module _ {n m k : ℕ} {w₀ w₁ w₂ : List ℕ} (r : CanReduce n m k w₀) (c
     module _ {h : ℕ} {w₆ : List ℕ} (u : Numbering n m k seen seen h w₅ w₆) where
       length₆ : length w₆ ≡ length w₀
       length₆ = u.rest.same ∙ d.rest.same ∙ length₄
-
-      pub write_can : CanWriteCycles n m k seen h w₆
-      write_can = record { few = r.loaded.few; much = r.loaded.much; room = omega (arith, r.room, length₆); numbers = u.numbers }
 
       -- from the beginning to here
       ends_same : half n TO w₆ ≡ half n TO w₀

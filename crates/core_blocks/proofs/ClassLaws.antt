@@ -14,7 +14,7 @@ use Rattle.theory_junctions.specs.PathMerging.{unite}
 use Rattle.core_words.proofs.ChangeLaws.{only_then, only_then_put}
 use Rattle.core_words.proofs.FieldLaws.{update_at, update_other}
 use Rattle.core_words.specs.Fields.{PARENT, POSITION, TOP, node, update}
-use Rattle.core_components.specs.Tops.{CanFind, FindPath, Found, OnlyTops}
+use Rattle.core_components.specs.Tops.{FindPath, Found, OnlyTops}
 use Rattle.core_blocks.specs.Classes.{CanMergeClass, ClassMerged, Leads, TopsJoined}
 
 -- ---- find
@@ -101,12 +101,6 @@ module _ (n : ℕ) (pos t first : ℕ → ℕ) (h : Leads n pos t first) (p q : 
         turn (inr i) = inl i
 
 -- ---- the classes of s and a made one, at the words
-pub second_can : {n p s a : ℕ} {w w₁ : List ℕ} → CanMergeClass n w s a → Found n w s p w₁ → CanFind n w₁ a
-second_can {w = w} {w₁} r f = record {
-  fit = r.fit';
-  room = omega (arith, r.room, f.rest.same);
-  tops = rw (f.rest.nodes POSITION (omega arith) refl) f.path.tops;
-}
 
 pub class_merged : {n p q r s a : ℕ} {w w₁ w₂ w₃ : List ℕ} → CanMergeClass n w s a → Found n w s p w₁ → Found n w₁ a q w₂ → TopsJoined p q w₂ w₃ → r ≡ node PARENT w₃ q → ClassMerged n w s a w₃ r
 class_merged {n} {p} {q} {r} {s} {a} {w} {w₁} {w₂} {w₃} c f g j e = record {

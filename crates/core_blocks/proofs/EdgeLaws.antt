@@ -11,11 +11,11 @@ use Rattle.theory_graph.proofs.Booleans.{and_elim, on_bool}
 use Rattle.theory_junctions.proofs.PathMergingLaws.{paths_all}
 use Rattle.theory_junctions.specs.PathMerging.{Partition, first_after, merge_on, merge_path, pick}
 use Rattle.core_words.proofs.ChangeLaws.{only_none, only_then}
-use Rattle.core_words.specs.Fields.{EDGE, ORDER, PARENT, POSITION, ROOT, TO, TOP, half, node}
+use Rattle.core_words.specs.Fields.{EDGE, PARENT, POSITION, ROOT, TO, TOP, half, node}
 use Rattle.core_forest.specs.Forest.{Forest, HasParent, edges_below}
 use Rattle.core_components.proofs.MergeLaws.{forest_still}
 use Rattle.core_components.specs.Components.{CanMergeComponents}
-use Rattle.core_components.specs.Tops.{CanCompress, CanFind, Compressed, Found, OnlyTops, OwnTops}
+use Rattle.core_components.specs.Tops.{Compressed, Found, OnlyTops, OwnTops}
 use Rattle.core_blocks.proofs.ClassLaws.{found_first}
 use Rattle.core_blocks.proofs.PathLaws.{child_parent, later_child}
 use Rattle.core_blocks.proofs.SearchedForest.{below_edge, edge_below, on_seen, searched_forest, seen_is}
@@ -118,9 +118,6 @@ module _ {n m e : ℕ} {w : List ℕ} (c : CanMergeEdge n m e w) where
 
   pub y_fits : to (2 * e + 1) < n
   y_fits = fits (2 * e + 1) (omega (arith, c.less))
-
-  pub find_can : (v : ℕ) → v < n → CanFind n w v
-  find_can v l = record { fit = l; room = omega (arith, c.room); tops = c.leads.tops }
 
   -- one more than e, as it is counted
   same_count : suc e ≡ e + 1
@@ -251,12 +248,6 @@ module _ {n m e : ℕ} {w : List ℕ} (c : CanMergeEdge n m e w) where
 
 -- the same with the ends and their positions as they are read
 module _ {n m e x y : ℕ} {w : List ℕ} (c : CanMergeEdge n m e w) (ex : x ≡ half n TO w (2 * e)) (ey : y ≡ half n TO w (2 * e + 1)) where
-  pub fit_x : x < n
-  fit_x = rw ex (x_fits c)
-
-  pub fit_y : y < n
-  fit_y = rw ey (y_fits c)
-
   module _ {i j : ℕ} (ne : ¬ (x ≡ y)) (ei : i ≡ node POSITION w x) (ni : ¬ (i ≡ 0)) (ej : j ≡ node POSITION w y) where
     differ : ¬ (half n TO w (2 * e) ≡ half n TO w (2 * e + 1))
     differ q = ne (ex ∙ q ∙ sym ey)
@@ -303,46 +294,14 @@ firsts_still {n} {w} {w'} o i =
     ∙ ap (λ (g : ℕ → ℕ). first_after (seen_by n (node POSITION w)) g (node POSITION w) (edges_below (half n TO w') i)) (o.nodes PARENT (omega arith) refl)
     ∙ ap (λ (g : ℕ → ℕ). first_after (seen_by n (node POSITION w)) (node PARENT w) (node POSITION w) (edges_below g i)) (o.halves TO)
 
-pub edges_can : {n m e : ℕ} {w₀ w : List ℕ} → CanMerge n m w₀ → EdgesMerged n w₀ e w → e < m → CanMergeEdge n m e w
-edges_can {n} {m} {e} {w₀} {w} c p l = record {
-  few = c.few;
-  less = l;
-  room = omega (arith, c.room, p.rest.same);
-  forest = forest_still p.rest c.forest;
-  leads = subst (λ (f : ℕ → ℕ). Leads n (node POSITION w) (node TOP w) f) (sym (firsts_still p.rest e)) (rw (p.rest.nodes POSITION (omega arith) refl) p.leads);
-}
-
-pub edges_more : {n e : ℕ} {w₀ w w' : List ℕ} → EdgesMerged n w₀ e w → EdgesMerged n w (e + 1) w' → EdgesMerged n w₀ (e + 1) w'
-edges_more {n} {e} {w₀} {w} {w'} p q = record {
-  rest = only_then p.rest q.rest;
-  leads = subst (λ (g : ℕ → ℕ). Leads n g (node TOP w') (firsts_below n w₀ (e + 1))) (p.rest.nodes POSITION (omega arith) refl)
-      (subst (λ (f : ℕ → ℕ). Leads n (node POSITION w) (node TOP w') f) (firsts_still p.rest (e + 1)) q.leads);
-}
-
 -- ---- the whole
 module _ {n m seen : ℕ} {w w₁ : List ℕ} (c : CanMergeComponents n m seen w) (o : OwnTops n n w w₁) where
-  pub can_merge : CanMerge n m w₁
-  can_merge = record { few = c.few; room = omega (arith, c.room, o.rest.same); forest = forest_still o.rest c.forest; self = o.self }
-
   module _ {w₂ : List ℕ} (p : EdgesMerged n w₁ m w₂) where
     every : OnlyTops n w w₂
     every = only_then o.rest p.rest
 
-    ord₂ : node ORDER w₂ ≡ node ORDER w
-    ord₂ = every.nodes ORDER (omega arith) refl
-
     pos₂ : node POSITION w₂ ≡ node POSITION w
     pos₂ = every.nodes POSITION (omega arith) refl
-
-    pub can_compress : CanCompress n seen w₂
-    can_compress = record {
-      few = c.few;
-      room = omega (arith, c.room, every.same);
-      less = c.less;
-      tops = rw (p.rest.nodes POSITION (omega arith) refl) p.leads.tops;
-      place = rw (ord₂, pos₂) c.place;
-      place_of = rw (ord₂, pos₂) c.place_of;
-    }
 
     pub blocks_merged : {w₃ : List ℕ} → Compressed n seen w₂ w₃ → BlocksMerged n m w w₃
     blocks_merged {w₃} k = record { rest = only_then every k.rest; firsts = λ u l. first_is u l ∙ ap (λ f. f u) (firsts_still o.rest m) }

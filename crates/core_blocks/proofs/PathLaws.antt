@@ -9,7 +9,7 @@ use native.Mathlib.Omega.{arith}
 use borrow.Author.Tests.{eq-eqb, le-ltb, lt-ltb, ne_eqb}
 use Rattle.theory_junctions.proofs.PathMergingLaws.{Within, name, name_is, name_pos, on_within}
 use Rattle.theory_junctions.specs.PathMerging.{merge_on, pick, unite}
-use Rattle.core_words.proofs.ChangeLaws.{only_none, only_then}
+use Rattle.core_words.proofs.ChangeLaws.{only_then}
 use Rattle.core_words.specs.Fields.{EDGE, PARENT, POSITION, ROOT, TO, TOP, half, node}
 use Rattle.core_forest.specs.Forest.{Forest, HasParent, Root}
 use Rattle.core_components.specs.Tops.{OnlyTops}
@@ -119,14 +119,6 @@ pub record PathLoop (n : ℕ) (w₀ : List ℕ) (s a₀ b₀ a b : ℕ) (w : Lis
   pub right : InTreeOf n w₀ s b
   pub go : (first : ℕ → ℕ) → Leads n (node POSITION w₀) (node TOP w₀) first → InTreesAt n w₀ first → (f : ℕ) → node POSITION w₀ a₀ + node POSITION w₀ b₀ < f
       → Left n w₀ s a₀ b₀ first f a b (node TOP w)
-
-pub loop_none : {n m s a b : ℕ} {w : List ℕ} → CanMergePath n m w s a b → PathLoop n w s a b a b w
-loop_none {n} {w = w} r = record {
-  rest = only_none n w;
-  left = r.left;
-  right = r.right;
-  go = λ first h i f l. record { after = first; fuel = f; leads = h; trees = i; enough = l; same = refl };
-}
 
 pub loop_done : {n m s a₀ b₀ a b : ℕ} {w₀ w : List ℕ} → CanMergePath n m w₀ s a₀ b₀ → PathLoop n w₀ s a₀ b₀ a b w → a ≡ b → PathMerged n w₀ s a₀ b₀ w
 loop_done {n} {m} {s} {a₀} {b₀} {a} {b} {w₀} {w} r p e = record {

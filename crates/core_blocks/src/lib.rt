@@ -1,6 +1,7 @@
 #![tactic(auto)]
 
 ghost use Rattle.std.specs.Prelude.{◌≡◌, ◌+◌, ◌*◌, ◌<◌, ◌≤◌, length};
+ghost use Rattle.core_words.specs.Room.{NodeRoom};
 ghost use Rattle.core_components.specs.Components.{CanMergeComponents};
 ghost use Rattle.core_blocks.specs.Classes.{BlocksMerged, CanMerge, CanMergeClass, CanMergeEdge, CanMergePath, ClassMerged, EdgesMerged, PathMerged};
 ghost use Rattle.core_blocks.specs.Classes.{TopsJoined};
@@ -9,7 +10,7 @@ use core_words::*;
 
 // Of the tops p and q the later goes under the earlier.
 fn join_tops(work: &mut [u32], n: usize, p: usize, q: usize)
-    requires { (n ≤ 65536) × (16 * n ≤ length work.old) × (p < n) × (q < n) }
+    requires { NodeRoom n work.old × (p < n) × (q < n) }
     ensures { TopsJoined p q work.old work.new }
 {
     let i = core_words::get(work, p, POSITION);
@@ -60,6 +61,7 @@ fn merge_edge(work: &mut [u32], n: usize, m: usize, e: usize)
     if x == y {
         return;
     }
+    // Kept: the word itself and no Option, since it is compared with another as it stands: no plainer.
     let i = core_words::get(work, x, POSITION);
     if i == 0 {
         return;

@@ -12,7 +12,7 @@ use Rattle.core_branches.proofs.SmallForestOf.{root_place, small_canonical, smal
 use Rattle.core_branches.proofs.WayLaws.{ParentNumbers, nearest, nearest_numbers, parent_numbers}
 use Rattle.core_branches.specs.BranchCounts.{Branches, CanCount, Counting, TreeOrderAt}
 use Rattle.core_branches.specs.Classes.{CanNumberClasses, ClassNumbers, class_fields}
-use Rattle.core_branches.specs.Numbers.{CanNumberOthers, NumberingActives, NumberingOthers, OtherNumbers}
+use Rattle.core_branches.specs.Numbers.{NumberingActives, NumberingOthers, OtherNumbers}
 use Rattle.core_branches.specs.Ways.{CanSetParents, ParentLoop, ParentWays, WayTree}
 use Rattle.core_forest.proofs.Counting.{count_le}
 use Rattle.core_forest.proofs.SearchLaws.{seen_less}
@@ -81,14 +81,6 @@ module _ {n m k seen : ℕ} {w₀ : List ℕ} (s : CanNumberClasses n m k seen w
 
       e11 : node MEMBER w₂ ≡ node MEMBER w₁
       e11 = b.rest.nodes MEMBER (omega arith) refl
-
-      pub can_number_others : CanNumberOthers n g w₂
-      can_number_others = record {
-        few = few;
-        room = rw rest₂.same room;
-        numbers = rw (e6, e10, e11) a.actives.numbers;
-        top_fit = rw e6 s.final.tops.fit;
-      }
 
       module _ {h : ℕ} {w₃ : List ℕ} (r : NumberingOthers n g w₂ n h w₃) where
         rest₃ : OnlyFields class_fields n w₀ w₃

@@ -124,9 +124,6 @@ module _ {n m v : ℕ} {w : List ℕ} (g : CanGoUp n m w v) where
       over_q : ClassAbove n (node POSITION w) (node PARENT w) (node TOP w) q
       over_q = g.tree.above q s.fit s.seen no_root
 
-      pub going_less : node POSITION w p < node POSITION w q
-      going_less = rw t.top over_q.earlier
-
       pub going_more : {e : ℕ} → e ≡ min c d → GoingUp n v w p y e
       going_more small = record {
         fit = rw t.top over_q.fit;

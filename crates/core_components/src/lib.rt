@@ -4,6 +4,7 @@
 
 ghost use Rattle.std.specs.Prelude.{◌≡◌, ◌+◌, ◌*◌, ◌<◌, ◌≤◌, length};
 ghost use Rattle.core_words.specs.Fields.{ROOT, TOP, Put, node};
+ghost use Rattle.core_words.specs.Room.{NodeRoom};
 ghost use Rattle.core_components.specs.Tops.{CanFind, Found, CanMergeUp, MergedUpAt, CanMergePath, SeenTop, SameTree, MergedPath};
 ghost use Rattle.core_components.specs.Tops.{OwnTops, CanCompress, Compressed};
 ghost use Rattle.core_components.specs.Merging.{CanMergeEdge, EdgeMerged, CanMerge, EdgesMerged};
@@ -100,7 +101,7 @@ fn merge_edges(work: &mut [u32], n: usize, m: usize)
 
 // Internal: each of the n nodes is its own top.
 pub fn start_tops(work: &mut [u32], n: usize)
-    requires { (16 * n ≤ length work.old) × (n ≤ 65536) }
+    requires { NodeRoom n work.old }
     ensures { OwnTops n n work.old work.new }
 {
     // The nodes below v are their own tops.

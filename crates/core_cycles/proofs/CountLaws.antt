@@ -17,10 +17,10 @@ use Rattle.theory_junctions.proofs.BackwardCounts.{relevant_counted, start_none,
 use Rattle.theory_junctions.specs.Blocks.{Blocks, top_of}
 use Rattle.theory_junctions.specs.Classes.{tick}
 use Rattle.theory_junctions.specs.Reduce.{Rising, classes_among, members_in, none}
-use Rattle.core_words.proofs.ChangeLaws.{only_none, only_put, only_then, only_then_put}
+use Rattle.core_words.proofs.ChangeLaws.{only_none, only_then}
 use Rattle.core_words.proofs.FieldLaws.{update_at}
 use Rattle.core_words.specs.Changes.{OnlyFields}
-use Rattle.core_words.specs.Fields.{ACTIVE, EDGE, MARK, ORDER, PARENT, TO, TOP, Put, half, node, update}
+use Rattle.core_words.specs.Fields.{ACTIVE, EDGE, MARK, ORDER, PARENT, TO, TOP, half, node, update}
 use Rattle.core_forest.specs.Forest.{edges_below}
 use Rattle.core_cycles.proofs.OrderLaws.{count_few, filter_few, rising_after, table_cut, table_from}
 use Rattle.core_cycles.specs.BlocksIn.{BELOW, BlocksBy, CanCount, CanCountNode, CountedNode, Counting, CountsBy, MEMBERS, count_fields}
@@ -243,51 +243,5 @@ pub counting_down : {n m k seen i : ℕ} {a w : List ℕ} → 0 < i → Counting
 counting_down {n} {m} {k} {seen} {i} {a} {w} l p = let e : i ≡ i - 1 + 1 = omega arith in subst (λ (j : ℕ). Counting n m k seen j a w) e p
 
 -- ---- one node's step
-pub counted_first : {n v t r p x : ℕ} {a b c : List ℕ} → CanCountNode n a v → ¬ (node EDGE a v ≡ 0) → ¬ (node MARK a v + node BELOW a v ≡ 0) → t ≡ node TOP a v → r ≡ node MEMBERS a t → r ≡ 0
-    → Put MEMBERS t (r + 1) a b → p ≡ node PARENT b t → x ≡ node BELOW b p → Put BELOW p (x + 1) b c → CountedNode n v a c
-counted_first {n} {v} {t} {r} {p} {x} {a} {b} {c} h ne nz et er z q ep ex s = inr (record {
-  is = refl;
-  child = ne;
-  relevant = nz;
-  rest = only_then_put refl (rw pe (h.parent_fit ne)) (only_put refl (rw et (h.top_fit ne)) q) s;
-  members = s.else MEMBERS (omega arith) (λ e. omega arith) ∙ q.here ∙ ap₂ (update (node MEMBERS a)) et (ap (λ y. y + 1) (er ∙ ap (node MEMBERS a) et));
-  below = inl (
-    sym (er ∙ ap (node MEMBERS a) et) ∙ z,
-    s.here ∙ ap (λ f. update f p (x + 1)) below_is ∙ ap₂ (update (node BELOW a)) pe (ap (λ y. y + 1) (ex ∙ ap (λ f. f p) below_is ∙ ap (node BELOW a) pe)),
-  );
-})
-  where
-    below_is : node BELOW b ≡ node BELOW a
-    below_is = q.else BELOW (omega arith) (λ e. omega arith)
-
-    pe : p ≡ node PARENT a (node TOP a v)
-    pe = ep ∙ ap (λ f. f t) (q.else PARENT (omega arith) (λ e. omega arith)) ∙ ap (node PARENT a) et
-
-pub counted_other : {n v t r : ℕ} {a b : List ℕ} → CanCountNode n a v → ¬ (node EDGE a v ≡ 0) → ¬ (node MARK a v + node BELOW a v ≡ 0) → t ≡ node TOP a v → r ≡ node MEMBERS a t → ¬ (r ≡ 0)
-    → Put MEMBERS t (r + 1) a b → CountedNode n v a b
-counted_other {n} {v} {t} {r} {a} {b} h ne nz et er z q = inr (record {
-  is = refl;
-  child = ne;
-  relevant = nz;
-  rest = only_put refl (rw et (h.top_fit ne)) q;
-  members = q.here ∙ ap₂ (update (node MEMBERS a)) et (ap (λ y. y + 1) (er ∙ ap (node MEMBERS a) et));
-  below = inr (λ e. z (er ∙ ap (node MEMBERS a) et ∙ e), q.else BELOW (omega arith) (λ e. omega arith));
-})
 
 -- what is read on the way is in range
-module _ {n v t : ℕ} {a : List ℕ} (h : CanCountNode n a v) (ne : ¬ (node EDGE a v ≡ 0)) (et : t ≡ node TOP a v) where
-  pub top_at : t < n
-  top_at = rw et (h.top_fit ne)
-
-  pub members_at : {r : ℕ} → r ≡ node MEMBERS a t → r ≤ 65536
-  members_at e = rw (e, et) (h.members_few ne)
-
-  module _ {x p : ℕ} {b : List ℕ} (q : Put MEMBERS t x a b) (ep : p ≡ node PARENT b t) where
-    p_is : p ≡ node PARENT a (node TOP a v)
-    p_is = ep ∙ ap (λ f. f t) (q.else PARENT (omega arith) (λ e. omega arith)) ∙ ap (node PARENT a) et
-
-    pub parent_at : p < n
-    parent_at = rw p_is (h.parent_fit ne)
-
-    pub below_at : {y : ℕ} → y ≡ node BELOW b p → y ≤ 65536
-    below_at {y} ey = let e : y ≡ node BELOW a (node PARENT a (node TOP a v)) = ey ∙ ap (λ f. f p) (q.else BELOW (omega arith) (λ e. omega arith)) ∙ ap (node BELOW a) p_is in rw e (h.below_few ne)

@@ -19,14 +19,14 @@ use Rattle.theory_graph.specs.Lists.{Distinct, filter, member, table}
 use Rattle.theory_graph.specs.SmallGraph.{image}
 use Rattle.theory_junctions.proofs.Colours.{edge_append, edge_image, image_edge}
 use Rattle.theory_junctions.proofs.ForwardEdges.{Closing, Forward, edge_closing, edge_forward, written_edge}
-use Rattle.theory_junctions.proofs.ReduceLaws.{class_from, class_list, listed_class, members_are, names_are, rising_distinct, shared_list}
-use Rattle.theory_junctions.proofs.Reduced.{member_own, own_member, reduced_active}
+use Rattle.theory_junctions.proofs.ReduceLaws.{class_from, listed_class, members_are, names_are, rising_distinct}
+use Rattle.theory_junctions.proofs.Reduced.{member_own, own_member}
 use Rattle.theory_junctions.proofs.SameColourings.{Covers}
 use Rattle.theory_junctions.proofs.Written.{written_count}
 use Rattle.theory_junctions.proofs.Size.{filter_count}
 use Rattle.theory_junctions.specs.Blocks.{Blocks, closing, last_of, top_of}
 use Rattle.theory_junctions.specs.Classes.{Class, closed_cycles, count, own_members, shares, tick}
-use Rattle.theory_junctions.specs.Reduce.{Numbers, classes_from, classes_in, members_in, names_in, none, roots_in, shared_in, shares_top, small_junctions, written_edges}
+use Rattle.theory_junctions.specs.Reduce.{Numbers, classes_from, classes_in, members_in, names_in, none, roots_in, shares_top, small_junctions, written_edges}
 use Rattle.core_forest.specs.Forest.{edges_below}
 use Rattle.core_cycles.proofs.NumberLaws.{shared_source, source, source_relevant}
 use Rattle.core_cycles.proofs.OrderLaws.{and_off, count_append, table_cut}
@@ -409,8 +409,6 @@ module _ {n m k seen h : ℕ} {to act ord te par top mark members below number l
       )
 
   -- ---- the active nodes
-  pub active_node : (v : ℕ) → K v ≡ true → node_of (number v) ≡ v
-  active_node v a = small_node v (reduced_active E B K (roots_in B order) cs (class_list E B K rel order b.search b.relevance) (shared_in B K rel order) (shared_list E B K rel order b.search b.relevance) v a)
 
   pub active_low : (v : ℕ) → K v ≡ true → number v < h
   active_low v a = number_low p v (b.relevance.active v a)

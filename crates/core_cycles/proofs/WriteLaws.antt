@@ -7,7 +7,7 @@ use mathlib.Core.Path.{◌∙◌, ◌≡◌, ap, ap₂, refl, subst, sym}
 use lib.Dec.{eqb, ltb}
 use lib.ListN.{length, length-append}
 use native.Mathlib.Omega.{arith}
-use borrow.Author.Tests.{eq-eqb, eqb-false, eqb-true, le-ltb, lt-ltb, ltb-false, ne_eqb}
+use borrow.Author.Tests.{eq-eqb, eqb-false, eqb-true, lt-ltb, ltb-false, ne_eqb}
 use Rattle.theory_graph.proofs.Booleans.{and_elim, on_bool}
 use Rattle.theory_graph.proofs.Lists.{table_length, table_mem}
 use Rattle.theory_graph.proofs.TableLaws.{table_equal, table_more}
@@ -15,13 +15,13 @@ use Rattle.theory_graph.specs.Graph.{Edge, NodeSet}
 use Rattle.theory_graph.specs.Lists.{member, table}
 use Rattle.theory_junctions.specs.Blocks.{Blocks, last_of}
 use Rattle.theory_junctions.specs.Reduce.{members_in, shares_top}
-use Rattle.core_words.proofs.ChangeLaws.{only_none, only_then_put}
+use Rattle.core_words.proofs.ChangeLaws.{only_then_put}
 use Rattle.core_words.proofs.FieldLaws.{update_at, update_other, update_same}
 use Rattle.core_words.specs.Fields.{ACTIVE, EDGE, MAPPED, NUMBER, ORDER, PARENT, TO, TOP, Put, PutHalf, half, node}
 use Rattle.core_forest.specs.Forest.{edges_below}
 use Rattle.core_loading.proofs.LoadingLaws.{halves_kept}
 use Rattle.core_cycles.proofs.NumberLaws.{member_place, relevant_seen, source, source_relevant}
-use Rattle.core_cycles.proofs.OrderLaws.{append-nil, count_few, last_in}
+use Rattle.core_cycles.proofs.OrderLaws.{count_few, last_in}
 use Rattle.core_cycles.specs.BlocksIn.{BlocksBy, FROM, LAST, MEMBERS}
 use Rattle.core_cycles.specs.Numbering.{NumbersBy, last_code, numbered}
 use Rattle.core_cycles.specs.Writing.{CanMap, CanWriteCycles, CanWriteEdge, CanWriteNode, Mapping, Writing, Written, closing_at, closing_by, edge_if, edges_at, edges_behind, edges_to}
@@ -36,15 +36,6 @@ if_one a b z = ap (λ t. cond t [] ((a - 1, b) ∷ [])) (ne_eqb a 0 z)
 if_few : (a b : ℕ) → length (edge_if a b) ≤ 1
 if_few a b = on_bool (eqb a 0) (λ e. let q = ap (λ (l : List Edge). length l) (if_none a b (eqb-true a 0 e)) in omega (arith, q))
     (λ e. let q = ap (λ (l : List Edge). length l) (if_one a b (eqb-false a 0 e)) in omega (arith, q))
-
-pub written_none : {n m e a b : ℕ} {w : List ℕ} → CanWriteEdge n m e a b w → a ≡ 0 → Written n m e (edge_if a b) w w e
-written_none {n} {m} {e} {a} {b} {w} h z = record {
-  same = refl;
-  nodes = λ j i v l. refl;
-  past = λ i l. refl;
-  count = let q = ap (λ (l : List Edge). length l) (if_none a b z) in omega (arith, q);
-  edges = sym (append-nil (edges_behind n m e w)) ∙ ap (λ (l : List Edge). edges_behind n m e w ++ l) (sym (if_none a b z));
-}
 
 pub written_one : {n m e a b : ℕ} {w w₁ w₂ : List ℕ} → CanWriteEdge n m e a b w → ¬ (a ≡ 0) → PutHalf n TO (2 * (m + e)) (a - 1) w w₁ → PutHalf n TO (2 * (m + e) + 1) b w₁ w₂
     → Written n m e (edge_if a b) w w₂ (e + 1)
@@ -77,65 +68,14 @@ written_one {n} {m} {e} {a} {b} {w} {w₁} {w₂} h z p q = record {
 
 -- ---- the closing edge of a class
 module _ (w : List ℕ) (v : ℕ) where
-  inner : ℕ
-  inner = cond (eqb (node TOP w v) v) (cond (ltb (node MEMBERS w v) 2) 0 (node LAST w v)) 0
-
-  pub closing_root : {e : ℕ} → e ≡ node EDGE w v → e ≡ 0 → 0 ≡ closing_at w v
-  closing_root i z = sym (ap (λ b. cond b 0 (cond (eqb (node TOP w v) v) (cond (ltb (node MEMBERS w v) 2) 0 (node LAST w v)) 0)) (eq-eqb (node EDGE w v) 0 (sym i ∙ z)))
-
   has_parent : {e : ℕ} → e ≡ node EDGE w v → ¬ (e ≡ 0) → closing_at w v ≡ cond (eqb (node TOP w v) v) (cond (ltb (node MEMBERS w v) 2) 0 (node LAST w v)) 0
   has_parent i z = ap (λ b. cond b 0 (cond (eqb (node TOP w v) v) (cond (ltb (node MEMBERS w v) 2) 0 (node LAST w v)) 0)) (ne_eqb (node EDGE w v) 0 (λ q. z (i ∙ q)))
-
-  pub closing_later : {e t : ℕ} → e ≡ node EDGE w v → ¬ (e ≡ 0) → t ≡ node TOP w v → ¬ (t ≡ v) → 0 ≡ closing_at w v
-  closing_later i z j ne = sym (has_parent i z ∙ ap (λ b. cond b (cond (ltb (node MEMBERS w v) 2) 0 (node LAST w v)) 0) (ne_eqb (node TOP w v) v (λ q. ne (j ∙ q))))
 
   is_first : {e t : ℕ} → e ≡ node EDGE w v → ¬ (e ≡ 0) → t ≡ node TOP w v → t ≡ v → closing_at w v ≡ cond (ltb (node MEMBERS w v) 2) 0 (node LAST w v)
   is_first i z j q = has_parent i z ∙ ap (λ b. cond b (cond (ltb (node MEMBERS w v) 2) 0 (node LAST w v)) 0) (eq-eqb (node TOP w v) v (sym j ∙ q))
 
   pub closing_few : {e t r : ℕ} → e ≡ node EDGE w v → ¬ (e ≡ 0) → t ≡ node TOP w v → t ≡ v → r ≡ node MEMBERS w v → r < 2 → 0 ≡ closing_at w v
   closing_few i z j q k l = sym (is_first i z j q ∙ ap (λ b. cond b 0 (node LAST w v)) (lt-ltb (node MEMBERS w v) 2 (omega (arith, k, l))))
-
-  pub closing_many : {e t r x : ℕ} → e ≡ node EDGE w v → ¬ (e ≡ 0) → t ≡ node TOP w v → t ≡ v → r ≡ node MEMBERS w v → 2 ≤ r → x ≡ node LAST w v → x ≡ closing_at w v
-  closing_many i z j q k l y = y ∙ sym (is_first i z j q ∙ ap (λ b. cond b 0 (node LAST w v)) (le-ltb (node MEMBERS w v) 2 (omega (arith, k, l))))
-
--- ---- the edges of one node
-module _ {n m e v a b : ℕ} {w : List ℕ} (h : CanWriteNode n m e w v) (ea : a ≡ node FROM w v) (eb : b ≡ node NUMBER w v) where
-  pub first_can : CanWriteEdge n m e a b w
-  first_can = record {
-    few = h.few;
-    much = h.much;
-    less = omega (arith, h.less);
-    room = omega (arith, h.room);
-    first = omega (arith, ea, h.from_low);
-    second = λ ne. let q = h.from_number (λ z. ne (ea ∙ z)) in omega (arith, eb, q);
-  }
-
-  module _ {c p d : ℕ} (ec : c ≡ closing_at w v) (ep : p ≡ node PARENT w v) (ed : d ≡ node NUMBER w p) {w₁ : List ℕ} {f : ℕ} (q : Written n m e (edge_if a b) w w₁ f) where
-    pub second_can : CanWriteEdge n m f c d w₁
-    second_can = record {
-      few = h.few;
-      much = h.much;
-      less = omega (arith, h.less, q.count, if_few a b);
-      room = omega (arith, h.room, q.same, q.count, if_few a b);
-      first = omega (arith, ec, h.closing_low);
-      second = λ ne. let z = h.closing_number (λ z. ne (ec ∙ z)) in omega (arith, ed, ap (node NUMBER w) ep, z);
-    }
-
-    pub written_both : {w₂ : List ℕ} {r : ℕ} → Written n m f (edge_if c d) w₁ w₂ r → Written n m e (edges_at w v) w w₂ r
-    written_both {w₂} {r} s = record {
-      same = s.same ∙ q.same;
-      nodes = λ j i u l. s.nodes j i u l ∙ q.nodes j i u l;
-      past = λ i l. s.past i l ∙ q.past i (omega (arith, l, s.count));
-      count = let z = ap (λ (l : List Edge). length l) these in omega (arith, s.count, q.count, length-append (edge_if a b) (edge_if c d), z);
-      edges = s.edges ∙ ap (λ (l : List Edge). l ++ edge_if c d) q.edges ∙ append_three (edges_behind n m e w) (edge_if a b) (edge_if c d) ∙ ap (λ (l : List Edge). edges_behind n m e w ++ l) these;
-    }
-      where
-        these : edge_if a b ++ edge_if c d ≡ edges_at w v
-        these = ap₂ (λ (x y : List Edge). x ++ y) (ap₂ edge_if ea eb) (ap₂ edge_if ec (ed ∙ ap (node NUMBER w) ep))
-
-        append_three : (x y z : List Edge) → (x ++ y) ++ z ≡ x ++ (y ++ z)
-        append_three [] y z = refl
-        append_three (u ∷ x) y z = ap (λ l. u ∷ l) (append_three x y z)
 
 -- ---- what has been numbered, read off
 module _ {n m k seen h : ℕ} {to act ord te par top mark members below number last from : ℕ → ℕ}
@@ -221,9 +161,6 @@ closing_same : {x x' y y' z z' l l' : ℕ} (v : ℕ) → x ≡ x' → y ≡ y' �
 closing_same {x} {x'} {y} {y'} {z} {z'} {l} {l'} v a b c d =
     ap₂ (λ x y. cond (eqb x 0) 0 (cond (eqb y v) (cond (ltb z 2) 0 l) 0)) a b ∙ ap₂ (λ z l. cond (eqb x' 0) 0 (cond (eqb y' v) (cond (ltb z 2) 0 l) 0)) c d
 
-pub writing_none : {n m k seen h : ℕ} {w : List ℕ} → CanWriteCycles n m k seen h w → Writing n m 0 w w 0
-writing_none r = record { same = refl; nodes = λ j i v l. refl; past = λ i l. refl; most = omega arith; edges = refl }
-
 module _ {n m k seen h i e : ℕ} {a w : List ℕ} (r : CanWriteCycles n m k seen h a) (q : Writing n m i a w e) (l : i < seen) where
   i_fit : i < n
   i_fit = omega (arith, l, r.numbers.counted.is.less)
@@ -295,8 +232,6 @@ module _ {n m k seen h i e : ℕ} {a w : List ℕ} (r : CanWriteCycles n m k see
       }
 
 -- ---- the active nodes
-pub mapping_none : {n k : ℕ} {w : List ℕ} → CanMap n k w → Mapping n w 0 w
-mapping_none {n} {w = w} r = record { rest = only_none n w; numbers = λ j l. absurd (omega arith) }
 
 module _ {n k i : ℕ} {a w : List ℕ} (r : CanMap n k a) (q : Mapping n a i w) (l : i < k) where
   pub active_fit : {v : ℕ} → v ≡ node ACTIVE w i → v < n

@@ -1,7 +1,9 @@
 #![tactic(auto)]
 
-ghost use Rattle.std.specs.Prelude.{◌≡◌, ◌+◌, ◌*◌, ◌<◌, ◌≤◌, length};
+ghost use Rattle.std.specs.Prelude.{◌≡◌, ◌↔◌, ◌+◌, ◌*◌, ◌<◌, ◌≤◌, IsTrue, length};
 ghost use Rattle.core_words.specs.Fields.{TOP, node};
+ghost use Rattle.core_words.specs.Links.{link_word};
+ghost use Rattle.core_words.specs.Room.{NodeRoom};
 ghost use Rattle.core_cycles.specs.BlocksIn.{CanCount, CanCountNode, CountedNode, Counting};
 ghost use Rattle.core_cycles.specs.Numbering.{CanNumber, CanNumberNode, CanReadLast, MemberNumbered, NodeNumbered, NumberSet, Numbering, last_at, shares_at};
 ghost use Rattle.core_cycles.specs.Writing.{CanMap, CanWriteCycles, CanWriteEdge, CanWriteNode, Mapping, Writing, Written, closing_at, edge_if, edges_at};
@@ -19,18 +21,23 @@ pub const LAST: usize = 9;
 
 pub const FROM: usize = 11;
 
+// Whether v is relevant: active, or with a class right below it that has relevant nodes.
+fn is_relevant(work: &[u32], n: usize, v: usize) -> bool
+    requires { (16 * n ≤ length work.now) × (v < n) }
+    ensures { IsTrue result ↔ ¬ (node MARK work.now v + node BELOW work.now v ≡ 0) }
+{
+    core_words::link(work, v, MARK).is_some() || core_words::get(work, v, BELOW) != 0
+}
+
 // Where v is relevant and no root, its class has one relevant node more, and with the first of them the class's top has one class more below it.
 fn count_node(work: &mut [u32], n: usize, v: usize)
     requires { CanCountNode n work.old v }
     ensures { CountedNode n v work.old work.new }
 {
-    let e = core_words::get(work, v, EDGE);
-    if e == 0 {
+    if core_words::link(work, v, EDGE).is_none() {
         return;
     }
-    let a = core_words::get(work, v, MARK);
-    let c = core_words::get(work, v, BELOW);
-    if a + c == 0 {
+    if !is_relevant(work, n, v) {
         return;
     }
     let t = core_words::get(work, v, TOP);
@@ -55,28 +62,35 @@ pub fn count_nodes(work: &mut [u32], n: usize, m: usize, k: usize, seen: usize)
     }
 }
 
-// Sets the number of v to x, the last of the class of t to y, and what the edge to v comes from to z.
-fn set_number(work: &mut [u32], n: usize, v: usize, x: usize, t: usize, y: usize, z: usize)
-    requires { (n ≤ 65536) × (16 * n ≤ length work.old) × (v < n) × (t < n) × (x < 4294967296) × (y < 4294967296) × (z < 4294967296) }
-    ensures { NumberSet n v x t y z work.old work.new }
-{
-    core_words::put(work, v, NUMBER, x);
-    core_words::put(work, t, LAST, y);
-    core_words::put(work, v, FROM, z);
+// What a node gets: its number, that of the last node of its class so far, and the number that the edge to it in its cycle comes from, where there is one.
+#[derive(Clone, Copy, Debug, PartialEq, Eq)]
+struct Numbers {
+    number: usize,
+    last: Option<usize>,
+    from: Option<usize>,
 }
 
-// One more than the number that the edge to the next relevant node of the class of t comes from.
+// Sets what v gets, where t is the first node of its class.
+fn set_number(work: &mut [u32], n: usize, v: usize, t: usize, numbers: Numbers)
+    requires { NodeRoom n work.old × (v < n) × (t < n)
+        × (numbers.number < 4294967296) × (link_word numbers.last < 4294967296) × (link_word numbers.from < 4294967296) }
+    ensures { NumberSet n v numbers.number t (link_word numbers.last) (link_word numbers.from) work.old work.new }
+{
+    core_words::put(work, v, NUMBER, numbers.number);
+    core_words::put_link(work, t, LAST, numbers.last);
+    core_words::put_link(work, v, FROM, numbers.from);
+}
+
+// The number that the edge to the next relevant node of the class of t comes from: that of the last so far, else that of the class's top.
 fn last_number(work: &[u32], n: usize, t: usize) -> usize
     requires { CanReadLast n work.now t }
-    ensures { result ≡ last_at work.now t }
+    ensures { result + 1 ≡ last_at work.now t }
 {
-    let l = core_words::get(work, t, LAST);
-    if l != 0 {
-        return l;
+    if let Some(last) = core_words::link(work, t, LAST) {
+        return last;
     }
     let p = core_words::get(work, t, PARENT);
-    let x = core_words::get(work, p, NUMBER);
-    x + 1
+    core_words::get(work, p, NUMBER)
 }
 
 // Whether v, of the class of t, shares the number of its top.
@@ -84,13 +98,11 @@ fn shares_top(work: &[u32], n: usize, v: usize, t: usize) -> bool
     requires { CanReadLast n work.now t × (v < n) }
     ensures { result ≡ shares_at work.now v t }
 {
-    let a = core_words::get(work, v, MARK);
-    if a != 0 {
+    if core_words::link(work, v, MARK).is_some() {
         return false;
     }
     let p = core_words::get(work, t, PARENT);
-    let b = core_words::get(work, p, MARK);
-    if b != 0 {
+    if core_words::link(work, p, MARK).is_some() {
         return false;
     }
     let c = core_words::get(work, v, BELOW);
@@ -107,13 +119,22 @@ fn number_member(work: &mut [u32], n: usize, h: usize, v: usize) -> usize
     ensures { MemberNumbered n h v work.old work.new result }
 {
     let t = core_words::get(work, v, TOP);
-    let l = last_number(work, n, t);
-    let s = shares_top(work, n, v, t);
-    if s {
-        set_number(work, n, v, l - 1, t, l, 0);
+    let last = last_number(work, n, t);
+    if shares_top(work, n, v, t) {
+        let numbers = Numbers {
+            number: last,
+            last: Some(last),
+            from: None,
+        };
+        set_number(work, n, v, t, numbers);
         return h;
     }
-    set_number(work, n, v, h, t, h + 1, l);
+    let numbers = Numbers {
+        number: h,
+        last: Some(h),
+        from: Some(last),
+    };
+    set_number(work, n, v, t, numbers);
     h + 1
 }
 
@@ -122,15 +143,17 @@ fn number_node(work: &mut [u32], n: usize, h: usize, v: usize) -> usize
     requires { CanNumberNode n h work.old v }
     ensures { NodeNumbered n h v work.old work.new result }
 {
-    let a = core_words::get(work, v, MARK);
-    let c = core_words::get(work, v, BELOW);
-    if a + c == 0 {
-        core_words::put(work, v, FROM, 0);
+    if !is_relevant(work, n, v) {
+        core_words::put_link(work, v, FROM, None);
         return h;
     }
-    let e = core_words::get(work, v, EDGE);
-    if e == 0 {
-        set_number(work, n, v, h, v, 0, 0);
+    if core_words::link(work, v, EDGE).is_none() {
+        let numbers = Numbers {
+            number: h,
+            last: None,
+            from: None,
+        };
+        set_number(work, n, v, v, numbers);
         return h + 1;
     }
     number_member(work, n, h, v)
@@ -149,37 +172,36 @@ pub fn number_nodes(work: &mut [u32], n: usize, m: usize, k: usize, seen: usize)
     h
 }
 
-// Writes the edge of a - 1 and b as the e-th behind the m edges, where a is not 0; the new count.
-fn write_edge(work: &mut [u32], n: usize, m: usize, e: usize, a: usize, b: usize) -> usize
-    requires { CanWriteEdge n m e a b work.old }
-    ensures { Written n m e (edge_if a b) work.old work.new result }
+// Writes the edge of a and b as the e-th behind the m edges, where there is an a; the new count.
+fn write_edge(work: &mut [u32], n: usize, m: usize, e: usize, a: Option<usize>, b: usize) -> usize
+    requires { CanWriteEdge n m e (link_word a) b work.old }
+    ensures { Written n m e (edge_if (link_word a) b) work.old work.new result }
 {
-    if a == 0 {
+    let Some(a) = a else {
         return e;
-    }
-    core_words::put_half(work, n, 2 * (m + e), TO, a - 1);
+    };
+    core_words::put_half(work, n, 2 * (m + e), TO, a);
     core_words::put_half(work, n, 2 * (m + e) + 1, TO, b);
     e + 1
 }
 
-// Where v is the first node of a class with two relevant nodes at least, one more than the number of the last; else 0.
-fn closing_from(work: &[u32], n: usize, v: usize) -> usize
+// Where v is the first node of a class with two relevant nodes at least, the number of the last.
+fn closing_from(work: &[u32], n: usize, v: usize) -> Option<usize>
     requires { (16 * n ≤ length work.now) × (v < n) }
-    ensures { result ≡ closing_at work.now v }
+    ensures { link_word result ≡ closing_at work.now v }
 {
-    let e = core_words::get(work, v, EDGE);
-    if e == 0 {
-        return 0;
+    if core_words::link(work, v, EDGE).is_none() {
+        return None;
     }
     let t = core_words::get(work, v, TOP);
     if t != v {
-        return 0;
+        return None;
     }
     let r = core_words::get(work, v, MEMBERS);
     if r < 2 {
-        return 0;
+        return None;
     }
-    core_words::get(work, v, LAST)
+    core_words::link(work, v, LAST)
 }
 
 // Writes the edge of v's cycle that leads to v, and where v is first in its class the edge that closes the cycle; the new count.
@@ -187,7 +209,7 @@ fn write_node(work: &mut [u32], n: usize, m: usize, e: usize, v: usize) -> usize
     requires { CanWriteNode n m e work.old v }
     ensures { Written n m e (edges_at work.old v) work.old work.new result }
 {
-    let a = core_words::get(work, v, FROM);
+    let a = core_words::link(work, v, FROM);
     let b = core_words::get(work, v, NUMBER);
     let c = closing_from(work, n, v);
     let p = core_words::get(work, v, PARENT);

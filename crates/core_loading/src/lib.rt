@@ -8,6 +8,7 @@ ghost use Rattle.core_loading.specs.Loading.{Entered, Entering, PutEdge};
 use core_words::*;
 
 // Internal: enters v, where it is not entered yet; the new count of different active nodes.
+// Kept: the room written out and no `NodeRoom`, since callers of other crates prove it part by part: no plainer for them.
 pub fn enter(work: &mut [u32], n: usize, d: usize, v: usize) -> usize
     requires { (n ≤ 65536) × (16 * n ≤ length work.old) × (v < n) ×
         ((S : List ℕ) × Entered n S d (node MARK work.old) (node ACTIVE work.old)) }

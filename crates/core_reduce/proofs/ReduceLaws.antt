@@ -25,7 +25,7 @@ use Rattle.core_reduce.specs.EdgeList.{CanList, EdgePair, EdgesListed, edge_tabl
 use Rattle.core_reduce.specs.Numbers.{CanWrite, WritingNumbers}
 use Rattle.core_forest.proofs.AdjacencyLaws.{linking_past}
 use Rattle.core_forest.proofs.SearchLaws.{between_none, seen_less}
-use Rattle.core_forest.specs.AdjacencyLists.{AdjacencyLists, CanLink, Linking}
+use Rattle.core_forest.specs.AdjacencyLists.{AdjacencyLists, Linking}
 use Rattle.core_forest.specs.Forest.{ForestAt, edges_below}
 use Rattle.core_forest.specs.Search.{BetweenTrees, SearchKeeps, search_fields}
 use Rattle.theory_graph.proofs.CutEquivalence.{small_cuts_equal}
@@ -61,13 +61,7 @@ plain_out : (e : ℕ) (w : List ℕ) → plain (edges_out e w) ≡ edge_table (n
 plain_out e w = table_map (λ (e : Entry). e.0) (λ j. ((node LOWER w j, node UPPER w j), node NAMED w j)) 0 e
 
 module _ {n m k : ℕ} {w₀ : List ℕ} (s : Loaded n m k w₀) where
-  pub can_clear : (16 * n ≤ length w₀) × (n ≤ 65536)
-  can_clear = (omega (arith, s.room), s.few)
-
   module _ {w₁ : List ℕ} (c : Cleared start_fields n n w₀ w₁) where
-    pub can_link : CanLink n m w₁
-    can_link = record { few = s.few; much = s.much; room = rw c.rest.same s.room; ends = rw (c.rest.halves TO) s.ends; empty = c.zero HEAD (omega arith) refl }
-
     module _ {w₂ : List ℕ} (q : Linking n m w₁ w₂ (2 * m) × AdjacencyLists n m w₂) where
       pub act₂ : (i : ℕ) → i < k → node ACTIVE w₂ i ≡ node ACTIVE w₀ i
       act₂ i l = q.0.nodes ACTIVE (omega arith) (λ e. omega arith) i (omega (arith, s.less)) ∙ ap (λ f. f i) (c.rest.nodes ACTIVE (omega arith) refl)

@@ -28,6 +28,7 @@ mod edge_list;
 ghost use Rattle.std.specs.Prelude.{◌≡◌, ◌-◌, ◌*◌, ◌<◌, ◌≤◌, length};
 ghost use Rattle.core_words.specs.Clearing.{Cleared, ClearedNode};
 ghost use Rattle.core_words.specs.Fields.{NUMBER, TOP, node};
+ghost use Rattle.core_words.specs.Room.{NodeRoom};
 ghost use Rattle.core_branches.specs.Classes.{HasNumber};
 ghost use Rattle.core_reduce.specs.Numbers.{CanWrite, WritingNumbers};
 ghost use Rattle.core_reduce.specs.Core.{Loaded, Reduced, start_fields};
@@ -43,7 +44,7 @@ pub struct Counts {
 
 // Node v has no list, no place in the search, no branch and no number.
 fn clear_node(work: &mut [u32], n: usize, v: usize)
-    requires { (16 * n ≤ length work.old) × (n ≤ 65536) × (v < n) }
+    requires { NodeRoom n work.old × (v < n) }
     ensures { ClearedNode start_fields n v work.old work.new }
 {
     core_words::put_link(work, v, HEAD, None);
@@ -56,7 +57,7 @@ fn clear_node(work: &mut [u32], n: usize, v: usize)
 
 // Internal: clears the fields that start at 0.
 pub fn clear_nodes(work: &mut [u32], n: usize)
-    requires { (16 * n ≤ length work.old) × (n ≤ 65536) }
+    requires { NodeRoom n work.old }
     ensures { Cleared start_fields n n work.old work.new }
 {
     // The nodes below v are cleared.

@@ -34,9 +34,6 @@ clear_put {fs} {n} {k} {v} {a} {b} {c} out l z p = record {
       (λ e. p.else j i (eqb-false j k e) ∙ z.zero j i (sym (ap (λ t. t || member fs j) e) ∙ t));
 }
 
-pub cleared_none : {fs : List ℕ} (n : ℕ) (a : List ℕ) → Cleared fs n 0 a a
-cleared_none n a = record { rest = only_none n a; zero = λ j i t v l. absurd (omega arith) }
-
 pub cleared_more : {fs : List ℕ} {n i : ℕ} {a b c : List ℕ} → Cleared fs n i a b → ClearedNode fs n i b c → Cleared fs n (i + 1) a c
 cleared_more {i = i} {b = b} s p = record {
   rest = only_then s.rest p.rest;

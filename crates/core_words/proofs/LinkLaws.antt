@@ -2,7 +2,7 @@
 -- Assumes nothing.
 use Rattle.std.proofs.Common.{◌≡◌, ◌∙◌, ap, sym, refl, ℕ, ◌+◌, ◌<◌, Bool, false, true, not, Option, Some, None, arith}
 use lib.Dec.{eqb}
-use borrow.Author.Tests.{eqb-false, eqb-true}
+use borrow.Author.Tests.{eqb-false}
 use Rattle.std.specs.Option.{is_some, option_eq}
 use Rattle.core_words.specs.Links.{link_word}
 
@@ -25,20 +25,10 @@ link_none x e f = none_zero x (sym e ∙ f)
 pub not_none : (x : Option ℕ) {b : Bool} → is_some x ≡ not b → b ≡ false → 0 < link_word x
 not_none x e f = some_positive x (e ∙ ap not f)
 
-pub is_none : (x : Option ℕ) {b : Bool} → is_some x ≡ not b → b ≡ true → link_word x ≡ 0
-is_none x e t = none_zero x (e ∙ ap not t)
-
 -- of `== Some(y)`
 some_differs : (x : Option ℕ) (y : ℕ) → option_eq eqb x (Some y) ≡ false → link_word x ≡ y + 1 → ⊥
 some_differs (Some x) y f e = eqb-false x y f (omega arith)
 some_differs None y f e = omega arith
 
-some_equals : (x : Option ℕ) (y : ℕ) → option_eq eqb x (Some y) ≡ true → link_word x ≡ y + 1
-some_equals (Some x) y t = omega (arith, eqb-true x y t)
-some_equals None y t = cc
-
 pub link_differs : (x : Option ℕ) (y : ℕ) {b : Bool} → b ≡ option_eq eqb x (Some y) → b ≡ false → link_word x ≡ y + 1 → ⊥
 link_differs x y e f = some_differs x y (sym e ∙ f)
-
-pub link_equals : (x : Option ℕ) (y : ℕ) {b : Bool} → b ≡ option_eq eqb x (Some y) → b ≡ true → link_word x ≡ y + 1
-link_equals x y e t = some_equals x y (sym e ∙ t)

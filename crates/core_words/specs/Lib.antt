@@ -2,3 +2,4 @@ pub mod Fields
 pub mod Changes
 pub mod Clearing
 pub mod Links
+pub mod Room

@@ -145,6 +145,7 @@ pub fn put_half_link(work: &mut [u32], n: usize, h: usize, k: usize, x: Option<u
 }
 
 // Internal: sets field k of the first h of n nodes to 0.
+// Kept: the room written out and no `NodeRoom`, since callers of other crates prove it part by part: no plainer for them.
 pub fn clear_field(work: &mut [u32], n: usize, k: usize, h: usize)
     requires { (16 * n ≤ length work.old) × (n ≤ 65536) × (h ≤ n) × (k < 16) }
     ensures { Cleared (k ∷ []) n h work.old work.new }

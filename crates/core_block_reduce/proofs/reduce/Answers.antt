@@ -1,14 +1,7 @@
 -- `reduce` meets its contract: each pass asks for what those before it ensure.
-use Rattle.core_block_reduce.proofs.ReduceLaws.{blocks_reduced, count_can, map_can, number_can, write_can}
-use Rattle.core_reduce.proofs.ReduceLaws.{can_clear, can_link, can_merge_components, can_search}
+use Rattle.core_block_reduce.proofs.ReduceLaws.{blocks_reduced, count_can, map_can, number_can}
+use Rattle.core_reduce.proofs.ReduceLaws.{can_merge_components, can_search}
 use Rattle.core_block_reduce.proofs.reduce.Goals as goal
-
-pub clear_nodes-requires : goal.clear_nodes-requires
-clear_nodes-requires c = can_clear c.requires.loaded
-
-pub link_edges-requires : goal.link_edges-requires
-link_edges-requires c =
-    can_link c.requires.loaded c.clear_nodes.ensures
 
 pub spanning_forest-seen-requires : goal.spanning_forest-seen-requires
 spanning_forest-seen-requires c =
@@ -26,11 +19,6 @@ pub number_nodes-nodes-requires : goal.number_nodes-nodes-requires
 number_nodes-nodes-requires c =
     number_can c.requires c.clear_nodes.ensures c.link_edges.ensures c.spanning_forest-seen.ensures c.merge_blocks.ensures
     c.count_nodes.ensures
-
-pub write_cycles-edges-requires : goal.write_cycles-edges-requires
-write_cycles-edges-requires c =
-    write_can c.requires c.clear_nodes.ensures c.link_edges.ensures c.spanning_forest-seen.ensures c.merge_blocks.ensures
-    c.count_nodes.ensures c.number_nodes-nodes.ensures
 
 pub map_actives-requires : goal.map_actives-requires
 map_actives-requires c =

@@ -1,10 +1,6 @@
 -- `merge_class` meets its contract.
-use Rattle.core_blocks.proofs.ClassLaws.{class_merged, second_can}
+use Rattle.core_blocks.proofs.ClassLaws.{class_merged}
 use Rattle.core_blocks.proofs.merge_class.Goals as goal
-
-pub find-q-requires : goal.find-q-requires
-find-q-requires c =
-    second_can c.requires c.find-p.ensures
 
 pub returns : goal.returns
 returns c =

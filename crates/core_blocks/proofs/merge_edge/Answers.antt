@@ -1,7 +1,7 @@
 -- `merge_edge` meets its contract.
 use mathlib.Core.Path.{◌∙◌, ap, sym}
 use native.Mathlib.Omega.{arith}
-use Rattle.core_blocks.proofs.EdgeLaws.{edge_loop, edge_unseen, find_can, fit_x, fit_y, take_left, take_right, took_left, took_right}
+use Rattle.core_blocks.proofs.EdgeLaws.{edge_loop, edge_unseen, take_left, take_right, took_left, took_right}
 use Rattle.core_words.specs.Fields.{POSITION, node}
 use Rattle.core_blocks.proofs.merge_edge.Goals as goal
 
@@ -9,21 +9,9 @@ pub returns-then-x-y : goal.returns-then-x-y
 returns-then-x-y c =
     edge_loop c.requires (sym c.get_half-x.ensures.0 ∙ c.if-x-y.true ∙ c.get_half-y.ensures.0)
 
-pub get-i-requires : goal.get-i-requires
-get-i-requires c =
-    omega (arith, c.requires.room, fit_x c.requires c.get_half-x.ensures.0 c.get_half-y.ensures.0)
-
 pub returns-then-i-eq0 : goal.returns-then-i-eq0
 returns-then-i-eq0 c =
     edge_unseen c.requires (ap (node POSITION _) (sym c.get_half-x.ensures.0) ∙ sym c.get-i.ensures.0 ∙ c.if-i-eq0.true)
-
-pub get-j-requires : goal.get-j-requires
-get-j-requires c =
-    omega (arith, c.requires.room, fit_y c.requires c.get_half-x.ensures.0 c.get_half-y.ensures.0)
-
-pub find-s-requires : goal.find-s-requires
-find-s-requires c =
-    find_can c.requires _ (fit_x c.requires c.get_half-x.ensures.0 c.get_half-y.ensures.0)
 
 pub merge_path-requires : goal.merge_path-requires
 merge_path-requires c =
@@ -32,10 +20,6 @@ merge_path-requires c =
 pub returns-then-j-i : goal.returns-then-j-i
 returns-then-j-i c =
     took_left c.requires c.get_half-x.ensures.0 c.get_half-y.ensures.0 c.if-x-y.false c.get-i.ensures.0 c.if-i-eq0.false c.get-j.ensures.0 c.if-j-i.true c.find-s.ensures c.get-a.ensures.0 c.merge_path.ensures
-
-pub find-s-requires-2 : goal.find-s-requires-2
-find-s-requires-2 c =
-    find_can c.requires _ (fit_y c.requires c.get_half-x.ensures.0 c.get_half-y.ensures.0)
 
 pub merge_path-requires-2 : goal.merge_path-requires-2
 merge_path-requires-2 c =

@@ -1,17 +1,6 @@
 use native.Mathlib.Omega.{arith}
-use Rattle.core_blocks.proofs.PathLaws.{class_can, loop_done, loop_left, loop_none, loop_right}
+use Rattle.core_blocks.proofs.PathLaws.{class_can, loop_done, loop_left, loop_right}
 use Rattle.core_blocks.proofs.merge_path.Goals as goal
-
-pub loop-a-init : goal.loop-a-init
-loop-a-init c = loop_none c.requires
-
-pub get-i-requires : goal.get-i-requires
-get-i-requires c =
-    omega (arith, c.loop-a.invariant.left.fit, c.loop-a.invariant.rest.same, c.requires.room)
-
-pub get-j-requires : goal.get-j-requires
-get-j-requires c =
-    omega (arith, c.loop-a.invariant.right.fit, c.loop-a.invariant.rest.same, c.requires.room)
 
 pub merge_class-a-requires : goal.merge_class-a-requires
 merge_class-a-requires c =

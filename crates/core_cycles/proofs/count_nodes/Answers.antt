@@ -1,16 +1,10 @@
 use Prim.Native.Nat.{◌-◌}
-use mathlib.Core.Path.{◌≡◌}
 use native.Mathlib.Omega.{arith}
 use Rattle.core_cycles.proofs.CountLaws.{counting_down, counting_more, counting_none, node_can}
 use Rattle.core_cycles.proofs.count_nodes.Goals as goal
 
 pub loop-i-init : goal.loop-i-init
 loop-i-init c = counting_none c.requires
-
-pub get-v-requires : goal.get-v-requires
-get-v-requires c =
-    let s = c.loop-i.invariant.rest.same in
-    omega (arith, c.requires.room, c.requires.blocks.less)
 
 pub count_node-requires : goal.count_node-requires
 count_node-requires c =
@@ -21,6 +15,3 @@ pub loop-i-preserved : goal.loop-i-preserved
 loop-i-preserved c =
     counting_more (c.loop-i.i - 1) c.requires (counting_down c.loop-i-test.true c.loop-i.invariant)
     (omega arith) c.get-v.ensures.0 c.count_node.ensures
-
-pub returns : goal.returns
-returns c = let e : c.loop-i.i ≡ 0 = omega arith in rw e at c.loop-i.invariant

@@ -6,11 +6,6 @@ use Rattle.core_cycles.proofs.number_nodes.Goals as goal
 pub loop-i-init : goal.loop-i-init
 loop-i-init c = (omega arith, numbering_none c.requires)
 
-pub get-v-requires : goal.get-v-requires
-get-v-requires c =
-    let s = c.loop-i.invariant.1.rest.same in
-    omega (arith, c.requires.room, c.requires.counted.is.less)
-
 pub number_node-h-requires : goal.number_node-h-requires
 number_node-h-requires c =
     node_can c.requires c.loop-i.invariant.1 (omega arith) c.get-v.ensures.0

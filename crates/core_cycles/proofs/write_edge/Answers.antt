@@ -1,15 +1,13 @@
 -- `write_edge` meets its contract.
+use Prim.Native.Nat.{◌-◌}
+use mathlib.Core.Path.{◌≡◌, ap}
 use native.Mathlib.Omega.{arith}
-use Rattle.core_cycles.proofs.WriteLaws.{written_none, written_one}
+use Rattle.core_cycles.proofs.WriteLaws.{written_one}
+use Rattle.core_words.specs.Links.{link_word}
 use Rattle.core_cycles.proofs.write_edge.Goals as goal
-
-pub returns-then-a-eq0 : goal.returns-then-a-eq0
-returns-then-a-eq0 c = written_none c.requires c.if-a-eq0.true
-
-pub put_half-requires-2 : goal.put_half-requires-2
-put_half-requires-2 c =
-    (omega (arith, c.requires.room, c.put_half.ensures.same), omega (arith, c.requires.second c.if-a-eq0.false), omega arith)
 
 pub returns : goal.returns
 returns c =
-    written_one c.requires c.if-a-eq0.false c.put_half.ensures c.put_half-2.ensures
+    let e = ap link_word c.in-Some.is in
+    let d : link_word c.args.a - 1 ≡ c.in-Some.a = omega arith in
+    written_one c.requires (λ z. omega arith) (rw d c.put_half.ensures) c.put_half-2.ensures
