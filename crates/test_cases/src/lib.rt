@@ -8,8 +8,8 @@ use test_library::replays::{CLOSES, List, OPENS, ReplayCall, Replayed, Sizes};
 use test_library::{refusals, tables};
 use test_random::networks::{Kind, Network};
 
-// The sizes; how the tables are lent; and the numbers that vary: the end at which segment 1 begins, the starting entries of segments 0 and 1, and X of the first
-// three events.
+// The sizes; how the tables are lent; and the numbers that vary: the end at which segment 1 begins, the starting entries of segments 0 and 1, and X of the
+// first three events.
 #[derive(Clone, Copy)]
 pub struct Case {
     pub sizes: Sizes,
@@ -168,8 +168,8 @@ fn with_all_from(first: usize) -> Case {
     )
 }
 
-// Internal: case i of 27, and what is printed of it. Sizes are refused before short tables, these before long ones, these before the share, the share before ends,
-// ends before starting entries, and these before events: the last seven have all these faults, all but the first, and so on.
+// Internal: case i of 27, and what is printed of it. Sizes are refused before short tables, these before long ones, these before the share, the share before
+// ends, ends before starting entries, and these before events: the last seven have all these faults, all but the first, and so on.
 pub fn case_at(i: usize) -> (&'static str, Case) {
     match i {
         0 => (

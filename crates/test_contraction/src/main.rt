@@ -7,7 +7,6 @@ mod vectors;
 use std::io;
 use test_contraction_calls::{calls, limits};
 use test_random::graphs;
-use test_slow_contraction::contraction;
 use test_totals::graph_totals::Totals;
 
 // Compares the random graphs, of which one table may be short.
@@ -16,7 +15,7 @@ fn run_random() -> Totals {
     for s in 0..40320 {
         let g = graphs::make(s);
         let lengths = calls::lengths(g.sizes, graphs::lending(s));
-        let want = contraction::reply(&g, lengths);
+        let want = calls::slow(&g, lengths);
         let is_right = calls::run(&g, lengths, &want).agrees(want.reply);
         totals.add(&g, &want, is_right);
     }

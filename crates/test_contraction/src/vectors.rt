@@ -1,7 +1,7 @@
 // Contractions made by a slow program before any code of the product; they stand on standard input. The first 50 are those of document 02, No. 7: 35 are
-// accepted, 12 refused by 2, 2 by 4 and 1 by 8. The other 60 are those of document 01, all accepted; they came without pieces and names, and theirs are from a search
-// of their own. A vector is a line of numbers of four digits in base 16, then ; at its end. Ten of the sizes: the nodes, the edges, the active entries and
-// zeros; ten of the lengths: of the first and the second ends of the edges, their names, the active entries, the map, the first and the second ends of the
+// accepted, 12 refused by 2, 2 by 4 and 1 by 8. The other 60 are those of document 01, all accepted; they came without pieces and names, and theirs are from a
+// search of their own. A vector is a line of numbers of four digits in base 16, then ; at its end. Ten of the sizes: the nodes, the edges, the active entries
+// and zeros; ten of the lengths: of the first and the second ends of the edges, their names, the active entries, the map, the first and the second ends of the
 // edges out, their names, the pieces and the work table; ten of the reply: a refusal's number and its place, the nodes, the edges and zeros. Then come the
 // first four tables of these lengths; and where it is accepted the map, the first and the second ends of the edges out, their names, and the pieces.
 use std::io;
@@ -11,7 +11,6 @@ use test_library::counts::Count;
 use test_library::refusals::Refusal;
 use test_library::text::Numbers;
 use test_library::{print, text};
-use test_slow_contraction::contraction;
 
 // A graph, the lengths of its tables, and the small graph that is wanted.
 #[derive(Drop)]
@@ -82,8 +81,8 @@ fn read_small(numbers: &mut Numbers, reply: Reply, k: usize) -> Small {
     small
 }
 
-fn read(line: &[u8]) -> Vector {
-    let mut numbers = Numbers::new(line);
+fn read(digits: &[u8]) -> Vector {
+    let mut numbers = Numbers::new(digits);
     let sizes = read_sizes(&mut numbers);
     let lengths = read_lengths(&mut numbers);
     let reply = read_reply(&mut numbers);
@@ -112,7 +111,7 @@ impl Compared {
             lengths,
             want,
         } = vector;
-        let slow = contraction::reply(graph, *lengths);
+        let slow = calls::slow(graph, *lengths);
         let is_right = calls::run(graph, *lengths, want).agrees(want.reply);
         let is_slow_right = calls::run(graph, *lengths, &slow).agrees(slow.reply);
         self.vectors.add(1);
@@ -124,8 +123,11 @@ impl Compared {
 
 // Reads the vectors and runs them.
 pub(crate) fn report(rt: &(impl Input + Print + Alloc)) -> io::Result<()> {
+    let text = io::read_to_string(rt.alloc(), rt.reader())?;
     let mut compared = Compared::default();
-    text::each_vector(rt, |line| compared.add(&read(line)))?;
+    for line in text.as_str().lines() {
+        compared.add(&read(text::vector(line)));
+    }
     let rows = [
         ("vectors", compared.vectors),
         ("accepted", compared.accepted),

@@ -53,13 +53,13 @@ impl<'a> Written<'a> {
         };
         let all = sizes.k.saturating_add(8);
         let ends = sizes.k.saturating_add(all);
-        let near = calls::wrong(self.from, &want.edges.from, edges, ends);
-        let far = calls::wrong(self.to, &want.edges.to, edges, ends);
+        let near = calls::entries_wrong(self.from, &want.edges.from, edges, ends);
+        let far = calls::entries_wrong(self.to, &want.edges.to, edges, ends);
         Wrong {
-            map: calls::wrong(self.map, &want.map, entries, all),
+            map: calls::entries_wrong(self.map, &want.map, entries, all),
             ends: near.saturating_add(far),
-            names: calls::wrong(self.names, &want.names, edges, ends),
-            pieces: calls::wrong(self.pieces, &want.pieces, entries, all),
+            names: calls::entries_wrong(self.names, &want.names, edges, ends),
+            pieces: calls::entries_wrong(self.pieces, &want.pieces, entries, all),
             work: calls::words_wrong(self.work, cleared, words.saturating_add(8)),
         }
     }
@@ -68,6 +68,11 @@ impl<'a> Written<'a> {
 // Internal: the lengths of the tables that a graph is lent.
 pub fn lengths(sizes: Sizes, lending: Lending) -> Lengths {
     Lengths::new(sizes, contraction::required(sizes), lending)
+}
+
+// Internal: what the slow contraction makes of a graph whose tables have these lengths.
+pub fn slow(g: &Graph, lengths: Lengths) -> Small {
+    contraction::reply(g, lengths)
 }
 
 // Internal: the outcome of the call on a graph whose tables have these lengths, given the small graph that is wanted.

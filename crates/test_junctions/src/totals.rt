@@ -1,8 +1,8 @@
 // Counts of lists on which the sibling is compared with the slow version.
 use std::io;
 use test_library::counts::Count;
+use test_library::print;
 use test_library::replays::List;
-use test_library::{print, refusals};
 use test_slow_junctions::Wanted;
 use test_totals::list_totals;
 
@@ -15,7 +15,8 @@ pub(crate) struct Totals {
     pub(crate) differences: Differences,
 }
 
-// How many answers differ from the replay's; are 1 where no road's loss parts the two; and 2 where a road's loss parts them: one road joins them, and no other way.
+// How many answers differ from the replay's; are 1 where no road's loss parts the two; and 2 where a road's loss parts them: one road joins them, and no other
+// way.
 #[derive(Clone, Copy, Default)]
 pub(crate) struct Differences {
     pub(crate) all: Count,
@@ -55,45 +56,19 @@ impl Totals {
     // Prints the counts.
     pub(crate) fn report(&self, rt: &impl Print) -> io::Result<()> {
         let lists = &self.lists;
-        let rows = [
-            ("lists", lists.lists),
-            ("of the most events", lists.full),
-            ("with no segment open at the start", lists.none_open),
-            ("with all", lists.all_open),
-            ("with some", lists.some_open),
-            ("disagreements", lists.disagreements),
-            ("accepted", lists.replies[0]),
-            ("refused by 1", lists.replies[refusals::SIZE]),
-            ("by 2", lists.replies[refusals::SHORT]),
-            ("by 3", lists.replies[refusals::SHARE]),
-            ("by 4", lists.replies[refusals::END]),
-            ("by 5", lists.replies[refusals::KIND]),
-            ("by 6", lists.replies[refusals::OPENS]),
-            ("by 7", lists.replies[refusals::CLOSES]),
-            ("by 11", lists.replies[refusals::START]),
-            ("by 12", lists.replies[refusals::LONG]),
-            (
-                "accepted, with a share from 4 to 12 that replies otherwise",
-                self.shares_differ,
-            ),
-            ("with a road of two or more segments", lists.roads.shared),
-            (
-                "with a road that is drawn in both orders",
-                lists.roads.turned,
-            ),
-            (
-                "in which a segment opens while another one of its road is open",
-                lists.roads.opens_beside,
-            ),
-            (
-                "in which a segment closes while another one of its road is open",
-                lists.roads.closes_beside,
-            ),
-            ("with a loop", self.loops),
-            ("answers 0", lists.answers[0]),
-            ("answers 1", lists.answers[1]),
-            ("answers 2", lists.answers[2]),
-            ("opened or closed", lists.answers[3]),
+        lists.report_lists(rt)?;
+        lists.report_replies(rt)?;
+        let shares = [(
+            "accepted, with a share from 4 to 12 that replies otherwise",
+            self.shares_differ,
+        )];
+        print::counts(rt, &shares)?;
+        lists
+            .roads
+            .report(rt, "with a road of two or more segments")?;
+        print::counts(rt, &[("with a loop", self.loops)])?;
+        lists.report_answers(rt)?;
+        let differences = [
             (
                 "answers that differ from the replay's",
                 self.differences.all,
@@ -107,6 +82,6 @@ impl Totals {
                 self.differences.two_for_one,
             ),
         ];
-        print::counts(rt, &rows)
+        print::counts(rt, &differences)
     }
 }

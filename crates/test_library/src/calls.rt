@@ -62,7 +62,7 @@ pub fn changed<T: Copy + PartialEq + From<u8>>(t: &[T], count: usize, all: usize
 }
 
 // Internal: how many entries are wrong of all that were lent, where the first count are to be as wanted and the others as before.
-pub fn wrong<T: Copy + PartialEq + From<u8>>(
+pub fn entries_wrong<T: Copy + PartialEq + From<u8>>(
     t: &[T],
     want: &[T],
     count: usize,

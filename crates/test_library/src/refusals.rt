@@ -1,7 +1,8 @@
 // What a call replies: what it returns, or a refusal.
 use std::fmt;
 
-// A refusal's number and its place. A number that a call replies may be any, so that a wrong one is printed and counted as it is.
+// A refusal's number and its place.
+// Kept: the number is no enum, which is no plainer: a call may reply any number, and a wrong one is to be printed and counted as it is.
 #[derive(Clone, Copy, PartialEq, Eq)]
 pub struct Refusal {
     pub code: usize,

@@ -152,8 +152,8 @@ impl Replayed {
     pub fn agrees(&self, want: &Replayed, t: usize) -> bool {
         let count = if want.reply.is_ok() { t } else { 0 };
         let all = t.saturating_add(8);
-        let answers_wrong = calls::wrong(&self.answers, &want.answers, count, all);
-        let names_wrong = calls::wrong(&self.names, &want.names, count, all);
+        let answers_wrong = calls::entries_wrong(&self.answers, &want.answers, count, all);
+        let names_wrong = calls::entries_wrong(&self.names, &want.names, count, all);
         self.reply == want.reply && answers_wrong == 0 && names_wrong == 0 && self.words_wrong == 0
     }
 
@@ -192,11 +192,11 @@ impl Replayed {
     fn with_fault(&self, i: usize, in_names: bool) -> Replayed {
         let mut faulty = Replayed { ..*self };
         if in_names {
-            if i < 8200 {
-                faulty.names[i] = faulty.names[i].wrapping_add(1);
+            if let Some(name) = faulty.names.get_mut(i) {
+                *name = name.wrapping_add(1);
             }
-        } else if i < 4104 {
-            faulty.answers[i] = faulty.answers[i].wrapping_add(1);
+        } else if let Some(answer) = faulty.answers.get_mut(i) {
+            *answer = answer.wrapping_add(1);
         }
         faulty
     }

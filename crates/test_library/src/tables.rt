@@ -1,6 +1,8 @@
-// Tables of numbers and of marks. Behind the end of a table there are zeros and no marks, and what is set there is lost, so that no caller has to know the bounds.
+// Tables of numbers and of marks. Behind the end of a table there are zeros and no marks, and what is set there is lost, so that no caller has to know the
+// bounds.
 
 // The largest table that is lent, and some entries behind it.
+// Kept: an array, with the sizes beside; a Vec is no plainer: each function that makes a list would take an allocator and hand on an error.
 pub type Entries = [u16; 8200];
 
 // Numbers of at most 512 nodes.
@@ -21,13 +23,6 @@ pub fn at<T: Copy + Into<usize>>(t: &[T], i: usize) -> usize {
 pub fn set(t: &mut [u16], i: usize, v: usize) {
     if i < t.len() {
         t[i] = (v % 65536) as u16;
-    }
-}
-
-// Internal: copies count numbers of another table from this one on.
-pub fn copy(t: &mut [u16], other: &[u16], from: usize, count: usize) {
-    for (v, w) in t.iter_mut().zip(other.iter().skip(from)).take(count) {
-        *v = *w;
     }
 }
 

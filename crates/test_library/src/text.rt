@@ -1,35 +1,16 @@
 // Vectors as text, which a test program reads from standard input: each is a line with ; at its end.
-ghost use Rattle.std.specs.Prelude.{◌<◌};
 
-use std::io;
-
-// Internal: does this with each vector, of which it gets the bytes but for the ; at the end.
-pub fn each_vector<F: FnMut(&[u8])>(rt: &(impl Input + Alloc), mut run: F) -> io::Result<()>
-    requires { F.IsAlwaysCallable run }
-{
-    for line in rt.lines(rt.alloc()) {
-        let line = line?;
-        if let Some(vector) = line.as_bytes().strip_suffix(b";") {
-            run(vector);
-        }
-    }
-    Ok(())
-}
-
-// The value of a digit in base 16.
-fn digit(byte: u8) -> usize
-    ensures { result < 16 }
-{
-    match byte {
-        b'0'..=b'9' => usize::from(byte - b'0'),
-        b'a'..=b'f' => usize::from(byte - b'a' + 10),
-        _ => 0,
-    }
+// Internal: the vector of a line, without the ; at its end.
+pub fn vector(line: &str) -> &[u8] {
+    line.strip_suffix(';').unwrap_or(line).as_bytes()
 }
 
 // Internal: the number of at most four digits in base 16.
 pub fn number(digits: &[u8]) -> usize {
-    digits.iter().fold(0, |v, d| v % 4096 * 16 + digit(*d))
+    let digit = |byte: u8| char::from(byte).to_digit(16).unwrap_or(0) as usize;
+    digits
+        .iter()
+        .fold(0, |v, byte| v % 4096 * 16 + digit(*byte) % 16)
 }
 
 // The numbers of a vector that are still to be read, of four digits each. Behind the last one there are zeros.

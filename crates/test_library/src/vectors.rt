@@ -84,8 +84,8 @@ fn read_outcome(numbers: &mut Numbers, reply: Reply, t: usize, has_names: bool) 
     }
 }
 
-fn read(line: &[u8]) -> Vector {
-    let mut numbers = Numbers::new(line);
+fn read(digits: &[u8]) -> Vector {
+    let mut numbers = Numbers::new(digits);
     let sizes = read_sizes(&mut numbers);
     let lengths = read_lengths(&mut numbers);
     let reply = read_reply(&mut numbers);
@@ -108,15 +108,16 @@ pub struct Compared {
 
 // Internal: runs the call and the slow version on each vector of standard input.
 pub fn compare<C: ReplayCall>(rt: &(impl Input + Alloc), work: &mut [u32]) -> io::Result<Compared> {
+    let text = io::read_to_string(rt.alloc(), rt.reader())?;
     let mut compared = Compared::default();
-    text::each_vector(rt, |line| {
-        let vector = read(line);
+    for line in text.as_str().lines() {
+        let vector = read(text::vector(line));
         let t = vector.list.sizes.t;
         let replayed = C::run(&vector.list, vector.lengths, work);
         let by_slow = C::slow(&vector.list, vector.lengths, None);
         compared.vectors.add(1);
         compared.wrong.add_if(!replayed.agrees(&vector.want, t));
         compared.slow_differs.add_if(!replayed.agrees(&by_slow, t));
-    })?;
+    }
     Ok(compared)
 }

@@ -11,8 +11,8 @@ pub(crate) fn respond(input: &[u8], out: &mut Output) -> usize {
     program_response::respond(input, &mut work, out)
 }
 
-// Whether the first count bytes of an input are refused so. Its sizes are these and the share 8, and zeros follow, but for two that make queries of two junctions
-// where the sizes ask for 34 bytes.
+// Whether the first count bytes of an input are refused so. Its sizes are these and the share 8, and zeros follow, but for two that make queries of two
+// junctions where the sizes ask for 34 bytes.
 fn is_refused(sizes: [u8; 3], count: usize, line: &[u8]) -> bool {
     let mut input: Input = [0; 5120];
     input[0] = sizes[0];

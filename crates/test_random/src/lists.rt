@@ -15,14 +15,18 @@ pub struct Drawn {
     pub most: usize,
 }
 
-// What a list is drawn by: its sizes; its network; of how many roads of a ring two segments each open and close, where not any segment may; and about how many of
-// eight segments are open at the start: none, some or all.
+// What a list is drawn by: its sizes; its network; of how many roads of a ring two segments each open and close, where not any segment may; and about how many
+// of eight segments are open at the start: none, some or all.
 #[derive(Clone, Copy)]
 struct Plan {
     sizes: Sizes,
     network: Network,
     roads: Option<usize>,
     eighths: usize,
+}
+
+fn may_ask_for_a_junction_with_itself(kind: Kind) -> bool {
+    kind != Kind::TurnedRing
 }
 
 impl Plan {
@@ -102,7 +106,7 @@ impl Plan {
         }
         let u = self.asked(5, i);
         let v = self.asked(6, i);
-        if u == v && self.network.kind == Kind::TurnedRing {
+        if u == v && !may_ask_for_a_junction_with_itself(self.network.kind) {
             return Event::Asks(u, random::round(v.saturating_add(1), self.network.places));
         }
         Event::Asks(u, v)
@@ -152,8 +156,9 @@ fn draw(network: Network, most: usize, eighths: usize) -> Drawn {
     }
 }
 
-// X and Y of an event with a fault: X that is nothing; Y past the junctions, or past the segments; X past the junctions; an open or a close that comes by chance;
-// or an event a second time.
+// Kept: the fault is a number, which is drawn; an enum is no plainer, since it would be made of that number for this one match.
+// X and Y of an event with a fault: X that is nothing; Y past the junctions, or past the segments; X past the junctions; an open or a close that comes by
+// chance; or an event a second time.
 fn bad_event(list: &List, what: usize, j: usize) -> (usize, usize) {
     let sizes = list.sizes;
     match what {
@@ -206,8 +211,8 @@ fn spoil_list(list: &mut List, s: usize) {
     }
 }
 
-// How a list with a fault is lent: of some of them one table is one entry short, else those that are written are longer; and of some one of the five that are only
-// read is one entry longer than its size.
+// How a list with a fault is lent: of some of them one table is one entry short, else those that are written are longer; and of some one of the five that are
+// only read is one entry longer than its size.
 fn bad_lending(s: usize) -> Lending {
     let is_short = random::at(s, 20, 0, 8) == 0;
     let is_long = random::at(s, 27, 0, 8) == 0;

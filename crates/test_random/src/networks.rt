@@ -2,10 +2,10 @@
 use test_library::edges::Edges;
 use test_library::{random, tables};
 
-// What the edges are like: any; a ring; a ring with each edge twice; a tree; a tree with each edge twice; three centres in a row and in a ring, with leaves; within
-// the even nodes and within the odd ones; a ring with a loop at each node; a path, with loops at its last node for the edges that are left; a ring, with more
-// edges beside the first ones for those that are left, and each edge in either order. In the last three kinds cycles share nodes: cycles of three edges at node
-// 0; a tree of such cycles, each of which shares a node with an earlier one; a tree of blocks of five edges, each a cycle of four with one edge across.
+// What the edges are like: any; a ring; a ring with each edge twice; a tree; a tree with each edge twice; three centres in a row and in a ring, with leaves;
+// within the even nodes and within the odd ones; a ring with a loop at each node; a path, with loops at its last node for the edges that are left; a ring, with
+// more edges beside the first ones for those that are left, and each edge in either order. In the last three kinds cycles share nodes: cycles of three edges at
+// node 0; a tree of such cycles, each of which shares a node with an earlier one; a tree of blocks of five edges, each a cycle of four with one edge across.
 #[derive(Clone, Copy, PartialEq, Eq)]
 pub enum Kind {
     Any,

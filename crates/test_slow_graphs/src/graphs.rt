@@ -134,8 +134,8 @@ impl Classes {
             .unwrap_or(v)
     }
 
-    // Parts the classes along these pieces: a node gets another class where its piece is not that of its class's first node. It goes from the last node down, so
-    // that the classes of the smaller nodes are still those before.
+    // Parts the classes along these pieces: a node gets another class where its piece is not that of its class's first node. It goes from the last node down,
+    // so that the classes of the smaller nodes are still those before.
     fn part(&mut self, p: &Pieces, nodes: usize) {
         for v in (0..nodes).rev() {
             if !p.together(v, self.of(v)) {

@@ -1,6 +1,6 @@
-// Internal, for the tests alone: a slow and simple version of the sibling, from the words of document 02, No. 8: it takes each third junction away in turn, with
-// every segment that meets it. Which segments are open, the search and the refusals are those of the slow graphs and the slow replay. Nothing here calls the
-// product. Networks have at most 512 junctions and 512 segments, but for rings, which may have the full size.
+// Internal, for the tests alone: a slow and simple version of the sibling, from the words of document 02, No. 8: it takes each third junction away in turn,
+// with every segment that meets it. Which segments are open, the search and the refusals are those of the slow graphs and the slow replay. Nothing here calls
+// the product. Networks have at most 512 junctions and 512 segments, but for rings, which may have the full size.
 #![tactic(auto)]
 
 use test_library::replays::{Answers, Event, Lengths, List, Replayed, Sizes};

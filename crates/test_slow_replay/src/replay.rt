@@ -49,6 +49,7 @@ pub fn first_part(n: usize, share: usize) -> usize
 }
 
 // The answer of an event, and the road that is named, where there is one.
+// Kept: an answer is a number, as the tables and the vectors hold it; the new form is no plainer: an enum would be turned into that number at each comparison.
 #[derive(Clone, Copy)]
 struct Answer {
     number: u8,

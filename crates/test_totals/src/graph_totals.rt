@@ -5,8 +5,8 @@ use test_library::counts::Count;
 use test_library::{print, refusals, tables};
 
 // All graphs; those on which the call disagrees; those that are refused by 2, 4 and 8; and those that are accepted, of which there are such with a kept class
-// without an active node; with two pieces or more; with entries that come back to a piece after another; with an active entry twice; with an active node without
-// an edge; and without an active entry. Then the edges out, those that stand for two edges or more, and those with the name 65535.
+// without an active node; with two pieces or more; with entries that come back to a piece after another; with an active entry twice; with an active node
+// without an edge; and without an active entry. Then the edges out, those that stand for two edges or more, and those with the name 65535.
 #[derive(Clone, Copy, Default)]
 pub struct Totals {
     graphs: Count,

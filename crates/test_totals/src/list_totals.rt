@@ -6,8 +6,8 @@ use test_library::{print, refusals, tables};
 use test_slow_replay::{replay, roads};
 
 // How many lists there are, have the most events, have no segment open at the start, all and some; on how many the replay disagrees with the slow one; how many
-// faults were planted and noticed. Then of the accepted ones the answers, each at its number, and kept; and the lists by their replies: the accepted ones at 0, the
-// refused ones at their number.
+// faults were planted and noticed. Then of the accepted ones the answers, each at its number, and kept; and the lists by their replies: the accepted ones at 0,
+// the refused ones at their number.
 #[derive(Clone, Copy, Default)]
 pub struct Totals {
     pub lists: Count,
@@ -25,8 +25,8 @@ pub struct Totals {
     pub ones: OneTotals,
 }
 
-// Of the accepted lists: those with a road of two or more segments, with one that is drawn in both orders, in which a segment opens while another one of its road
-// is open, and in which one closes so.
+// Of the accepted lists: those with a road of two or more segments, with one that is drawn in both orders, in which a segment opens while another one of its
+// road is open, and in which one closes so.
 #[derive(Clone, Copy, Default)]
 pub struct RoadTotals {
     pub shared: Count,
@@ -35,8 +35,8 @@ pub struct RoadTotals {
     pub closes_beside: Count,
 }
 
-// Of the answers 1, but for rings: those that would be 2 if each segment were a road, that have the name of a closed segment, and where the loss of more than one
-// road parts the two junctions.
+// Of the answers 1, but for rings: those that would be 2 if each segment were a road, that have the name of a closed segment, and where the loss of more than
+// one road parts the two junctions.
 #[derive(Clone, Copy, Default)]
 pub struct OneTotals {
     pub twice_by_segments: Count,
@@ -63,6 +63,23 @@ impl RoadTotals {
         self.turned.add_if(roads::any_copy(list, true));
         self.opens_beside.add_if(opens_beside);
         self.closes_beside.add_if(closes_beside);
+    }
+
+    // Internal: prints the counts, the first of which is called so.
+    pub fn report(&self, rt: &impl Print, shared: &str) -> io::Result<()> {
+        let rows = [
+            (shared, self.shared),
+            ("with a road that is drawn in both orders", self.turned),
+            (
+                "in which a segment opens while another one of its road is open",
+                self.opens_beside,
+            ),
+            (
+                "in which a segment closes while another one of its road is open",
+                self.closes_beside,
+            ),
+        ];
+        print::counts(rt, &rows)
     }
 }
 
@@ -130,8 +147,8 @@ impl Totals {
         }
     }
 
-    // Internal: prints the counts, but for those of the answers 1. The replay has no refusal by 8, 9 and 10.
-    pub fn report(&self, rt: &impl Print) -> io::Result<()> {
+    // Internal: prints how many lists there are, and on how many the replay disagrees.
+    pub fn report_lists(&self, rt: &impl Print) -> io::Result<()> {
         let rows = [
             ("lists", self.lists),
             ("of the most events", self.full),
@@ -139,13 +156,24 @@ impl Totals {
             ("with all", self.all_open),
             ("with some", self.some_open),
             ("disagreements", self.disagreements),
-            ("answers and names changed on purpose", self.planted),
-            ("noticed", self.noticed),
+        ];
+        print::counts(rt, &rows)
+    }
+
+    // Internal: prints the counts of the answers.
+    pub fn report_answers(&self, rt: &impl Print) -> io::Result<()> {
+        let rows = [
             ("answers 0", self.answers[0]),
             ("answers 1", self.answers[1]),
             ("answers 2", self.answers[2]),
             ("opened or closed", self.answers[3]),
-            ("kept", self.kept),
+        ];
+        print::counts(rt, &rows)
+    }
+
+    // Internal: prints the counts of the replies. There is no refusal by 8, 9 and 10.
+    pub fn report_replies(&self, rt: &impl Print) -> io::Result<()> {
+        let rows = [
             ("accepted", self.replies[0]),
             ("refused by 1", self.replies[refusals::SIZE]),
             ("by 2", self.replies[refusals::SHORT]),
@@ -156,23 +184,22 @@ impl Totals {
             ("by 7", self.replies[refusals::CLOSES]),
             ("by 11", self.replies[refusals::START]),
             ("by 12", self.replies[refusals::LONG]),
-            (
-                "accepted with a road of two or more segments",
-                self.roads.shared,
-            ),
-            (
-                "with a road that is drawn in both orders",
-                self.roads.turned,
-            ),
-            (
-                "in which a segment opens while another one of its road is open",
-                self.roads.opens_beside,
-            ),
-            (
-                "in which a segment closes while another one of its road is open",
-                self.roads.closes_beside,
-            ),
         ];
         print::counts(rt, &rows)
+    }
+
+    // Internal: prints the counts, but for those of the answers 1.
+    pub fn report(&self, rt: &impl Print) -> io::Result<()> {
+        self.report_lists(rt)?;
+        let faults = [
+            ("answers and names changed on purpose", self.planted),
+            ("noticed", self.noticed),
+        ];
+        print::counts(rt, &faults)?;
+        self.report_answers(rt)?;
+        print::counts(rt, &[("kept", self.kept)])?;
+        self.report_replies(rt)?;
+        self.roads
+            .report(rt, "accepted with a road of two or more segments")
     }
 }
