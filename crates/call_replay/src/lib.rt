@@ -1,7 +1,6 @@
 // The public call `replay`: the checks, then the recursion over the windows of the whole list.
 #![tactic(auto)]
 
-mod checks;
 mod list;
 
 ghost use Rattle.std.specs.Prelude.{◌≡◌};
@@ -11,6 +10,9 @@ ghost use Rattle.theory_timeline.specs.Replay.{replay};
 
 use call_sizes::Refusal;
 use theory_timeline::{EventList, Totals};
+
+// The words of the work table that an event takes.
+const EVENT_WORDS: usize = 256;
 
 // The replay of t events over n junctions and m segments, with the share p; the segments with 1 in `start` are open before the first event. Its outcome is
 // the one that the definition gives for what it is lent; and with any other lending k and any two allowed shares it meets demand 3.
@@ -45,8 +47,10 @@ pub fn replay(
         x,
         y,
     };
-    let open_at_end = checks::check(list, answers, names, work)?;
-    let need = checks::required(t, n, m);
+    // The length of the name table, and the least that it must have.
+    let others = [(names.len(), t)];
+    let open_at_end = replay_checks::check(list, answers, &others, work, EVENT_WORDS)?;
+    let need = replay_checks::required(EVENT_WORDS, t, n, m);
     let kept = list::replay_list(n, p, a, b, start, x, y, answers, names, &mut work[..need]);
     let queries = replay_events::count_queries(n, x, t);
     core_words::clear(work, need);

@@ -1,7 +1,6 @@
 // The public call `replay_junctions`, the sibling of the replay (document 02, No. 8): the checks, then the recursion over the windows of the whole list.
 #![tactic(auto)]
 
-mod checks;
 mod list;
 
 ghost use Rattle.std.specs.Prelude.{◌≡◌};
@@ -12,6 +11,9 @@ ghost use Rattle.theory_junction_timeline.specs.JunctionReplay.{replay_junctions
 use call_sizes::Refusal;
 use theory_junction_timeline::JunctionTotals;
 use theory_timeline::EventList;
+
+// The words of the work table that an event takes.
+const EVENT_WORDS: usize = 1024;
 
 // The replies by the loss of a junction to t events over n junctions and m segments, with the share p; the segments with 1 in `start` are open before the
 // first event. Its outcome is the one that the definition gives for what it is lent; and with any other lending and any two allowed shares it keeps what is
@@ -46,8 +48,8 @@ pub fn replay_junctions(
         x,
         y,
     };
-    let open_at_end = checks::check(list, answers, work)?;
-    let need = checks::required(t, n, m);
+    let open_at_end = replay_checks::check(list, answers, &[], work, EVENT_WORDS)?;
+    let need = replay_checks::required(EVENT_WORDS, t, n, m);
     list::replay_list(n, p, a, b, start, x, y, answers, &mut work[..need]);
     let queries = replay_events::count_queries(n, x, t);
     core_words::clear(work, need);

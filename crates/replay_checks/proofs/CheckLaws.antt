@@ -59,6 +59,21 @@ unfolding given
 starts_below l p a s h = omega (arith, start_below l.start s h, a.exact.start_exact, pairs_both l.a l.b a.exact.a_exact a.exact.b_exact)
 
 -- ---- 2, 12 and 3
+-- some lengths, and others behind them
+module _ (ts us : List (ℕ × ℕ)) where
+  rows_append : short_rows (ts ++ us) ≡ short_rows ts ++ short_rows us
+  rows_append = go ts
+    where
+      go : (ts : List (ℕ × ℕ)) → short_rows (ts ++ us) ≡ short_rows ts ++ short_rows us
+      go [] = refl
+      go (t ∷ ts) = ap (λ (k : List Row). row (ltb t.0 t.1) 2 0 ∷ k) (go ts)
+
+  pub lengths_refused : (r : declared.Refusal) → numbers_of r ≡ first_fault (short_rows ts) → numbers_of r ≡ first_fault (short_rows (ts ++ us))
+  lengths_refused r e = first_refuses (short_rows ts) (short_rows us) r e ∙ sym (ap first_fault rows_append)
+
+  pub lengths_behind : (0, 0) ≡ first_fault (short_rows ts) → {f : Refusal} → f ≡ first_fault (short_rows us) → f ≡ first_fault (short_rows (ts ++ us))
+  lengths_behind z e = rest_decides (short_rows ts) (short_rows us) (short_numbered ts) z e ∙ sym (ap first_fault rows_append)
+
 -- the tables of both replays, those of `rest`, the tables that are only read, the share
 module _ (rest : List (ℕ × ℕ)) (l : Lent) (p : ℕ) where
   abbrev both : List Row

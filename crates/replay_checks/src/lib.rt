@@ -1,15 +1,16 @@
 // The checks of a replay, in document 01's order. They read the tables only.
 #![tactic(auto)]
 
-ghost use Rattle.std.specs.Prelude.{[], ◌∷◌, cond, ◌≡◌, ◌≤◌, ltb, length, Result};
+ghost use Rattle.std.specs.Prelude.{[], ◌∷◌, ◌++◌, ◌+◌, ◌*◌, cond, ◌≡◌, ◌≤◌, ltb, length, List, Result, ℕ};
 ghost use Rattle.theory_graph.specs.Lists.{pairs};
 ghost use Rattle.call_open_set.specs.OpenSet.{is_open};
 ghost use Rattle.call_sizes.specs.Numbers.{refused_by};
 ghost use Rattle.call_sizes.specs.Refusal.{first_fault};
-ghost use Rattle.replay_checks.specs.Check.{CanCheckList, CheckedEvents, CheckedList, CheckedTables, SizesFit, bound_faults, event_row, tables_of};
+ghost use Rattle.theory_timeline.specs.Call.{lent_of};
+ghost use Rattle.replay_checks.specs.Check.{CanCheckList, CheckedEvents, CheckedList, CheckedTables, bound_faults, event_row, tables_of};
 
 use call_kinds::Kind;
-use call_sizes::Refusal;
+use call_sizes::{Refusal, Sizes};
 use theory_timeline::EventList;
 
 // Whether segment y is open, where the segments of `held` are; event i is refused by 5 where there is no such segment.
@@ -80,9 +81,14 @@ fn check_events(l: EventList, first: [u64; 128]) -> Result<[u64; 128], Refusal>
 }
 
 // Refusals 2, 12 and 3, in this order: a table shorter than its least length, one that is only read longer than its size, the share below 4 or above 12.
-// `own` has the lengths of the call's other tables with their least lengths.
-fn check_bounds(l: EventList, answers: &[u8], own: &[(usize, usize)]) -> Result<(), Refusal>
-    ensures { refused_by result ≡ first_fault (bound_faults own.now (tables_of l.entry answers.now) l.entry.p) }
+// `others` and `work` are the lengths of the call's other tables with their least lengths, that of the work table last.
+fn check_bounds(
+    l: EventList,
+    answers: &[u8],
+    others: &[(usize, usize)],
+    work: (usize, usize),
+) -> Result<(), Refusal>
+    ensures { refused_by result ≡ first_fault (bound_faults (others.now ++ work ∷ []) (tables_of l.entry answers.now) l.entry.p) }
 {
     // In each pair the first number must not be below the second.
     let least = [
@@ -102,7 +108,8 @@ fn check_bounds(l: EventList, answers: &[u8], own: &[(usize, usize)]) -> Result<
     ];
     let share = [(l.p, 4), (12, l.p)];
     call_sizes::check_pairs(&least, Refusal::ShortTable)?;
-    call_sizes::check_pairs(own, Refusal::ShortTable)?;
+    call_sizes::check_pairs(others, Refusal::ShortTable)?;
+    call_sizes::check_pairs(&[work], Refusal::ShortTable)?;
     call_sizes::check_pairs(&most, Refusal::LongTable)?;
     call_sizes::check_pairs(&share, Refusal::Share)
 }
@@ -118,11 +125,31 @@ fn check_list(l: EventList) -> Result<usize, Refusal>
     Ok(call_open_set::count(held))
 }
 
-// Internal: all checks behind that of the sizes, and where nothing is refused how many segments are open at the end.
-pub fn check(l: EventList, answers: &[u8], own: &[(usize, usize)]) -> Result<usize, Refusal>
-    requires { SizesFit l }
-    ensures { CheckedTables own.now (tables_of l.entry answers.now) l.entry.p result }
+// Internal: the required length of the work table of a call that takes this many words for an event.
+pub fn required(event_words: usize, t: usize, n: usize, m: usize) -> usize
+    requires { (event_words ≤ 1024) × (t ≤ 4096) × (n ≤ 4096) × (m ≤ 8192) }
+    ensures { result ≡ event_words * t + 32 * n + 8 * m + 2048 }
 {
-    check_bounds(l, answers, own)?;
+    event_words * t + 32 * n + 8 * m + 2048
+}
+
+// Internal: the first fault of a call that is lent this list, an answer table, a work table with this many words for an event, and `others`, the length of each
+// other table with the least that it must have. Where there is none, how many segments are open at the end. Nothing but the lengths of those tables is
+// looked at, whatever the names and the words in them.
+pub fn check(
+    l: EventList,
+    answers: &[u8],
+    others: &[(usize, usize)],
+    work: &[u32],
+    event_words: usize,
+) -> Result<usize, Refusal>
+    requires { event_words ≤ 1024 }
+    ensures { (names words : List ℕ)
+        → CheckedTables (others.now ++ (length work.now, event_words * l.entry.t + 32 * l.entry.n + 8 * l.entry.m + 2048) ∷ [])
+        (lent_of l.entry answers.now names words) l.entry.p result }
+{
+    Sizes::check(l.n, l.m, l.t, 0)?;
+    let need = required(event_words, l.t, l.n, l.m);
+    check_bounds(l, answers, others, (work.len(), need))?;
     check_list(l)
 }
