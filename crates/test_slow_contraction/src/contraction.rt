@@ -1,5 +1,7 @@
 // The slow contraction: links by taking away the nodes of each third kept class, names by removing the edges in turn, and pieces by comparing each active entry
 // with those before it.
+ghost use Rattle.std.specs.Prelude.{◌≤◌};
+
 use test_library::contractions::{Counts, Graph, Lengths, Sizes, Small};
 use test_library::refusals::Refusal;
 use test_library::tables::{Marks, Numbers};
@@ -199,7 +201,9 @@ fn contracted(given: &Graph) -> Small {
 }
 
 // Internal: the least length of the work table. Sizes count up to one past their limits.
-pub fn required(sizes: Sizes) -> usize {
+pub fn required(sizes: Sizes) -> usize
+    ensures { result ≤ 131608 }
+{
     sizes.n.min(4097) * 16 + sizes.m.min(8193) * 8 + 512
 }
 

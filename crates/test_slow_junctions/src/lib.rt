@@ -3,6 +3,8 @@
 // the product. Networks have at most 512 junctions and 512 segments, but for rings, which may have the full size.
 #![tactic(auto)]
 
+ghost use Rattle.std.specs.Prelude.{◌≤◌};
+
 use test_library::replays::{Answers, Event, Lengths, List, Replayed, Sizes};
 use test_library::{calls, tables};
 use test_slow_graphs::graphs::OpenGraph;
@@ -17,7 +19,9 @@ pub struct Wanted {
 }
 
 // Internal: the least length of the work table. Sizes count up to one past their limits.
-pub fn required(sizes: Sizes) -> usize {
+pub fn required(sizes: Sizes) -> usize
+    ensures { result ≤ 4394024 }
+{
     sizes.t.min(4097) * 1024 + sizes.n.min(4097) * 32 + sizes.m.min(8193) * 8 + 2048
 }
 

@@ -244,7 +244,9 @@ pub fn answer_by_segments(list: &List, open: &[bool], u: usize, v: usize) -> u8 
 }
 
 // Internal: the least length of the work table. Sizes count up to one past their limits.
-pub fn required(sizes: Sizes) -> usize {
+pub fn required(sizes: Sizes) -> usize
+    ensures { result ≤ 1247528 }
+{
     sizes.t.min(4097) * 256 + sizes.n.min(4097) * 32 + sizes.m.min(8193) * 8 + 2048
 }
 
