@@ -16,6 +16,7 @@ const EVENT_WORDS: usize = 256;
 
 // The replay of t events over n junctions and m segments, with the share p; the segments with 1 in `start` are open before the first event. Its outcome is
 // the one that the definition gives for what it is lent; and with any other lending k and any two allowed shares it meets demand 3.
+// Kept: the documents name the parameters of the public call.
 pub fn replay(
     n: usize,
     m: usize,

@@ -18,6 +18,7 @@ const EVENT_WORDS: usize = 1024;
 // The replies by the loss of a junction to t events over n junctions and m segments, with the share p; the segments with 1 in `start` are open before the
 // first event. Its outcome is the one that the definition gives for what it is lent; and with any other lending and any two allowed shares it keeps what is
 // said of the two.
+// Kept: the documents name the parameters of the public call.
 pub fn replay_junctions(
     n: usize,
     m: usize,

@@ -1,6 +1,5 @@
 // The output: numbers in base ten, one line for each query, the totals, or the refusal. Each function writes its text at `at` and answers where the next goes.
-// Kept: the program's promise is that its whole text is written, and `write!` answers a Result that no clause of std calls Ok where there is room. So numbers
-// are written digit by digit too.
+// Kept: the promise that the whole text is written; no clause of std calls a `write!` Ok where there is room, so numbers and texts are put by hand.
 #![tactic(auto)]
 
 ghost use Rattle.std.specs.Prelude.{[], ◌+◌, ◌*◌, ◌<◌, ◌≤◌, if◌then◌else◌, length};

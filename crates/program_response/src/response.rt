@@ -39,6 +39,7 @@ pub(crate) fn replay_input(input: &[u8], header: Header, work: &mut [u32], out: 
     ensures work_after { work.new ≡ (replay (input_lent work.old input.now) header.p).work }
 {
     let Header { n, m, t, p } = header;
+    // Kept: fixed memory without a heap; a front of each table is filled and lent.
     let mut a = [0u16; 64];
     let mut b = [0u16; 64];
     let mut start = [0u16; 64];

@@ -11,7 +11,8 @@ use lib.ListN.{get_or, length, set, take}
 use lib.Seq.{take_all, take-suc}
 use native.Mathlib.Numerals.{add-one}
 use native.Mathlib.Omega.{arith}
-use borrow.Author.Tests.{eq-eqb, eqb-false, eqb-true, le-ltb, lt-ltb, ltb-false}
+use borrow.Author.Count.{below_more}
+use borrow.Author.Tests.{eq-eqb, eqb-true, le-ltb, lt-ltb, ltb-false}
 use Rattle.std.specs.Prelude.{Err, IfOk, Ok, Result}
 use Rattle.std.specs.Result.{IsErrAnd}
 use Rattle.std.proofs.lemmas.Result.{err_from_is_err_and}
@@ -43,10 +44,6 @@ use Rattle.replay_checks.specs.Check.{CanCheckList, CheckedEvents, CheckedList, 
 -- what a `?` returns is the refusal that it met
 pub refusal_returned : {T : Type 0} (r : Result T declared.Refusal) (e : declared.Refusal) → IsErrAnd r (λ d. d ≡ e) → r ≡ Err e
 refusal_returned r e h = let (d, is, same) = err_from_is_err_and r h in is ∙ ap Err same
-
--- what holds below s and at s holds below s + 1
-pub below_next : (f : ℕ → Bool) (s : ℕ) → ((u : ℕ) → u < s → f u ≡ false) → f s ≡ false → (u : ℕ) → u < s + 1 → f u ≡ false
-below_next f s h t u l = on_bool (eqb u s) (λ q. ap f (eqb-true u s q) ∙ t) (λ q. let ne : ¬ (u ≡ s) = eqb-false u s q in h u (omega arith))
 
 -- the segments open before the end are those after all events
 ends_with : (l : Lent) → open_before (given l) (size (given l)) ≡ after_all l.n (pairs l.x l.y) (at_start l.start)
@@ -305,7 +302,7 @@ module _ {l : EventList} (q : CanCheckList l) {o : SegmentSet} {held : List ℕ}
               q' ∙ ap₂ (λ (v : Event) (w : SegmentSet). after l.n v w) (sym event_is) p.held_open ∙ after_append l.n (take i evs) (get_or evs i (0, 0) ∷ []) o
               ∙ ap (λ (k : List Event). after_all l.n k o)
               (sym (ap (λ k. take k evs) (add-one i) ∙ take-suc evs i (0, 0) (omega (arith, within_t, pairs_both l.x.now l.y.now q.exact.x_exact q.exact.y_exact))));
-          fine = below_next (λ u. not (eqb (fault_of l.n l.m o evs u) 0)) i p.fine (ap not (eq-eqb (fault_of l.n l.m o evs i) 0 (sym fault_is ∙ no_fault)));
+          fine = below_more (λ u. not (eqb (fault_of l.n l.m o evs u) 0) ≡ false) i p.fine (ap not (eq-eqb (fault_of l.n l.m o evs i) 0 (sym fault_is ∙ no_fault)));
         }
 
 module _ {l : EventList} (q : CanCheckList l) where

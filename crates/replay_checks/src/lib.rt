@@ -61,6 +61,7 @@ fn check_event(
 }
 
 // The events, where the segments of `first` are open before them: the open set is handed on from event to event, and the one after the last is returned.
+// Kept: the documents ask for the set by value as it changes.
 fn check_events(l: EventList, first: [u64; 128]) -> Result<[u64; 128], Refusal>
     requires { CanCheckList l }
     ensures { CheckedEvents l.entry.n l.entry.m (is_open first) (pairs l.entry.x.now l.entry.y.now) l.entry.t result }
