@@ -11,8 +11,8 @@ use test_library::{print, random, refusals, tables};
 // The number by which the sizes are refused, 0 where they are accepted.
 fn code(n: usize, m: usize, t: usize, k: usize) -> usize {
     match call_sizes::Sizes::check(n, m, t, k) {
-        call_sizes::SizesReply::Within(_) => 0,
-        call_sizes::SizesReply::Refused(code, _) => code,
+        Ok(_) => 0,
+        Err(refusal) => refusal.code(),
     }
 }
 
@@ -42,8 +42,11 @@ fn differ(seed: usize) -> bool {
 // The check number of the first t bytes.
 fn check_number(table: &[u8], t: usize) -> Result<u32, Refusal> {
     match call_check_number::check_number(table, t) {
-        call_check_number::CheckNumberReply::Number(h) => Ok(h),
-        call_check_number::CheckNumberReply::Refused(code, place) => Err(Refusal { code, place }),
+        Ok(number) => Ok(number),
+        Err(refusal) => Err(Refusal {
+            code: refusal.code(),
+            place: refusal.place(),
+        }),
     }
 }
 

@@ -1,5 +1,4 @@
 // Calls of contract.
-use call_contract::ContractReply;
 use test_library::calls;
 use test_library::calls::Lending;
 use test_library::contractions::{Contracted, Counts, Graph, Lengths, Reply, Sizes, Small, Wrong};
@@ -17,10 +16,16 @@ struct Written<'a> {
     work: &'a mut [u32],
 }
 
-fn plain(r: ContractReply) -> Reply {
-    match r {
-        ContractReply::Done(nodes, edges) => Ok(Counts { nodes, edges }),
-        ContractReply::Refused(code, place) => Err(Refusal { code, place }),
+fn plain(reply: Result<call_contract::Counts, call_contract::Refusal>) -> Reply {
+    match reply {
+        Ok(counts) => Ok(Counts {
+            nodes: counts.nodes,
+            edges: counts.edges,
+        }),
+        Err(refusal) => Err(Refusal {
+            code: refusal.code(),
+            place: refusal.place(),
+        }),
     }
 }
 

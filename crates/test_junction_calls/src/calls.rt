@@ -3,7 +3,6 @@ use test_library::calls;
 use test_library::calls::Lending;
 use test_library::refusals::Refusal;
 use test_library::replays::{Lengths, List, ReplayCall, Replayed, Reply, Sizes, Totals};
-use theory_junction_timeline::JunctionReply;
 
 // The work table for 4096 junctions, 8192 segments and 1200 events, and some words behind it. For 4096 events it would be 17 MB.
 pub const WORDS: usize = 1427464;
@@ -11,14 +10,17 @@ pub const WORDS: usize = 1427464;
 // The sibling, by the loss of a junction.
 pub struct ByJunctions;
 
-fn plain(r: JunctionReply) -> Reply {
-    match r {
-        JunctionReply::Done(t) => Ok(Totals {
+fn plain(reply: Result<theory_junction_timeline::JunctionTotals, call_sizes::Refusal>) -> Reply {
+    match reply {
+        Ok(t) => Ok(Totals {
             queries: t.queries,
             open: t.open,
             kept: 0,
         }),
-        JunctionReply::Refused(code, place) => Err(Refusal { code, place }),
+        Err(refusal) => Err(Refusal {
+            code: refusal.code(),
+            place: refusal.place(),
+        }),
     }
 }
 

@@ -3,7 +3,6 @@ use test_library::calls;
 use test_library::refusals::Refusal;
 use test_library::replays::{Lengths, List, ReplayCall, Replayed, Reply, Sizes, Totals};
 use test_slow_replay::replay;
-use theory_timeline::ReplayReply;
 
 // The longest work table that a call may want, and some words behind it.
 pub const WORDS: usize = 1247536;
@@ -11,14 +10,17 @@ pub const WORDS: usize = 1247536;
 // The replay, by the loss of a road.
 pub struct ByRoads;
 
-fn plain(r: ReplayReply) -> Reply {
-    match r {
-        ReplayReply::Done(t) => Ok(Totals {
+fn plain(reply: Result<theory_timeline::Totals, call_sizes::Refusal>) -> Reply {
+    match reply {
+        Ok(t) => Ok(Totals {
             queries: t.queries,
             open: t.open,
             kept: t.kept,
         }),
-        ReplayReply::Refused(code, place) => Err(Refusal { code, place }),
+        Err(refusal) => Err(Refusal {
+            code: refusal.code(),
+            place: refusal.place(),
+        }),
     }
 }
 
