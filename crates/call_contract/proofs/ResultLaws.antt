@@ -119,11 +119,16 @@ module _ (l : Lent) (s : Accepted l) where
     edges_length : length (plain (edges_out e w₂)) ≡ e
     edges_length = ap length plain_out ∙ table_length (λ j. (node LOWER w₂ j, node UPPER w₂ j)) 0 e
 
-    pub edges_few : e ≤ l.n
+    edges_few : e ≤ l.n
     edges_few = omega (arith, edges_length, small_edges_most (plain (named_edges l)) (entries l) h (plain (edges_out e w₂)) r.ρ r.σ graph, r.less)
 
-    pub edges_room : e ≤ 2 * l.k
+    edges_room : e ≤ 2 * l.k
     edges_room = omega (arith, edges_length, small_edges_entries (plain (named_edges l)) (entries l) h (plain (edges_out e w₂)) r.ρ r.σ graph, entries_length l s)
+
+    -- of each field of the edges out
+    pub can_fill : (j : ℕ) (out : List ℕ) → j < 16 → 2 * l.k ≤ length out → ((i : ℕ) → i < e → node j w₂ i < 65536)
+        → (16 * e ≤ length w₂) × (e ≤ length out) × (j < 16) × ((i : ℕ) → i < e → node j w₂ i < 65536)
+    can_fill j out b room fits = (omega (arith, words_length, s.long.work_length, edges_few), omega (arith, edges_room, room), b, fits)
 
     -- ---- what they give
     abbrev result : Contracted

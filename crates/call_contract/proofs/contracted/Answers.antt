@@ -1,7 +1,7 @@
 -- `contracted` meets its contract.
 use native.Mathlib.Omega.{arith}
 use Rattle.theory_contraction.proofs.Acceptance.{sound}
-use Rattle.call_contract.proofs.ResultLaws.{can_number, edges_few, edges_room, ends_fit, loadable, map_fits, names_fit, numbered_length}
+use Rattle.call_contract.proofs.ResultLaws.{can_fill, can_number, ends_fit, loadable, map_fits, names_fit, numbered_length}
 use Rattle.call_contract.proofs.ResultLaws.{outcome_is, words_length}
 use Rattle.call_contract.proofs.contracted.Goals as goal
 
@@ -20,34 +20,22 @@ pub fill_ends-requires : goal.fill_ends-requires
 fill_ends-requires c =
     let s = sound _ c.requires in
     let p = c.load-d.ensures in
-    let r = c.reduce-small.ensures in (
-      omega (arith, words_length _ s p r, s.long.work_length, edges_few _ s p r),
-      omega (arith, edges_room _ s p r, s.long.out_from_length),
-      omega arith,
-      λ i j. let q = ends_fit _ s p r i (omega arith) in omega (arith, q.0, q.1),
-    )
+    let r = c.reduce-small.ensures in
+    can_fill _ s p r _ _ (omega arith) s.long.out_from_length (λ i j. (ends_fit _ s p r i j).0)
 
 pub fill_ends-requires-2 : goal.fill_ends-requires-2
 fill_ends-requires-2 c =
     let s = sound _ c.requires in
     let p = c.load-d.ensures in
-    let r = c.reduce-small.ensures in (
-      omega (arith, words_length _ s p r, s.long.work_length, edges_few _ s p r),
-      omega (arith, edges_room _ s p r, s.long.out_to_length),
-      omega arith,
-      λ i j. let q = ends_fit _ s p r i (omega arith) in omega (arith, q.0, q.1),
-    )
+    let r = c.reduce-small.ensures in
+    can_fill _ s p r _ _ (omega arith) s.long.out_to_length (λ i j. (ends_fit _ s p r i j).1)
 
 pub fill_ends-requires-3 : goal.fill_ends-requires-3
 fill_ends-requires-3 c =
     let s = sound _ c.requires in
     let p = c.load-d.ensures in
-    let r = c.reduce-small.ensures in (
-      omega (arith, words_length _ s p r, s.long.work_length, edges_few _ s p r),
-      omega (arith, edges_room _ s p r, s.long.out_names_length),
-      omega arith,
-      λ i j. names_fit _ s p r i (omega arith),
-    )
+    let r = c.reduce-small.ensures in
+    can_fill _ s p r _ _ (omega arith) s.long.out_names_length (names_fit _ s p r)
 
 pub fill_pieces-requires : goal.fill_pieces-requires
 fill_pieces-requires c =
