@@ -1,6 +1,6 @@
 #![tactic(auto)]
 
-ghost use Rattle.std.specs.Prelude.{◌≡◌, ◌+◌, ◌*◌, ◌<◌, ◌≤◌, length};
+ghost use Rattle.std.specs.Prelude.{◌+◌, ◌<◌};
 ghost use Rattle.core_words.specs.Room.{NodeRoom};
 ghost use Rattle.core_components.specs.Components.{CanMergeComponents};
 ghost use Rattle.core_blocks.specs.Classes.{BlocksMerged, CanMerge, CanMergeClass, CanMergeEdge, CanMergePath, ClassMerged, EdgesMerged, PathMerged};

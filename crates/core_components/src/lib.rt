@@ -2,7 +2,7 @@
 // merged, by union with path halving. A class is told by its top, its node that comes first in the order.
 #![tactic(auto)]
 
-ghost use Rattle.std.specs.Prelude.{◌≡◌, ◌+◌, ◌*◌, ◌<◌, ◌≤◌, length};
+ghost use Rattle.std.specs.Prelude.{◌≡◌};
 ghost use Rattle.core_words.specs.Fields.{ROOT, TOP, Put, node};
 ghost use Rattle.core_words.specs.Room.{NodeRoom};
 ghost use Rattle.core_components.specs.Tops.{CanFind, Found, CanMergeUp, MergedUpAt, CanMergePath, SeenTop, SameTree, MergedPath};

@@ -13,6 +13,7 @@ use core_words::*;
 // Internal: second uses of fields. MEMBERS of a class's first node is the number of its relevant nodes, BELOW of a node the number of classes with relevant nodes
 // right below it, LAST of a class's first node one more than the number of its last relevant node so far, FROM of a node one more than the number that its
 // cycle's edge comes from.
+// Kept: constants and no enum, as those of core_words, since a field is an offset in the lent words (fixed memory).
 pub const MEMBERS: usize = 7;
 
 pub const BELOW: usize = 8;
@@ -173,6 +174,7 @@ pub fn number_nodes(work: &mut [u32], n: usize, m: usize, k: usize, seen: usize)
 }
 
 // Writes the edge of a and b as the e-th behind the m edges, where there is an a; the new count.
+// Kept: the two ends apart, since one of them may be missing: a struct of an `Option` and a number is no plainer.
 fn write_edge(work: &mut [u32], n: usize, m: usize, e: usize, a: Option<usize>, b: usize) -> usize
     requires { CanWriteEdge n m e (link_word a) b work.old }
     ensures { Written n m e (edge_if (link_word a) b) work.old work.new result }

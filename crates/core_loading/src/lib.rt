@@ -23,6 +23,7 @@ pub fn enter(work: &mut [u32], n: usize, d: usize, v: usize) -> usize
 }
 
 // Internal: writes edge j, from a to b, with the name c, into the half-edges.
+// Kept: the ends and the name apart, since each caller has them from three tables: a struct is no plainer.
 pub fn put_edge(work: &mut [u32], n: usize, j: usize, a: usize, b: usize, c: usize)
     requires { (16 * n + 6 * j + 6 ≤ length work.old) × (a < 65536) × (b < 65536) × (c < 65536) × (n ≤ 65536) × (j < 32768) }
     ensures { PutEdge n j a b c work.old work.new }

@@ -1,7 +1,7 @@
 // The edges between each number and its parent number, written in ascending order without a sort: each number is put into the list of its parent where that
 // is smaller, from the last number down, so that each list ascends; then for each number its list is written, with its own parent merged in where that is
 // larger.
-ghost use Rattle.std.specs.Prelude.{◌+◌, ◌-◌, ◌*◌, ◌<◌, ◌≤◌, length};
+ghost use Rattle.std.specs.Prelude.{◌+◌, ◌*◌, ◌<◌, ◌≤◌, length};
 ghost use Rattle.core_words.specs.Fields.{ABOVE, node};
 ghost use Rattle.core_words.specs.Links.{link_word};
 ghost use Rattle.core_reduce.specs.EdgeList.{EdgePair, FirstFrom, LeastNonzero, IfAbove, NextChild, CanList, Pushing, Writing, EdgesListed};

@@ -25,7 +25,7 @@
 
 mod edge_list;
 
-ghost use Rattle.std.specs.Prelude.{◌≡◌, ◌-◌, ◌*◌, ◌<◌, ◌≤◌, length};
+ghost use Rattle.std.specs.Prelude.{◌≡◌, ◌-◌, ◌<◌};
 ghost use Rattle.core_words.specs.Clearing.{Cleared, ClearedNode};
 ghost use Rattle.core_words.specs.Fields.{NUMBER, TOP, node};
 ghost use Rattle.core_words.specs.Room.{NodeRoom};
