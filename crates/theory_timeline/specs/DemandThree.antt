@@ -1,5 +1,5 @@
 -- Demand 3: one statement about two replays, with its parts (a) to (e). Its proof is proofs/DemandThree.
--- It cites, of Replay: Lent, given, Outcome, replay; of Call: outcome, with the reply's type, Totals or a refusal; of Windows: Timeline, Window, windows, network, active,
+-- It cites, of Replay: Lent, given, Outcome, replay; of Call: outcome, of Totals or a refusal; of Windows: Timeline, Window, windows, network, active,
 -- small, small_named, stands; of Roads: road_answer, the answer of two junctions by the loss of roads, DifferentRoads, Apart; of the crate theory_graph: Edge,
 -- answer, the answer of two nodes by the loss of edges, image, the edges of a list with their ends moved, different, the number of different entries, most_nodes,
 -- the bound 2k - 2 (k where k is below 2), and sum; of the crate theory_names: Named, a list of edges with names, plain, the edges alone, hangs, the smallest

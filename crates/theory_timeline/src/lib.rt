@@ -10,8 +10,8 @@ pub struct Totals {
     pub kept: usize,
 }
 
-// Internal: the sizes, the share and the five tables that a replay only reads, as a call is lent them: n junctions, m segments from a to b with their entries in
-// the starting table, t events with their X and Y. That they fit together is not known before the checks.
+// Internal: the sizes, the share and the five tables that a replay only reads, as a call is lent them: n junctions, m segments from a to b with their entries
+// in the starting table, t events with their X and Y. That they fit together is not known before the checks.
 #[derive(Clone, Copy)]
 pub struct EventList<'a> {
     pub n: usize,
