@@ -130,6 +130,7 @@ impl Contracted {
     }
 
     // Internal: the number by which it is refused, as it is printed: 0 where there is none, and 99, which is no refusal's number, where an entry was changed.
+    // Kept: 0 and 99 in place of an enum, by the rule that a program prints what it printed.
     pub fn code(&self) -> usize {
         if self.reply.is_err() && self.wrong != Wrong::default() {
             return 99;

@@ -170,6 +170,7 @@ impl Replayed {
     }
 
     // Internal: the refusal as it is printed: 0 at 0 where there is none, and by 99, which is no refusal's number, where an entry was changed.
+    // Kept: 0 and 99 in place of an enum, by the rule that a program prints what it printed.
     pub fn printed(&self) -> Refusal {
         let mut refusal = refusals::printed(&self.reply);
         if self.reply.is_err() && !self.is_as_before() {

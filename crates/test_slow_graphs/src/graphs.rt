@@ -85,7 +85,9 @@ impl<'a> OpenGraph<'a> {
 
     // Internal: how many edges part u and v, which are joined.
     pub fn parting(&self, u: usize, v: usize) -> usize {
-        (0..self.count).filter(|e| self.is_parting(*e, u, v)).count()
+        (0..self.count)
+            .filter(|e| self.is_parting(*e, u, v))
+            .count()
     }
 
     // Internal: the answer to a query of u and v.
@@ -189,9 +191,7 @@ impl<'a> Kept<'a> {
 
     // How many parts of z's piece hold an active node when the class z is taken away.
     fn parts(&self, z: usize) -> usize {
-        let left = self
-            .graph
-            .pieces_without(None, |v| self.classes.of(v) == z);
+        let left = self.graph.pieces_without(None, |v| self.classes.of(v) == z);
         let mut met = [false; 512];
         for v in 0..self.graph.nodes {
             if tables::is_marked(self.active, v) && self.classes.pieces.together(z, v) {
