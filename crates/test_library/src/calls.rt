@@ -1,4 +1,5 @@
 // What calls of the product share. Each table that a call may write holds 7 before.
+ghost use Rattle.std.specs.Prelude.{◌+◌, ◌≤◌};
 
 // The value in each table that a call may write.
 pub const BEFORE: u8 = 7;
@@ -25,7 +26,9 @@ impl Lending {
     }
 
     // Internal: the length of a table of which this is the least length.
-    pub fn length(&self, table: usize, least: usize) -> usize {
+    pub fn length(&self, table: usize, least: usize) -> usize
+        ensures { result ≤ least + 3 }
+    {
         if self.longer {
             return least.saturating_add(3);
         }
