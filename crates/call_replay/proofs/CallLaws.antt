@@ -1,6 +1,6 @@
 -- The whole list and the public call: from the events' words to the windows, the queries, and the outcome of an accepted replay and of a refusal.
 -- In order of the code. Assumes nothing.
-use Prim.Native.Nat.{◌<◌, ◌≤◌, ℕ}
+use Prim.Native.Nat.{◌≤◌, ℕ}
 use mathlib.Core.Bool.{Bool, false, true}
 use mathlib.Core.List.{List, ◌++◌, map}
 use mathlib.Core.Path.{◌∙◌, ◌≡◌, ap, refl, sym}

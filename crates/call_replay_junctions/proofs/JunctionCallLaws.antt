@@ -1,6 +1,6 @@
 -- The whole list and the public call of the sibling: from the events' words to the windows, and the outcome of an accepted call and of a refusal.
 -- In order of the code. Assumes nothing.
-use Prim.Native.Nat.{◌<◌, ◌≤◌, ℕ}
+use Prim.Native.Nat.{◌≤◌, ℕ}
 use mathlib.Core.Bool.{Bool, false, true}
 use mathlib.Core.List.{List, ◌++◌}
 use mathlib.Core.Path.{◌∙◌, ◌≡◌, ap, refl, sym}
