@@ -63,13 +63,13 @@ pub fn put_totals(out: &mut [u8], at: usize, totals: Totals) -> usize
     put_text(out, f, b"\n")
 }
 
-// Internal: writes the line of a refusal, which is all that is written then.
+// Internal: writes the line of a refusal.
 #[tactic(auto, using(crate::proofs::TextLaws::text_end, crate::proofs::TextLaws::number_end, crate::proofs::TextLaws::decimal_most))]
-pub fn put_refused(out: &mut [u8], refusal: Refusal) -> usize
-    requires { 53 ≤ length out.old }
-    ensures { Wrote 0 (refused_line (number_of refusal) (place_of refusal)) out.old out.new result }
+pub fn put_refused(out: &mut [u8], at: usize, refusal: Refusal) -> usize
+    requires { at + 53 ≤ length out.old }
+    ensures { Wrote at (refused_line (number_of refusal) (place_of refusal)) out.old out.new result }
 {
-    let a = put_text(out, 0, b"refused ");
+    let a = put_text(out, at, b"refused ");
     let b = put_number(out, a, refusal.code());
     let c = put_text(out, b, b" at ");
     let d = put_number(out, c, refusal.place());

@@ -17,6 +17,6 @@ pub fn respond(input: &[u8], work: &mut [u32], out: &mut [u8]) -> usize
 {
     match program_reading::read_header(input) {
         Ok(header) => response::replay_input(input, header, work, out),
-        Err(refusal) => program_printing::put_refused(out, refusal),
+        Err(refusal) => program_printing::put_refused(out, 0, refusal),
     }
 }

@@ -28,7 +28,7 @@ pub(crate) fn put_reply(
             let at = program_printing::put_queries(out, n, x, answers);
             program_printing::put_totals(out, at, totals)
         }
-        Err(refusal) => program_printing::put_refused(out, refusal),
+        Err(refusal) => program_printing::put_refused(out, 0, refusal),
     }
 }
 
