@@ -2,10 +2,10 @@
 // the search for a bad end and for a bad starting entry.
 #![tactic(auto)]
 
-ghost use Rattle.std.specs.Prelude.{◌≡◌, ◌≤◌, [], ◌∷◌, length, ltb, nat_lt, position};
+ghost use Rattle.std.specs.Prelude.{◌≡◌, ◌≤◌, [], ◌∷◌, cond, length, ltb, nat_lt, position};
 ghost use Rattle.std.specs.List.{list_any};
 ghost use Rattle.call_sizes.specs.Refusal.{bad_ends, bad_start, below_rows, first_fault, first_of, row, seek};
-ghost use Rattle.call_sizes.specs.Numbers.{number_of, place_of, refused_by};
+ghost use Rattle.call_sizes.specs.Numbers.{number_of, numbers_of, place_of, refused_by};
 ghost use Rattle.call_sizes.specs.Sizes.{sizes_outcome, check_sizes, size_faults};
 
 // Why a call is refused: the first fault of what it is lent. The place is that of a segment, an edge, an event or an entry, where one is named.
@@ -101,8 +101,9 @@ impl Sizes {
     }
 }
 
-// Whether of pairs of numbers a first one is below its second.
-fn any_below(pairs: &[(usize, usize)]) -> bool
+// Internal: whether of pairs of numbers a first one is below its second. So it tells whether they are refused by a number, whichever it is (RefusalLaws:
+// `below_any`).
+pub fn any_below(pairs: &[(usize, usize)]) -> bool
     ensures { result ≡ list_any (λ p. nat_lt p.0 p.1) pairs.now }
 {
     pairs.iter().any(|&(first, second)| first < second)
@@ -110,7 +111,8 @@ fn any_below(pairs: &[(usize, usize)]) -> bool
 
 // Internal: this refusal, where of pairs of numbers a first one is below its second. By lengths and least lengths it is that of a short table.
 pub fn check_pairs(pairs: &[(usize, usize)], refusal: Refusal) -> Result<(), Refusal>
-    ensures { place_of refusal ≡ 0 → refused_by result ≡ first_fault (below_rows (number_of refusal) pairs.now) }
+    ensures value { refused_by result ≡ cond (list_any (λ p. nat_lt p.0 p.1) pairs.now) (numbers_of refusal) (0, 0) }
+    ensures rows { place_of refusal ≡ 0 → refused_by result ≡ first_fault (below_rows (number_of refusal) pairs.now) }
 {
     if any_below(pairs) {
         return Err(refusal);

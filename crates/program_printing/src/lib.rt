@@ -63,17 +63,25 @@ pub fn put_totals(out: &mut [u8], at: usize, totals: Totals) -> usize
     put_text(out, f, b"\n")
 }
 
-// Internal: writes the line of a refusal.
+// Internal: writes the line of a refusal by any number, at any place.
 #[tactic(auto, using(crate::proofs::TextLaws::text_end, crate::proofs::TextLaws::number_end, crate::proofs::TextLaws::decimal_most))]
+pub fn put_refused_line(out: &mut [u8], at: usize, code: usize, place: usize) -> usize
+    requires { at + 53 ≤ length out.old }
+    ensures { Wrote at (refused_line code place) out.old out.new result }
+{
+    let a = put_text(out, at, b"refused ");
+    let b = put_number(out, a, code);
+    let c = put_text(out, b, b" at ");
+    let d = put_number(out, c, place);
+    put_text(out, d, b"\n")
+}
+
+// Internal: writes the line of a refusal.
 pub fn put_refused(out: &mut [u8], at: usize, refusal: Refusal) -> usize
     requires { at + 53 ≤ length out.old }
     ensures { Wrote at (refused_line (number_of refusal) (place_of refusal)) out.old out.new result }
 {
-    let a = put_text(out, at, b"refused ");
-    let b = put_number(out, a, refusal.code());
-    let c = put_text(out, b, b" at ");
-    let d = put_number(out, c, refusal.place());
-    put_text(out, d, b"\n")
+    put_refused_line(out, at, refusal.code(), refusal.place())
 }
 
 // Writes the line of event i with this X and this answer, where it is a query of n junctions.

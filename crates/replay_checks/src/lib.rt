@@ -7,7 +7,7 @@ ghost use Rattle.call_open_set.specs.OpenSet.{is_open};
 ghost use Rattle.call_sizes.specs.Numbers.{refused_by};
 ghost use Rattle.call_sizes.specs.Refusal.{first_fault};
 ghost use Rattle.theory_timeline.specs.Call.{lent_of};
-ghost use Rattle.replay_checks.specs.Check.{CanCheckList, CheckedEvents, CheckedList, CheckedTables, bound_faults, event_row, tables_of};
+ghost use Rattle.replay_checks.specs.Check.{CanCheckList, CheckedEvents, CheckedList, CheckedTables, SizesFit, bound_faults, event_row, tables_of};
 
 use call_kinds::Kind;
 use call_sizes::{Refusal, Sizes};
@@ -82,14 +82,14 @@ fn check_events(l: EventList, first: [u64; 128]) -> Result<[u64; 128], Refusal>
 }
 
 // Refusals 2, 12 and 3, in this order: a table shorter than its least length, one that is only read longer than its size, the share below 4 or above 12.
-// `others` and `work` are the lengths of the call's other tables with their least lengths, that of the work table last.
+// `others` and `more` are the lengths of the call's other tables with their least lengths.
 fn check_bounds(
     l: EventList,
     answers: &[u8],
     others: &[(usize, usize)],
-    work: (usize, usize),
+    more: &[(usize, usize)],
 ) -> Result<(), Refusal>
-    ensures { refused_by result ≡ first_fault (bound_faults (others.now ++ work ∷ []) (tables_of l.entry answers.now) l.entry.p) }
+    ensures { refused_by result ≡ first_fault (bound_faults (others.now ++ more.now) (tables_of l.entry answers.now) l.entry.p) }
 {
     // In each pair the first number must not be below the second.
     let least = [
@@ -110,7 +110,7 @@ fn check_bounds(
     let share = [(l.p, 4), (12, l.p)];
     call_sizes::check_pairs(&least, Refusal::ShortTable)?;
     call_sizes::check_pairs(others, Refusal::ShortTable)?;
-    call_sizes::check_pairs(&[work], Refusal::ShortTable)?;
+    call_sizes::check_pairs(more, Refusal::ShortTable)?;
     call_sizes::check_pairs(&most, Refusal::LongTable)?;
     call_sizes::check_pairs(&share, Refusal::Share)
 }
@@ -124,6 +124,20 @@ fn check_list(l: EventList) -> Result<usize, Refusal>
     call_sizes::check_start(l.start)?;
     let held = check_events(l, call_open_set::from_table(l.m, l.start))?;
     Ok(call_open_set::count(held))
+}
+
+// Internal: the first fault behind the sizes of a call that is lent this list and an answer table. `own` has the length of each of its other tables with the least
+// that it must have, whatever these are. Where there is none, how many segments are open at the end.
+pub fn check_lengths(
+    l: EventList,
+    answers: &[u8],
+    own: &[(usize, usize)],
+) -> Result<usize, Refusal>
+    requires { SizesFit l }
+    ensures { CheckedTables own.now (tables_of l.entry answers.now) l.entry.p result }
+{
+    check_bounds(l, answers, own, &[])?;
+    check_list(l)
 }
 
 // Internal: the required length of the work table of a call that takes this many words for an event.
@@ -151,6 +165,6 @@ pub fn check(
 {
     Sizes::check(l.n, l.m, l.t, 0)?;
     let need = required(event_words, l.t, l.n, l.m);
-    check_bounds(l, answers, others, (work.len(), need))?;
+    check_bounds(l, answers, others, &[(work.len(), need)])?;
     check_list(l)
 }

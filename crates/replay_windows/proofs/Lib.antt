@@ -1,3 +1,4 @@
+pub mod DescendLaws
 pub mod PartLaws
 pub mod DescentLaws
 pub mod WholeListLaws

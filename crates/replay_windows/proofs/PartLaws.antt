@@ -1,4 +1,4 @@
--- The recursion over windows, in either replay: what a step leaves for a part, and how the two parts of a window join to it.
+-- The recursion over windows, in either replay: what a step leaves for a part, and how the two parts of a window join to it. What holds for any widths is in DescendLaws.
 -- In order: a step and a part; the two parts of a window; what is written.
 -- Assumes nothing.
 use Prim.Native.Nat.{◌*◌, ◌+◌, ◌-◌, ◌<◌, ◌≤◌, ℕ}
@@ -17,6 +17,8 @@ use Rattle.replay_step.specs.declared.Part.{Part}
 use Rattle.replay_step.specs.declared.Window.{Window}
 use Rattle.theory_timeline.specs.Steps.{Sound}
 use Rattle.theory_timeline.specs.Windows.{Timeline, first_part, size}
+use Rattle.replay_windows.proofs.DescendLaws as descending
+use Rattle.replay_windows.proofs.DescendLaws.{Descends}
 use Rattle.replay_windows.specs.Descent.{WindowDone, WritesParts}
 
 module _ {A B : Timeline → Window → List ℕ → Type 0} {words edges window : ℕ} {room : ℕ → ℕ → ℕ → ℕ} {Made : Part → Graph → List ℕ → List ℕ → Counts → Type 0}
@@ -29,6 +31,10 @@ module _ {A B : Timeline → Window → List ℕ → Type 0} {words edges window
 
   pub area_fits : full ≤ length v
   area_fits = omega (arith, r.enough, o.fits 0 n (omega arith))
+
+  -- it goes down as windows of any widths do
+  pub descends : Descends A B (words_of words) (words_of window) w v
+  descends = record { own = λ g sound b. o.own g sound w r.some v area_fits b; fits = o.fits }
 
   -- a window of one event
   pub done_one : {T : Type 0} {Same : T → T → Type 0} {Wrote : Timeline → ℕ → ℕ → ℕ → T → T → ℕ → Type 0} {before after : T} → n ≡ 1 → Same before after
@@ -57,23 +63,10 @@ module _ {A B : Timeline → Window → List ℕ → Type 0} {words edges window
     -- ---- a step and a part
     module _ {lo c : ℕ} {y z : List ℕ} {k : Window} (t : SteppedOf A B (words_of words) w lo c y z k) (f : take full y ≡ take full v) (e : length z ≡ length v) (h : 11 * c ≤ 10 * n) where
       pub part_area : (g : Timeline) → Sound g → w.at + n ≤ size g → B g w (take full v) → B g k (take (words * k.events) (lent_on z))
-      part_area g sound i a =
-          let x : full + words * k.events ≤ length z = omega (arith, r.enough, o.fits c n h, o.fits 0 c (omega arith), ap (words_of words) t.events, e) in
-          let u : take (words * c) (drop full z) ≡ take (words * k.events) (take (length z - full) (drop full z)) =
-          ap (λ (m : ℕ). take (words * m) (drop full z)) (sym t.events) ∙ sym (lent_take full (words * k.events) z x) in
-          rw at (subst (λ (v : List ℕ). B g k v) u (t.made g sound i (rw f (o.own g sound w r.some v area_fits a))))
+      part_area g sound i a = rw at (descending.part_area r descends t f e h g sound i a)
 
       part_ready : w.at ≤ lo → lo + c ≤ w.at + n → 0 < c → WindowReadyOf B (words_of words) (words_of window) k p (lent_on z)
-      part_ready a b s = record {
-        g = r.g;
-        sound = r.sound;
-        inside = omega (arith, r.inside, t.at, t.events);
-        area = part_area r.g r.sound r.inside r.area;
-        some = omega (arith, t.events);
-        much = omega (arith, r.much, t.at, t.events);
-        share = r.share;
-        enough = rw (length-take, length-drop) (omega (arith, r.enough, o.fits c n h, ap (words_of window) t.events, ap (λ (k : ℕ). k * w.events) at, e));
-      }
+      part_ready a b s = rw at (descending.part_ready r descends t f e h a b s)
 
     -- ---- the two parts of a window that is cut
     module _ (cut : ¬ (n ≡ 1)) {c : ℕ} (first : c ≡ first_part p n) where

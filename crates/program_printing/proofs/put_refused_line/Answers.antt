@@ -3,13 +3,12 @@
 use Rattle.std.proofs.Common.{[], ◌∷◌}
 use Rattle.program_printing.proofs.TextLaws.{wrote_then}
 use Rattle.theory_timeline.specs.Program.{decimal, refused_line}
-use Rattle.program_printing.proofs.put_refused.Goals as goal
+use Rattle.program_printing.proofs.put_refused_line.Goals as goal
 
 pub returns : goal.returns
 unfolding refused_line
 returns c =
-    let w = wrote_then (114 ∷ 101 ∷ 102 ∷ 117 ∷ 115 ∷ 101 ∷ 100 ∷ 32 ∷ []) _ c.put_text-a.ensures
-    (wrote_then (decimal c.code.result) _ c.put_number-b.ensures
+    wrote_then (114 ∷ 101 ∷ 102 ∷ 117 ∷ 115 ∷ 101 ∷ 100 ∷ 32 ∷ []) _ c.put_text-a.ensures
+    (wrote_then (decimal c.args.code) _ c.put_number-b.ensures
     (wrote_then (32 ∷ 97 ∷ 116 ∷ 32 ∷ []) _ c.put_text-c.ensures
-    (wrote_then (decimal c.place.result) _ c.put_number-d.ensures c.put_text.ensures))) in
-    rw (c.code.ensures, c.place.ensures) at w
+    (wrote_then (decimal c.args.place) _ c.put_number-d.ensures c.put_text.ensures)))
