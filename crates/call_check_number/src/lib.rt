@@ -4,7 +4,10 @@
 ghost use Rattle.std.specs.Prelude.{◌≡◌};
 ghost use Rattle.call_check_number.specs.CheckNumber.{check_number, check_number_outcome, number_of_first, with_byte};
 
-use call_sizes::{Refusal, Sizes};
+use call_sizes::Sizes;
+
+// What it is refused by, for callers who rest on this crate alone.
+pub use call_sizes::Refusal;
 
 // What a byte turns h into. 31h is five doublings less h; each sum, and the difference, wraps at 4,294,967,296.
 #[tactic(auto, unfolding(crate::specs::CheckNumber::with_byte))]

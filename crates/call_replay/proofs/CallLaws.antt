@@ -1,6 +1,6 @@
 -- The whole list and the public call: from the events' words to the windows, the queries, and the outcome of an accepted replay and of a refusal.
 -- In order of the code. Assumes nothing.
-use Prim.Native.Nat.{◌≤◌, ℕ}
+use Prim.Native.Nat.{◌*◌, ◌+◌, ◌-◌, ◌<◌, ◌≤◌, ℕ}
 use mathlib.Core.Bool.{Bool, false, true}
 use mathlib.Core.List.{List, ◌++◌, map}
 use mathlib.Core.Path.{◌∙◌, ◌≡◌, ap, refl, sym}
@@ -12,17 +12,50 @@ use Rattle.call_sizes.specs.Refusal.{Refusal}
 use Rattle.call_sizes.specs.declared.Refusal as declared
 use Rattle.call_sizes.proofs.RefusalLaws.{number_positive}
 use Rattle.replay_events.specs.Kinds.{queries_by}
-use Rattle.replay_start.proofs.ListLaws.{list_ready_of, queries_are, table_is}
+use Rattle.replay_events.specs.Writing.{EventsWritten, list_of}
+use Rattle.replay_start.proofs.ListLaws.{area_in, inside, list_ready_of, queries_are, table_is}
+use Rattle.replay_start.specs.Whole.{WholeMade}
 use Rattle.replay_step.proofs.WordLaws.{cleared}
-use Rattle.replay_windows.specs.Descent.{Replied, Written, written}
+use Rattle.replay_step.specs.Area.{SmallArea}
+use Rattle.replay_step.specs.declared.Window.{Window}
+use Rattle.replay_windows.specs.Descent.{Replied, WindowDone, Written, written}
 use Rattle.theory_graph.specs.Lists.{over, sum}
 use Rattle.theory_timeline.proofs.Acceptance.{Accepted, AcceptedList, accepted_from, events_length}
 use Rattle.theory_timeline.proofs.DemandThree.{accepted_done, bytes_length, demand_3, names_length}
 use Rattle.theory_timeline.specs.Call.{outcome}
 use Rattle.theory_timeline.specs.DemandThree.{KeepsDemand3}
 use Rattle.theory_timeline.specs.Replay.{Faultless, Lent, Outcome, byte, bytes, done, fault, faults, given, name_at, names_at, open_at_end, queries, refused, replay, required}
-use Rattle.theory_timeline.specs.Windows.{kept, small, windows, windows_from}
+use Rattle.theory_timeline.specs.Windows.{Timeline, kept, small, windows, windows_from}
 use Rattle.call_replay.specs.List.{ListReady, ListReplied, ReplayChecked}
+
+-- ---- the list
+-- where the window of the whole list has its replies, the list has them. WholeListLaws of replay_windows has this of either replay, for `replay_list` there
+module _ {n p : ℕ} {a b start x y answers names work : List ℕ} (q : ListReady n p a b start x y answers names work) where
+  abbrev t : ℕ
+  t = length x
+
+  -- the places of the counts of the roads and of the whole list's area
+  abbrev counts : ℕ
+  counts = 5 * length x + length a
+
+  abbrev area : ℕ
+  area = 5 * length x + length a + length a
+
+  -- the replies of n events from `at` on, in the replay's two tables
+  abbrev Wrote : Timeline → ℕ → ℕ → ℕ → Written → Written → ℕ → Type 0
+  Wrote g p at n before after kept = Replied g at n p before after kept
+
+  module _ (some : 0 < t) {w : List ℕ} (e : EventsWritten n a b start x y w) (l : length w ≡ length work) {z : List ℕ} {r : Window} (m : WholeMade n t a b counts area w z r)
+      (k : length z ≡ length work) where
+    fits : area + 17 * t ≤ length work
+    fits = omega (arith, q.ready.room)
+
+    pub list_replied : {Same : Written → Written → Type 0} {after : Written} {kept : ℕ}
+        → WindowDone SmallArea Same Wrote r p (take (17 * r.events) (take (length z - area) (drop area z))) (written answers names) after kept
+        → ListReplied n p a b start x y (written answers names) after kept
+    list_replied d =
+        let u = d.replied (list_of n a b start x y) q.ready.events.sound (omega (arith, m.at, m.events, inside q.ready.events)) (area_in q.ready.events some e l m k fits) in
+        rw (m.at, m.events) at u
 
 -- ---- an accepted replay
 -- a list with k words of work; and what its windows leave

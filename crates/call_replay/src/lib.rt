@@ -8,8 +8,10 @@ ghost use Rattle.theory_timeline.specs.Call.{lent, outcome};
 ghost use Rattle.theory_timeline.specs.DemandThree.{KeepsDemand3};
 ghost use Rattle.theory_timeline.specs.Replay.{replay};
 
-use call_sizes::Refusal;
 use theory_timeline::{EventList, Totals};
+
+// What a replay is refused by, for callers who do not rest on call_sizes.
+pub use call_sizes::Refusal;
 
 // The words of the work table that an event takes.
 const EVENT_WORDS: usize = 256;

@@ -1,6 +1,6 @@
 -- The whole list and the public call of the sibling: from the events' words to the windows, and the outcome of an accepted call and of a refusal.
 -- In order of the code. Assumes nothing.
-use Prim.Native.Nat.{◌≤◌, ℕ}
+use Prim.Native.Nat.{◌*◌, ◌+◌, ◌-◌, ◌<◌, ◌≤◌, ℕ}
 use mathlib.Core.Bool.{Bool, false, true}
 use mathlib.Core.List.{List, ◌++◌}
 use mathlib.Core.Path.{◌∙◌, ◌≡◌, ap, refl, sym}
@@ -12,18 +12,54 @@ use Rattle.std.specs.Prelude.{Err, Ok}
 use Rattle.call_sizes.proofs.RefusalLaws.{number_positive}
 use Rattle.call_sizes.specs.Refusal.{Refusal}
 use Rattle.call_sizes.specs.declared.Refusal as declared
+use Rattle.junction_start.specs.JunctionWhole.{JunctionWholeMade}
+use Rattle.junction_step.specs.JunctionArea.{JunctionArea}
+use Rattle.junction_windows.specs.JunctionDescent.{JunctionReplied}
 use Rattle.replay_events.specs.Kinds.{queries_by}
-use Rattle.replay_start.proofs.ListLaws.{list_ready_of, queries_are, table_is}
+use Rattle.replay_events.specs.Writing.{EventsWritten, list_of}
+use Rattle.replay_start.proofs.ListLaws.{area_in, inside, list_ready_of, queries_are, table_is}
 use Rattle.replay_step.proofs.WordLaws.{cleared}
+use Rattle.replay_step.specs.declared.Window.{Window}
+use Rattle.replay_windows.specs.Descent.{WindowDone}
 use Rattle.theory_graph.specs.Lists.{over, table}
 use Rattle.theory_timeline.proofs.Acceptance.{AcceptedList}
 use Rattle.theory_timeline.specs.Replay.{Lent, given, open_at_end, queries}
+use Rattle.theory_timeline.specs.Windows.{Timeline}
 use Rattle.theory_junction_timeline.proofs.JunctionDemand.{JunctionAccepted, junction_accepted, junction_bytes_length, junction_demand, junction_done_lem}
 use Rattle.theory_junction_timeline.specs.JunctionCall.{junction_outcome}
 use Rattle.theory_junction_timeline.specs.JunctionDemand.{KeepsJunctionDemand}
 use Rattle.theory_junction_timeline.specs.JunctionReplay.{JunctionFaultless, JunctionOutcome, junction_byte, junction_bytes, junction_done, junction_fault, junction_refused, junction_required}
 use Rattle.theory_junction_timeline.specs.JunctionReplay.{replay_junctions}
 use Rattle.call_replay_junctions.specs.JunctionList.{JunctionChecked, JunctionListReady, JunctionListReplied}
+
+-- ---- the list
+-- where the window of the whole list has its replies, the list has them. WholeListLaws of replay_windows has this of either replay, for `replay_list` there
+module _ {n p : ℕ} {a b start x y answers work : List ℕ} (q : JunctionListReady n p a b start x y answers work) where
+  abbrev t : ℕ
+  t = length x
+
+  -- the places of the counts of the roads and of the whole list's area
+  abbrev counts : ℕ
+  counts = 5 * length x + length a
+
+  abbrev area : ℕ
+  area = 5 * length x + length a + length a
+
+  -- the bytes of n events from `at` on
+  abbrev Wrote : Timeline → ℕ → ℕ → ℕ → List ℕ → List ℕ → ℕ → Type 0
+  Wrote g p at n before after kept = JunctionReplied g at n before after
+
+  module _ (some : 0 < t) {w : List ℕ} (e : EventsWritten n a b start x y w) (l : length w ≡ length work) {z : List ℕ} {r : Window}
+      (m : JunctionWholeMade n t a b counts area w z r) (k : length z ≡ length work) where
+    fits : area + 29 * t ≤ length work
+    fits = omega (arith, q.room)
+
+    pub list_replied : {Same : List ℕ → List ℕ → Type 0} {after : List ℕ} {kept : ℕ}
+        → WindowDone JunctionArea Same Wrote r p (take (29 * r.events) (take (length z - area) (drop area z))) answers after kept
+        → JunctionListReplied n a b start x y answers after
+    list_replied d =
+        let u = d.replied (list_of n a b start x y) q.events.sound (omega (arith, m.at, m.events, inside q.events)) (area_in q.events some e l m k fits) in
+        rw (m.at, m.events) at u
 
 -- ---- an accepted call
 -- a list with k words of work; and what its windows leave

@@ -8,9 +8,11 @@ ghost use Rattle.theory_junction_timeline.specs.JunctionCall.{junction_lent, jun
 ghost use Rattle.theory_junction_timeline.specs.JunctionDemand.{KeepsJunctionDemand};
 ghost use Rattle.theory_junction_timeline.specs.JunctionReplay.{replay_junctions};
 
-use call_sizes::Refusal;
 use theory_junction_timeline::JunctionTotals;
 use theory_timeline::EventList;
+
+// What the call is refused by, for callers who do not rest on call_sizes.
+pub use call_sizes::Refusal;
 
 // The words of the work table that an event takes.
 const EVENT_WORDS: usize = 1024;

@@ -3,13 +3,12 @@
 -- Assumes nothing.
 use Prim.Native.Nat.{◌*◌, ◌+◌, ◌-◌, ◌<◌, ◌≤◌, ℕ}
 use mathlib.Core.List.{List}
-use mathlib.Core.Path.{◌∙◌, ◌≡◌, ap, refl, subst, sym}
-use lib.ListN.{drop, length, length-drop, length-take, take}
+use mathlib.Core.Path.{◌∙◌, ◌≡◌, ap, refl}
+use lib.ListN.{drop, length, take}
 use native.Mathlib.Omega.{arith}
 use borrow.Rule.Slice.PartMut.{put_mid, take_put}
 use Rattle.core_reduce.specs.declared.Counts.{Counts}
 use Rattle.replay_step.proofs.ShareLaws.{Shares, shares}
-use Rattle.replay_step.proofs.WordLaws.{lent_take}
 use Rattle.replay_step.specs.Area.{SteppedOf, WindowReadyOf}
 use Rattle.replay_step.specs.Reduction.{Reduces, StepReadyBy, words_of}
 use Rattle.replay_step.specs.declared.Graph.{Graph}
