@@ -6,7 +6,7 @@ use mathlib.Core.List.{List}
 use mathlib.Core.Path.{◌∙◌, ◌≡◌, ap, refl}
 use lib.ListN.{drop, length, take}
 use native.Mathlib.Omega.{arith}
-use borrow.Rule.Slice.PartMut.{put_mid, take_put}
+use borrow.Rule.Slice.PartMut.{put_mid}
 use Rattle.core_reduce.specs.declared.Counts.{Counts}
 use Rattle.replay_step.proofs.ShareLaws.{Shares, shares}
 use Rattle.replay_step.specs.Area.{SteppedOf, WindowReadyOf}
@@ -64,9 +64,6 @@ module _ {A B : Timeline → Window → List ℕ → Type 0} {words edges window
       pub part_area : (g : Timeline) → Sound g → w.at + n ≤ size g → B g w (take full v) → B g k (take (words * k.events) (lent_on z))
       part_area g sound i a = rw at (descending.part_area r descends t f e h g sound i a)
 
-      part_ready : w.at ≤ lo → lo + c ≤ w.at + n → 0 < c → WindowReadyOf B (words_of words) (words_of window) k p (lent_on z)
-      part_ready a b s = rw at (descending.part_ready r descends t f e h a b s)
-
     -- ---- the two parts of a window that is cut
     module _ (cut : ¬ (n ≡ 1)) {c : ℕ} (first : c ≡ first_part p n) where
       two : 2 ≤ n
@@ -80,7 +77,7 @@ module _ {A B : Timeline → Window → List ℕ → Type 0} {words edges window
 
       module _ {w₁ : List ℕ} {a : Window} (s : SteppedOf A B (words_of words) w w.at c v w₁ a) (l₁ : length w₁ ≡ length v) where
         pub first_ready : (a.events < n) × WindowReadyOf B (words_of words) (words_of window) a p (lent_on w₁)
-        first_ready = (omega (arith, s.events, parts.less), part_ready s refl l₁ parts.first (omega arith) (omega (arith, parts.less)) parts.some)
+        first_ready = rw at (descending.first_ready r descends two first s l₁)
 
         pub first_long : a.at + a.events ≤ w.at + n
         first_long = omega (arith, s.at, s.events, parts.less)
@@ -91,17 +88,14 @@ module _ {A B : Timeline → Window → List ℕ → Type 0} {words edges window
           w₂ = put_mid q (length w₁ - q) w₁ zs
 
           pub area_kept : take full w₂ ≡ take full v
-          area_kept = rw at (take_put full (length w₁ - full) w₁ zs (omega (arith, area_fits, l₁))) ∙ s.front
+          area_kept = rw at (descending.area_kept r descends two first s l₁ zs)
 
           pub second_step : length w₂ ≡ length v → StepReadyBy A words room w (w.at + c) (n - c) w₂
           second_step l₂ = o.enough w p v r (w.at + c) (n - c) w₂ (omega arith) (omega (arith, parts.less)) (omega (arith, parts.less)) l₂ area_kept
 
           module _ {w₃ : List ℕ} {d : Window} (t : SteppedOf A B (words_of words) w (w.at + c) (n - c) w₂ w₃ d) (l₃ : length w₃ ≡ length v) where
             pub second_ready : (d.events < n) × WindowReadyOf B (words_of words) (words_of window) d p (lent_on w₃)
-            second_ready = (
-              omega (arith, t.events, parts.some, two),
-              part_ready t area_kept l₃ parts.second (omega arith) (omega (arith, parts.less)) (omega (arith, parts.less)),
-            )
+            second_ready = rw at (descending.second_ready r descends two first s l₁ area_kept t l₃)
 
             pub second_long : d.at + d.events ≤ w.at + n
             second_long = omega (arith, t.at, t.events, parts.less)
