@@ -128,11 +128,7 @@ fn check_list(l: EventList) -> Result<usize, Refusal>
 
 // Internal: the first fault behind the sizes of a call that is lent this list and an answer table. `own` has the length of each of its other tables with the least
 // that it must have, whatever these are. Where there is none, how many segments are open at the end.
-pub fn check_lengths(
-    l: EventList,
-    answers: &[u8],
-    own: &[(usize, usize)],
-) -> Result<usize, Refusal>
+pub fn check_lengths(l: EventList, answers: &[u8], own: &[(usize, usize)]) -> Result<usize, Refusal>
     requires { SizesFit l }
     ensures { CheckedTables own.now (tables_of l.entry answers.now) l.entry.p result }
 {
