@@ -4,7 +4,7 @@ use Rattle.std.proofs.Common.{◌≡◌, ap, arith, sym, ◌∙◌}
 use Rattle.std.specs.Prelude.{IsErrAnd, Result}
 use Rattle.std.proofs.lemmas.Result.{err_from_is_err_and}
 use Rattle.theory_contraction.proofs.Acceptance.{contraction_done, contraction_refused}
-use Rattle.theory_contraction.specs.Contraction.{Lent, Outcome, contraction, done, fault, refused}
+use Rattle.theory_contraction.specs.Contraction.{Faultless, Lent, Outcome, contraction, done, fault, refused}
 use Rattle.call_contract.specs.Reply.{outcome}
 use Rattle.call_sizes.proofs.RefusalLaws.{number_positive}
 use Rattle.call_sizes.specs.Numbers.{numbers_of}
@@ -21,5 +21,8 @@ module _ (l : Lent) where
       let c = ap (λ (f : definition.Refusal). f.0) q in
       rw (p.1, p.2) (ap (refused l) q ∙ sym (contraction_refused l (λ z. omega (arith, number_positive e))))
 
+  pub faultless : (0, 0) ≡ fault l → Faultless l
+  faultless e = ap (λ (f : definition.Refusal). f.0) (sym e)
+
   pub outcome_done : (0, 0) ≡ fault l → {o : Outcome} → o ≡ done l → o ≡ contraction l
-  outcome_done e q = q ∙ sym (contraction_done l (ap (λ (f : definition.Refusal). f.0) (sym e)))
+  outcome_done e q = q ∙ sym (contraction_done l (faultless e))

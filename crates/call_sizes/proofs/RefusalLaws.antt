@@ -12,12 +12,12 @@ use lib.Seq.{length-take-le}
 use native.Mathlib.Numerals.{add-one}
 use native.Mathlib.Omega.{arith}
 use borrow.Author.Tests.{eqb-false, eqb-true, le-ltb, lt-leb, ltb-false, ne_eqb}
-use Rattle.std.specs.Prelude.{IsErrAnd, None, Option, Result, Some, position}
+use Rattle.std.specs.Prelude.{IsErrAnd, None, Option, Result, Some, nat_lt, position}
 use Rattle.std.specs.List.{list_any, prefix_len}
 use Rattle.std.proofs.lemmas.List.{get_or-take}
 use Rattle.std.proofs.lemmas.Result.{err_from_is_err_and}
 use Rattle.theory_graph.proofs.Booleans.{on_bool}
-use Rattle.call_sizes.specs.Numbers.{number_of, numbers_of, refused_by}
+use Rattle.call_sizes.specs.Numbers.{number_of, numbers_of, place_of, refused_by}
 use Rattle.call_sizes.specs.Refusal.{Refusal, Row, bad_ends, below_rows, first_fault, first_of, long_rows, row, seek, short_rows}
 use Rattle.call_sizes.specs.Sizes.{size_faults}
 use Rattle.call_sizes.specs.declared.Refusal as declared
@@ -97,6 +97,19 @@ below_any c (t ∷ ts) = go (ltb t.0 t.1) (below_any c ts)
         → cond b (c, 0) (first_fault (below_rows c ts)) ≡ cond (b || list_any (λ (t : ℕ × ℕ). ltb t.0 t.1) ts) (c, 0) (0, 0)
     go true h = refl
     go false h = h
+
+-- what the check of pairs replies where a first number is below its second, and where none is
+module _ (r : declared.Refusal) (ts : List (ℕ × ℕ)) where
+  abbrev some_below : Bool
+  some_below = list_any (λ p. nat_lt p.0 p.1) ts
+
+  pub pairs_refused : some_below ≡ true
+      → (numbers_of r ≡ cond some_below (numbers_of r) (0, 0)) × (place_of r ≡ 0 → numbers_of r ≡ first_fault (below_rows (number_of r) ts))
+  pairs_refused t = (rw t refl, λ e. rw (below_any (number_of r) ts, t, e) refl)
+
+  pub pairs_accepted : some_below ≡ false
+      → (◌≡◌ {A = Refusal} (0, 0) (cond some_below (numbers_of r) (0, 0))) × (place_of r ≡ 0 → (0, 0) ≡ first_fault (below_rows (number_of r) ts))
+  pairs_accepted f = (rw f refl, λ e. rw (below_any (number_of r) ts, f) refl)
 
 -- ---- the first fault of two lists of rows
 pub fault_left : (rs bs : List Row) → ¬ ((first_fault rs).0 ≡ 0) → first_fault (rs ++ bs) ≡ first_fault rs

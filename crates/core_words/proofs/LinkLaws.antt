@@ -1,10 +1,15 @@
--- Laws of the words that name something or nothing: what `is_some`, `is_none` and `==` say of the word.
+-- Laws of the words that name something or nothing: what is read from a word, and what `is_some`, `is_none` and `==` say of the word.
 -- Assumes nothing.
-use Rattle.std.proofs.Common.{◌≡◌, ◌∙◌, ap, sym, refl, ℕ, ◌+◌, ◌<◌, Bool, false, true, not, Option, Some, None, arith}
+use Rattle.std.proofs.Common.{◌≡◌, ◌∙◌, ap, sym, refl, ℕ, ◌+◌, ◌-◌, ◌<◌, ◌≤◌, Bool, false, true, not, Option, Some, None, arith}
 use lib.Dec.{eqb}
 use borrow.Author.Tests.{eqb-false}
-use Rattle.std.specs.Option.{is_some, option_eq}
+use Rattle.std.specs.Option.{SomeIff, is_some, option_eq}
 use Rattle.core_words.specs.Links.{link_word}
+
+-- of `checked_sub(1)`
+pub link_less : (x : Option ℕ) {w : ℕ} → SomeIff x (1 ≤ w) (w - 1) → link_word x ≡ w
+link_less (Some x) h = omega (arith, h.0, h.1)
+link_less None h = omega arith
 
 some_positive : (x : Option ℕ) → is_some x ≡ true → 0 < link_word x
 some_positive (Some x) e = omega arith
