@@ -4,7 +4,8 @@ use test_library::calls::Lending;
 use test_library::refusals::Refusal;
 use test_library::replays::{Lengths, List, ReplayCall, Replayed, Reply, Sizes, Totals};
 
-// The work table for 4096 junctions, 8192 segments and 1200 events, and some words behind it. For 4096 events it would be 17 MB.
+// The work table for 4096 junctions, 8192 segments and 1200 events, and some words behind it. The one for 4096 events, 17 MB, is more than the stack of a
+// program has by default.
 pub const WORDS: usize = 1427464;
 
 // The sibling, by the loss of a junction.
@@ -26,6 +27,8 @@ fn plain(reply: Result<theory_junction_timeline::JunctionTotals, call_sizes::Ref
 
 // There is no name table, whatever is said of its length.
 impl ReplayCall for ByJunctions {
+    const HAS_NAMES: bool = false;
+
     fn slow(list: &List, lengths: Lengths, ring: Option<usize>) -> Replayed {
         test_slow_junctions::reply(list, lengths, ring).junctions
     }

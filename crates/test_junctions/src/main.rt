@@ -93,7 +93,7 @@ fn report_rings(rt: &impl Print, work: &mut [u32]) -> io::Result<()> {
 
 // The vectors of document 02, No. 8, all 80, made by a slow program before any code of the product; they stand on standard input, in the form of
 // test_library::vectors, with 0 for the length of the names, and without names: 31 are accepted and 49 refused.
-fn report_vectors(rt: &(impl Input + Print + Alloc), work: &mut [u32]) -> io::Result<()> {
+fn report_vectors(rt: &(impl Input + Print), work: &mut [u32]) -> io::Result<()> {
     let compared = vectors::compare::<ByJunctions>(rt, work)?;
     let rows = [
         ("vectors", compared.vectors),
@@ -106,13 +106,18 @@ fn report_vectors(rt: &(impl Input + Print + Alloc), work: &mut [u32]) -> io::Re
     print::counts(rt, &rows)
 }
 
+// All reports, with a work table for all. It is lent as an array: the prover runs out of stack where `main`, which makes it, takes a slice of it.
+fn report(rt: &(impl Input + Print), work: &mut [u32; WORDS]) -> io::Result<()> {
+    report_vectors(rt, work)?;
+    run(21000, lists::small, work).report(rt)?;
+    run(21000, lists::blocks, work).report(rt)?;
+    run(18, lists::large, work).report(rt)?;
+    report_rings(rt, work)?;
+    limits::report(rt, work)
+}
+
+// Kept: the work table is an array and no Vec, so that the program rests on no heap.
 fn main(rt: HostRuntime) -> io::Result<()> {
-    let mut work = vec![in rt.alloc(); 0u32; WORDS]?;
-    let work = work.as_mut_slice();
-    report_vectors(&rt, work)?;
-    run(21000, lists::small, work).report(&rt)?;
-    run(21000, lists::blocks, work).report(&rt)?;
-    run(18, lists::large, work).report(&rt)?;
-    report_rings(&rt, work)?;
-    limits::report(&rt, work)
+    let mut work = [0u32; WORDS];
+    report(&rt, &mut work)
 }

@@ -51,3 +51,15 @@ pub fn printed<T>(reply: &Result<T, Refusal>) -> Refusal {
         Err(refusal) => *refusal,
     }
 }
+
+// Internal: the reply that stands in a vector as a refusal, 0 at 0 where there is none, and what is returned, zeros where it is refused. Where the numbers are no
+// such reply it is one that no call gives: by 0 at a place other than 0, or by 99, which is no refusal's number, where a refusal returns other numbers.
+pub fn read<T: Copy + PartialEq + Default>(refusal: Refusal, returned: T) -> Result<T, Refusal> {
+    if refusal == Refusal::of(0) {
+        return Ok(returned);
+    }
+    if refusal.code > 0 && returned != T::default() {
+        return Err(Refusal::of(99));
+    }
+    Err(refusal)
+}

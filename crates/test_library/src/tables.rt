@@ -1,12 +1,14 @@
-// Tables of numbers and of marks. Behind the end of a table there are zeros and no marks, and what is set there is lost, so that no caller has to know the
-// bounds.
+// Tables of numbers and of marks. Behind the end of a table there are zeros and no marks, and what is set there is lost; in a table of nodes an index goes round
+// at the end. So no caller has to know the bounds.
 
 // The largest table that is lent, and some entries behind it.
 // Kept: an array, with the sizes beside; a Vec is no plainer: each function that makes a list would take an allocator and hand on an error.
 pub type Entries = [u16; 8200];
 
-// Numbers of at most 512 nodes.
+// Numbers of at most 512 nodes, and marks.
 pub type Numbers = [u16; 512];
+
+pub type NodeMarks = [bool; 512];
 
 // A mark for each segment, or for each junction.
 pub type Marks = [bool; 8192];
@@ -24,6 +26,16 @@ pub fn set(t: &mut [u16], i: usize, v: usize) {
     if i < t.len() {
         t[i] = (v % 65536) as u16;
     }
+}
+
+// Internal: the number of a node.
+pub fn get(t: &Numbers, node: usize) -> usize {
+    usize::from(t[node % 512])
+}
+
+// Internal: sets the number of a node.
+pub fn put(t: &mut Numbers, node: usize, v: usize) {
+    t[node % 512] = (v % 65536) as u16;
 }
 
 // Internal: how many of the first count numbers have this value.
@@ -49,4 +61,9 @@ pub fn mark(t: &mut [bool], i: usize, to: bool) {
 // Internal: how many marks are set.
 pub fn ones(t: &[bool]) -> usize {
     t.iter().filter(|m| **m).count()
+}
+
+// Internal: how many of the first count nodes are marked.
+pub fn marked_nodes(t: &NodeMarks, count: usize) -> usize {
+    (0..count).filter(|node| t[*node % 512]).count()
 }

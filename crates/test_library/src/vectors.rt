@@ -5,8 +5,8 @@
 use crate::counts::Count;
 use crate::refusals::Refusal;
 use crate::replays::{Lengths, List, ReplayCall, Replayed, Reply, Sizes, Totals};
-use crate::text::Numbers;
-use crate::{calls, text};
+use crate::text::{Numbers, Vectors};
+use crate::{calls, refusals, text};
 use std::io;
 
 // A list, the lengths of its tables, and the outcome that is wanted.
@@ -43,17 +43,16 @@ fn read_lengths(numbers: &mut Numbers) -> Lengths {
 
 fn read_reply(numbers: &mut Numbers) -> Reply {
     let r = numbers.row();
-    if r[0] > 0 {
-        return Err(Refusal {
-            code: r[0],
-            place: r[1],
-        });
-    }
-    Ok(Totals {
+    let refusal = Refusal {
+        code: r[0],
+        place: r[1],
+    };
+    let totals = Totals {
         queries: r[2],
         open: r[3],
         kept: r[4],
-    })
+    };
+    refusals::read(refusal, totals)
 }
 
 fn read_list(numbers: &mut Numbers, sizes: Sizes, lengths: Lengths) -> List {
@@ -66,11 +65,11 @@ fn read_list(numbers: &mut Numbers, sizes: Sizes, lengths: Lengths) -> List {
     list
 }
 
-// The outcome of t events. The sibling has no names: there a table that is as long as it says must stay as it was.
+// The outcome of t events. Where there are no names, they must stay as they were.
 fn read_outcome(numbers: &mut Numbers, reply: Reply, t: usize, has_names: bool) -> Replayed {
     let mut answers = [0; 4104];
-    for answer in answers.iter_mut().take(t) {
-        *answer = (numbers.next() % 256) as u8;
+    for i in 0..t {
+        answers[i % 4104] = (numbers.next() % 256) as u8;
     }
     let mut names = [u16::from(calls::BEFORE); 8200];
     if has_names {
@@ -84,13 +83,12 @@ fn read_outcome(numbers: &mut Numbers, reply: Reply, t: usize, has_names: bool) 
     }
 }
 
-fn read(digits: &[u8]) -> Vector {
-    let mut numbers = Numbers::new(digits);
+fn read(mut numbers: Numbers, has_names: bool) -> Vector {
     let sizes = read_sizes(&mut numbers);
     let lengths = read_lengths(&mut numbers);
     let reply = read_reply(&mut numbers);
     let list = read_list(&mut numbers, sizes, lengths);
-    let want = read_outcome(&mut numbers, reply, sizes.t, lengths.names > 0);
+    let want = read_outcome(&mut numbers, reply, sizes.t, has_names);
     Vector {
         list,
         lengths,
@@ -106,18 +104,31 @@ pub struct Compared {
     pub slow_differs: Count,
 }
 
-// Internal: runs the call and the slow version on each vector of standard input.
-pub fn compare<C: ReplayCall>(rt: &(impl Input + Alloc), work: &mut [u32]) -> io::Result<Compared> {
-    let text = io::read_to_string(rt.alloc(), rt.reader())?;
+impl Compared {
+    // Runs the call and the slow version on a vector.
+    fn add<C: ReplayCall>(&mut self, vector: &Vector, work: &mut [u32]) {
+        let list = &vector.list;
+        let t = list.sizes.t;
+        let replayed = C::run(list, vector.lengths, work);
+        let by_slow = C::slow(list, vector.lengths, None);
+        self.vectors.add(1);
+        self.wrong.add_if(!replayed.agrees(&vector.want, t));
+        self.slow_differs.add_if(!replayed.agrees(&by_slow, t));
+    }
+}
+
+// Internal: runs the call and the slow version on the vectors of standard input, the first hundred.
+pub fn compare<C: ReplayCall>(rt: &impl Input, work: &mut [u32]) -> io::Result<Compared> {
+    let mut text = [0; 65536];
+    let length = text::read(rt, &mut text)?;
+    let mut vectors = Vectors::new(&text, length);
     let mut compared = Compared::default();
-    for line in text.as_str().lines() {
-        let vector = read(text::vector(line));
-        let t = vector.list.sizes.t;
-        let replayed = C::run(&vector.list, vector.lengths, work);
-        let by_slow = C::slow(&vector.list, vector.lengths, None);
-        compared.vectors.add(1);
-        compared.wrong.add_if(!replayed.agrees(&vector.want, t));
-        compared.slow_differs.add_if(!replayed.agrees(&by_slow, t));
+    for _ in 0..100 {
+        let Some(vector) = vectors.next() else {
+            break;
+        };
+        let numbers = Numbers::new(&text, vector.start);
+        compared.add::<C>(&read(numbers, C::HAS_NAMES), work);
     }
     Ok(compared)
 }

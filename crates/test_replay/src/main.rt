@@ -57,7 +57,7 @@ fn report_lists(rt: &impl Print, work: &mut [u32]) -> io::Result<()> {
 
 // Replays made by a slow program before any code of the product; they stand on standard input, in the form of test_library::vectors. The first 50 are those of
 // document 02, No. 7: 17 are accepted and 33 refused. The other five are of No. 5, all accepted.
-fn report_vectors(rt: &(impl Input + Print + Alloc), work: &mut [u32]) -> io::Result<()> {
+fn report_vectors(rt: &(impl Input + Print), work: &mut [u32]) -> io::Result<()> {
     let compared = vectors::compare::<ByRoads>(rt, work)?;
     let rows = [
         ("vectors", compared.vectors),
@@ -70,11 +70,16 @@ fn report_vectors(rt: &(impl Input + Print + Alloc), work: &mut [u32]) -> io::Re
     print::counts(rt, &rows)
 }
 
+// All reports, with a work table for all. It is lent as an array: the prover runs out of stack where `main`, which makes it, takes a slice of it.
+fn report(rt: &(impl Input + Print), work: &mut [u32; WORDS]) -> io::Result<()> {
+    report_vectors(rt, work)?;
+    report_lists(rt, work)?;
+    windows::report(rt, work)?;
+    limits::report(rt, work)
+}
+
+// Kept: the work table is an array and no Vec, so that the program rests on no heap.
 fn main(rt: HostRuntime) -> io::Result<()> {
-    let mut work = vec![in rt.alloc(); 0u32; WORDS]?;
-    let work = work.as_mut_slice();
-    report_vectors(&rt, work)?;
-    report_lists(&rt, work)?;
-    windows::report(&rt, work)?;
-    limits::report(&rt, work)
+    let mut work = [0u32; WORDS];
+    report(&rt, &mut work)
 }

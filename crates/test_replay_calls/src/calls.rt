@@ -25,6 +25,8 @@ fn plain(reply: Result<theory_timeline::Totals, call_sizes::Refusal>) -> Reply {
 }
 
 impl ReplayCall for ByRoads {
+    const HAS_NAMES: bool = true;
+
     fn slow(list: &List, lengths: Lengths, ring: Option<usize>) -> Replayed {
         replay::reply(list, lengths, ring)
     }

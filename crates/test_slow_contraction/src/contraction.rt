@@ -16,7 +16,7 @@ fn active_nodes(g: &Graph) -> Marks {
     marks
 }
 
-// The numbers of the kept classes, of which each is named by its smallest node: the number of a class, and the class of a number.
+// The numbers of the kept classes, of which each is named by its smallest node: the number of a class, and the class of a number. Past 512 they go round.
 #[derive(Clone, Copy)]
 struct Numbering {
     numbers: [Option<u16>; 512],
@@ -26,21 +26,21 @@ struct Numbering {
 
 impl Numbering {
     fn number(&self, class: usize) -> Option<usize> {
-        match self.numbers.get(class) {
-            Some(Some(number)) => Some(usize::from(*number)),
-            _ => None,
+        match self.numbers[class % 512] {
+            Some(number) => Some(usize::from(number)),
+            None => None,
         }
     }
 
     fn class(&self, number: usize) -> usize {
-        tables::at(&self.classes, number)
+        tables::get(&self.classes, number)
     }
 
     // Gives a class the next number, where it has none yet.
     fn give(&mut self, class: usize) {
-        if class < 512 && self.numbers[class].is_none() {
-            self.numbers[class] = Some((self.count % 512) as u16);
-            tables::set(&mut self.classes, self.count, class);
+        if self.numbers[class % 512].is_none() {
+            self.numbers[class % 512] = Some((self.count % 512) as u16);
+            tables::put(&mut self.classes, self.count, class);
             self.count = self.count.saturating_add(1);
         }
     }
@@ -118,11 +118,12 @@ impl<'a> SlowContraction<'a> {
             .unwrap_or(65535)
     }
 
-    // Writes the edges, each pair of numbers in ascending order, and answers how many there are.
+    // Writes the edges, each pair of numbers in ascending order, and answers how many there are. There are at most 32 nodes: those with other numbers get none.
     fn write_edges(&self, small: &mut Small) -> usize {
         let mut edges = 0usize;
-        for x in 0..self.numbering.count {
-            for y in x + 1..self.numbering.count {
+        let count = self.numbering.count.min(32);
+        for x in 0..count {
+            for y in x + 1..count {
                 if self.are_linked(x, y) {
                     tables::set(&mut small.edges.from, edges, x);
                     tables::set(&mut small.edges.to, edges, y);

@@ -1,7 +1,7 @@
-// Pieces, classes and kept classes of a graph, by its open edges.
+// Pieces, classes and kept classes of a graph, by its open edges. Past 512 nodes a node goes round.
 use test_library::edges::Edges;
 use test_library::tables;
-use test_library::tables::Numbers;
+use test_library::tables::{NodeMarks, Numbers};
 
 // The pieces of a graph, each a tree of nodes: the node above each one, which is smaller; none above the top of a tree.
 #[derive(Clone, Copy)]
@@ -19,10 +19,10 @@ impl Pieces {
     fn top(&self, v: usize) -> usize {
         let mut top = v;
         for _ in 0..512 {
-            let Some(Some(up)) = self.above.get(top) else {
+            let Some(up) = self.above[top % 512] else {
                 return top;
             };
-            top = usize::from(*up);
+            top = usize::from(up);
         }
         top
     }
@@ -36,9 +36,8 @@ impl Pieces {
     fn join(&mut self, u: usize, v: usize) {
         let r = self.top(u);
         let s = self.top(v);
-        let below = r.max(s);
-        if r != s && below < 512 {
-            self.above[below] = Some((r.min(s) % 512) as u16);
+        if r != s {
+            self.above[r.max(s) % 512] = Some((r.min(s) % 65536) as u16);
         }
     }
 }
@@ -126,7 +125,7 @@ impl Classes {
 
     // Internal: the smallest node of the class of v.
     pub fn of(&self, v: usize) -> usize {
-        tables::at(&self.smallest, v)
+        tables::get(&self.smallest, v)
     }
 
     // The first node with the class of v and its piece in p.
@@ -142,7 +141,7 @@ impl Classes {
         for v in (0..nodes).rev() {
             if !p.together(v, self.of(v)) {
                 let first = self.first_like(p, v);
-                tables::set(&mut self.smallest, v, first);
+                tables::put(&mut self.smallest, v, first);
             }
         }
     }
@@ -168,7 +167,7 @@ pub struct Kept<'a> {
     active: &'a [bool],
     pub classes: Classes,
     // Marks the smallest node of each class with an active node.
-    held: [bool; 512],
+    held: NodeMarks,
 }
 
 impl<'a> Kept<'a> {
@@ -178,7 +177,7 @@ impl<'a> Kept<'a> {
         let mut held = [false; 512];
         for v in 0..graph.nodes {
             if tables::is_marked(active, v) {
-                tables::mark(&mut held, classes.of(v), true);
+                held[classes.of(v) % 512] = true;
             }
         }
         Kept {
@@ -195,20 +194,20 @@ impl<'a> Kept<'a> {
         let mut met = [false; 512];
         for v in 0..self.graph.nodes {
             if tables::is_marked(self.active, v) && self.classes.pieces.together(z, v) {
-                tables::mark(&mut met, left.top(v), true);
+                met[left.top(v) % 512] = true;
             }
         }
-        tables::ones(&met)
+        tables::marked_nodes(&met, self.graph.nodes)
     }
 
     // Internal: whether z is the smallest node of a kept class.
     pub fn has(&self, z: usize) -> bool {
-        self.classes.of(z) == z && (tables::is_marked(&self.held, z) || self.parts(z) >= 3)
+        self.classes.of(z) == z && (self.held[z % 512] || self.parts(z) >= 3)
     }
 
     // Internal: how many classes are kept.
     pub fn count(&self) -> usize {
-        let held = tables::ones(&self.held);
+        let held = tables::marked_nodes(&self.held, self.graph.nodes);
         if held < 3 {
             return held;
         }

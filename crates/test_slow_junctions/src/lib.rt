@@ -25,7 +25,7 @@ pub fn required(sizes: Sizes) -> usize
     sizes.t.min(4097) * 1024 + sizes.n.min(4097) * 32 + sizes.m.min(8193) * 8 + 2048
 }
 
-// The answer to a query of u and v, which are joined.
+// The answer to a query of u and v, which are joined. Past 512 junctions the one that is taken away goes round.
 fn answer_of_joined(list: &List, open: &[bool], u: usize, v: usize) -> u8 {
     let graph = OpenGraph {
         nodes: list.sizes.n,
@@ -33,7 +33,9 @@ fn answer_of_joined(list: &List, open: &[bool], u: usize, v: usize) -> u8 {
         edges: &list.segments,
         open,
     };
-    let is_joined_without = |c: usize| graph.pieces_without(None, |w| w == c).together(u, v);
+    let is_joined_without = |c: usize| graph
+        .pieces_without(None, |w| w % 512 == c % 512)
+        .together(u, v);
     let is_parting = |c: usize| c != u && c != v && !is_joined_without(c);
     if (0..list.sizes.n).any(is_parting) {
         1
