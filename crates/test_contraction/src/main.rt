@@ -15,7 +15,7 @@ fn run_random() -> Totals {
     for s in 0..40320 {
         let g = graphs::make(s);
         let lengths = calls::lengths(g.sizes, graphs::lending(s));
-        let want = calls::slow(&g, lengths);
+        let want = calls::slow_of_32(&g, lengths);
         let is_right = calls::run(&g, lengths, &want).agrees(want.reply);
         totals.add(&g, &want, is_right);
     }

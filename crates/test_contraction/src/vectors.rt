@@ -9,7 +9,7 @@ use test_contraction_calls::calls;
 use test_library::contractions::{Counts, Graph, Lengths, Reply, Sizes, Small};
 use test_library::counts::Count;
 use test_library::refusals::Refusal;
-use test_library::text::{Numbers, Vectors};
+use test_library::text::{NumbersFrom, Vectors};
 use test_library::{print, refusals, text};
 
 // A graph, the lengths of its tables, and the small graph that is wanted.
@@ -20,7 +20,7 @@ struct Vector {
     want: Small,
 }
 
-fn read_sizes(numbers: &mut Numbers) -> Sizes {
+fn read_sizes(numbers: &mut NumbersFrom) -> Sizes {
     let r = numbers.row();
     Sizes {
         n: r[0],
@@ -29,7 +29,7 @@ fn read_sizes(numbers: &mut Numbers) -> Sizes {
     }
 }
 
-fn read_lengths(numbers: &mut Numbers) -> Lengths {
+fn read_lengths(numbers: &mut NumbersFrom) -> Lengths {
     let r = numbers.row();
     Lengths {
         from: r[0],
@@ -45,7 +45,7 @@ fn read_lengths(numbers: &mut Numbers) -> Lengths {
     }
 }
 
-fn read_reply(numbers: &mut Numbers) -> Reply {
+fn read_reply(numbers: &mut NumbersFrom) -> Reply {
     let r = numbers.row();
     let refusal = Refusal {
         code: r[0],
@@ -58,7 +58,7 @@ fn read_reply(numbers: &mut Numbers) -> Reply {
     refusals::read(refusal, counts)
 }
 
-fn read_graph(numbers: &mut Numbers, sizes: Sizes, lengths: Lengths) -> Graph {
+fn read_graph(numbers: &mut NumbersFrom, sizes: Sizes, lengths: Lengths) -> Graph {
     let mut g = Graph::filled(sizes, 65000);
     numbers.copy(&mut g.edges.from, lengths.from);
     numbers.copy(&mut g.edges.to, lengths.to);
@@ -68,7 +68,7 @@ fn read_graph(numbers: &mut Numbers, sizes: Sizes, lengths: Lengths) -> Graph {
 }
 
 // What is wanted, of k active entries.
-fn read_small(numbers: &mut Numbers, reply: Reply, k: usize) -> Small {
+fn read_small(numbers: &mut NumbersFrom, reply: Reply, k: usize) -> Small {
     let mut small = Small::empty(reply);
     if let Ok(counts) = reply {
         numbers.copy(&mut small.map, k);
@@ -80,7 +80,7 @@ fn read_small(numbers: &mut Numbers, reply: Reply, k: usize) -> Small {
     small
 }
 
-fn read(mut numbers: Numbers) -> Vector {
+fn read(mut numbers: NumbersFrom) -> Vector {
     let sizes = read_sizes(&mut numbers);
     let lengths = read_lengths(&mut numbers);
     let reply = read_reply(&mut numbers);
@@ -109,7 +109,7 @@ impl Compared {
             lengths,
             want,
         } = vector;
-        let slow = calls::slow(graph, *lengths);
+        let slow = calls::slow_of_32(graph, *lengths);
         let is_right = calls::run(graph, *lengths, want).agrees(want.reply);
         let is_slow_right = calls::run(graph, *lengths, &slow).agrees(slow.reply);
         self.vectors.add(1);
@@ -130,7 +130,7 @@ pub(crate) fn report(rt: &(impl Input + Print)) -> io::Result<()> {
         let Some(vector) = vectors.next() else {
             break;
         };
-        compared.add(&read(Numbers::new(&text, vector.start)));
+        compared.add(&read(NumbersFrom::new(&text, vector.start)));
     }
     let rows = [
         ("vectors", compared.vectors),

@@ -80,6 +80,11 @@ pub fn slow(g: &Graph, lengths: Lengths) -> Small {
     contraction::reply(g, lengths)
 }
 
+// Internal: the same where there are at most 32 nodes: those with other numbers get no edges.
+pub fn slow_of_32(g: &Graph, lengths: Lengths) -> Small {
+    contraction::reply_of_32(g, lengths)
+}
+
 // Internal: the outcome of the call on a graph whose tables have these lengths, given the small graph that is wanted.
 pub fn run(g: &Graph, lengths: Lengths, want: &Small) -> Contracted {
     let before = u16::from(calls::BEFORE);

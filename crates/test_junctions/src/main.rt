@@ -94,7 +94,7 @@ fn report_rings(rt: &impl Print, work: &mut [u32]) -> io::Result<()> {
 // The vectors of document 02, No. 8, all 80, made by a slow program before any code of the product; they stand on standard input, in the form of
 // test_library::vectors, with 0 for the length of the names, and without names: 31 are accepted and 49 refused.
 fn report_vectors(rt: &(impl Input + Print), work: &mut [u32]) -> io::Result<()> {
-    let compared = vectors::compare::<ByJunctions>(rt, work)?;
+    let compared = vectors::compare_hundred::<ByJunctions>(rt, work)?;
     let rows = [
         ("vectors", compared.vectors),
         ("wrong", compared.wrong),

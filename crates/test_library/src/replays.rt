@@ -205,8 +205,8 @@ impl Replayed {
 
 // A replay of the product, by the loss of a road or by the loss of a junction, and the slow version that it is compared with.
 pub trait ReplayCall {
-    // Internal: whether it names roads. Where it does not there is no name table, whatever is said of its length.
-    const HAS_NAMES: bool;
+    // Internal: whether it names roads; it does where nothing is said. Where it does not there is no name table, whatever is said of its length.
+    const HAS_NAMES: bool = true;
 
     // Internal: the outcome by the slow version, of a list whose tables have these lengths; on a ring of so many places, where it is on one.
     fn slow(list: &List, lengths: Lengths, ring: Option<usize>) -> Replayed;

@@ -1,7 +1,9 @@
-// Vectors as text, which a test program reads from standard input: each is a line with ; at its end, and numbers stand in base 16. A place in the text goes
-// round at its end, so that no caller has to know the bounds.
+// Vectors as text: each is a line with ; at its end, and numbers stand in base 16. A test program reads them from standard input into fixed memory, where a place
+// goes round at the text's end, so that no caller has to know the bounds (`Vectors`, `NumbersFrom`). A line that is at hand by itself is read digit by digit
+// (`vector`, `Numbers`).
 ghost use Rattle.std.specs.Prelude.{◌≤◌, length, IfOk};
 
+use crate::replays::Answers;
 use crate::tables::Entries;
 use std::io;
 use std::io::Read;
@@ -85,18 +87,38 @@ impl<'a> Vectors<'a> {
     }
 }
 
+// What the numbers of a vector are read from, one after the other. How many fit into a table is the implementation's.
+pub(crate) trait ReadNumbers {
+    fn read(&mut self) -> u16;
+
+    // Copies the next count numbers into a table.
+    fn read_table(&mut self, t: &mut Entries, count: usize);
+
+    // The same of bytes.
+    fn read_bytes(&mut self, t: &mut Answers, count: usize);
+
+    // The next ten numbers.
+    fn read_row(&mut self) -> [usize; 10] {
+        let mut row = [0; 10];
+        for number in row.iter_mut() {
+            *number = usize::from(self.read());
+        }
+        row
+    }
+}
+
 // The numbers of a vector, of four digits each, where it begins and which number is read next. They are read on past the vector's end.
 #[derive(Drop)]
-pub struct Numbers<'a> {
+pub struct NumbersFrom<'a> {
     text: &'a Text,
     start: usize,
     next: usize,
 }
 
-impl<'a> Numbers<'a> {
+impl<'a> NumbersFrom<'a> {
     // Internal: all numbers of the vector that begins at start.
-    pub fn new(text: &'a Text, start: usize) -> Numbers<'a> {
-        Numbers {
+    pub fn new(text: &'a Text, start: usize) -> NumbersFrom<'a> {
+        NumbersFrom {
             text,
             start,
             next: 0,
@@ -112,17 +134,90 @@ impl<'a> Numbers<'a> {
 
     // Internal: the next ten numbers.
     pub fn row(&mut self) -> [usize; 10] {
-        let mut row = [0; 10];
-        for number in row.iter_mut() {
-            *number = usize::from(self.next());
-        }
-        row
+        self.read_row()
     }
 
     // Internal: copies the next count numbers into a table, of which an index goes round at the end.
     pub fn copy(&mut self, t: &mut Entries, count: usize) {
         for j in 0..count {
             t[j % 8200] = self.next();
+        }
+    }
+}
+
+impl<'a> ReadNumbers for NumbersFrom<'a> {
+    fn read(&mut self) -> u16 {
+        self.next()
+    }
+
+    fn read_table(&mut self, t: &mut Entries, count: usize) {
+        self.copy(t, count)
+    }
+
+    fn read_bytes(&mut self, t: &mut Answers, count: usize) {
+        for i in 0..count {
+            t[i % 4104] = (self.next() % 256) as u8;
+        }
+    }
+}
+
+// Internal: the vector of a line, without the ; at its end.
+pub fn vector(line: &str) -> &[u8] {
+    line.strip_suffix(';').unwrap_or(line).as_bytes()
+}
+
+// Internal: the number of at most four digits in base 16.
+pub fn number(digits: &[u8]) -> usize {
+    let digit = |byte: u8| char::from(byte).to_digit(16).unwrap_or(0) as usize;
+    digits
+        .iter()
+        .fold(0, |v, byte| v % 4096 * 16 + digit(*byte) % 16)
+}
+
+// The numbers of a vector that are still to be read, of four digits each. Behind the last one there are zeros.
+#[derive(Drop)]
+pub struct Numbers<'a> {
+    digits: &'a [u8],
+}
+
+impl<'a> Numbers<'a> {
+    // Internal: all numbers of a vector.
+    pub fn new(digits: &'a [u8]) -> Numbers<'a> {
+        Numbers { digits }
+    }
+
+    // Internal: the next number.
+    pub fn next(&mut self) -> usize {
+        let (first, others) = self.digits.split_at(self.digits.len().min(4));
+        self.digits = others;
+        number(first)
+    }
+
+    // Internal: the next ten numbers.
+    pub fn row(&mut self) -> [usize; 10] {
+        self.read_row()
+    }
+
+    // Internal: copies the next count numbers into a table.
+    pub fn copy(&mut self, t: &mut [u16], count: usize) {
+        for entry in t.iter_mut().take(count) {
+            *entry = (self.next() % 65536) as u16;
+        }
+    }
+}
+
+impl<'a> ReadNumbers for Numbers<'a> {
+    fn read(&mut self) -> u16 {
+        (self.next() % 65536) as u16
+    }
+
+    fn read_table(&mut self, t: &mut Entries, count: usize) {
+        self.copy(t, count)
+    }
+
+    fn read_bytes(&mut self, t: &mut Answers, count: usize) {
+        for byte in t.iter_mut().take(count) {
+            *byte = (self.next() % 256) as u8;
         }
     }
 }

@@ -5,7 +5,7 @@
 use crate::counts::Count;
 use crate::refusals::Refusal;
 use crate::replays::{Lengths, List, ReplayCall, Replayed, Reply, Sizes, Totals};
-use crate::text::{Numbers, Vectors};
+use crate::text::{Numbers, NumbersFrom, ReadNumbers, Vectors};
 use crate::{calls, refusals, text};
 use std::io;
 
@@ -17,8 +17,8 @@ struct Vector {
     want: Replayed,
 }
 
-fn read_sizes(numbers: &mut Numbers) -> Sizes {
-    let r = numbers.row();
+fn read_sizes(numbers: &mut impl ReadNumbers) -> Sizes {
+    let r = numbers.read_row();
     Sizes {
         n: r[0],
         m: r[1],
@@ -27,8 +27,8 @@ fn read_sizes(numbers: &mut Numbers) -> Sizes {
     }
 }
 
-fn read_lengths(numbers: &mut Numbers) -> Lengths {
-    let r = numbers.row();
+fn read_lengths(numbers: &mut impl ReadNumbers) -> Lengths {
+    let r = numbers.read_row();
     Lengths {
         a: r[0],
         b: r[1],
@@ -41,8 +41,9 @@ fn read_lengths(numbers: &mut Numbers) -> Lengths {
     }
 }
 
-fn read_reply(numbers: &mut Numbers) -> Reply {
-    let r = numbers.row();
+// The refusal that is wanted, 0 at 0 where there is none, and what is to be returned.
+fn read_reply(numbers: &mut impl ReadNumbers) -> (Refusal, Totals) {
+    let r = numbers.read_row();
     let refusal = Refusal {
         code: r[0],
         place: r[1],
@@ -52,28 +53,31 @@ fn read_reply(numbers: &mut Numbers) -> Reply {
         open: r[3],
         kept: r[4],
     };
-    refusals::read(refusal, totals)
+    (refusal, totals)
 }
 
-fn read_list(numbers: &mut Numbers, sizes: Sizes, lengths: Lengths) -> List {
+fn read_list(numbers: &mut impl ReadNumbers, sizes: Sizes, lengths: Lengths) -> List {
     let mut list = List::filled(sizes, 65000);
-    numbers.copy(&mut list.segments.from, lengths.a);
-    numbers.copy(&mut list.segments.to, lengths.b);
-    numbers.copy(&mut list.start, lengths.start);
-    numbers.copy(&mut list.x, lengths.x);
-    numbers.copy(&mut list.y, lengths.y);
+    numbers.read_table(&mut list.segments.from, lengths.a);
+    numbers.read_table(&mut list.segments.to, lengths.b);
+    numbers.read_table(&mut list.start, lengths.start);
+    numbers.read_table(&mut list.x, lengths.x);
+    numbers.read_table(&mut list.y, lengths.y);
     list
 }
 
 // The outcome of t events. Where there are no names, they must stay as they were.
-fn read_outcome(numbers: &mut Numbers, reply: Reply, t: usize, has_names: bool) -> Replayed {
+fn read_outcome(
+    numbers: &mut impl ReadNumbers,
+    reply: Reply,
+    t: usize,
+    has_names: bool,
+) -> Replayed {
     let mut answers = [0; 4104];
-    for i in 0..t {
-        answers[i % 4104] = (numbers.next() % 256) as u8;
-    }
+    numbers.read_bytes(&mut answers, t);
     let mut names = [u16::from(calls::BEFORE); 8200];
     if has_names {
-        numbers.copy(&mut names, t);
+        numbers.read_table(&mut names, t);
     }
     Replayed {
         reply,
@@ -83,16 +87,45 @@ fn read_outcome(numbers: &mut Numbers, reply: Reply, t: usize, has_names: bool) 
     }
 }
 
-fn read(mut numbers: Numbers, has_names: bool) -> Vector {
-    let sizes = read_sizes(&mut numbers);
-    let lengths = read_lengths(&mut numbers);
-    let reply = read_reply(&mut numbers);
-    let list = read_list(&mut numbers, sizes, lengths);
-    let want = read_outcome(&mut numbers, reply, sizes.t, has_names);
-    Vector {
-        list,
-        lengths,
-        want,
+// What stands before the tables of a vector.
+#[derive(Clone, Copy)]
+struct Head {
+    sizes: Sizes,
+    lengths: Lengths,
+    refusal: Refusal,
+    totals: Totals,
+}
+
+impl Head {
+    fn read(numbers: &mut impl ReadNumbers) -> Head {
+        let sizes = read_sizes(numbers);
+        let lengths = read_lengths(numbers);
+        let (refusal, totals) = read_reply(numbers);
+        Head {
+            sizes,
+            lengths,
+            refusal,
+            totals,
+        }
+    }
+
+    // The reply: refused by any number, wherever it is.
+    fn reply(&self) -> Reply {
+        if self.refusal.code > 0 {
+            return Err(self.refusal);
+        }
+        Ok(self.totals)
+    }
+
+    // The vector with this reply, whose tables come now.
+    fn read_vector(&self, numbers: &mut impl ReadNumbers, reply: Reply, has_names: bool) -> Vector {
+        let list = read_list(numbers, self.sizes, self.lengths);
+        let want = read_outcome(numbers, reply, self.sizes.t, has_names);
+        Vector {
+            list,
+            lengths: self.lengths,
+            want,
+        }
     }
 }
 
@@ -117,8 +150,31 @@ impl Compared {
     }
 }
 
-// Internal: runs the call and the slow version on the vectors of standard input, the first hundred.
+fn no_text() -> io::Error {
+    io::Error::new(
+        io::ErrorKind::InvalidData,
+        "stream did not contain valid UTF-8",
+    )
+}
+
+// Internal: runs the call and the slow version on each vector of standard input, of which the first 65,536 bytes are read: each line is one, and has names where
+// its length of them is not 0. It is an error where these bytes are no text.
 pub fn compare<C: ReplayCall>(rt: &impl Input, work: &mut [u32]) -> io::Result<Compared> {
+    let mut text = [0; 65536];
+    let length = text::read(rt, &mut text)?;
+    let text = str::from_utf8(&text[..length]).map_err(|_| no_text())?;
+    let mut compared = Compared::default();
+    for line in text.lines() {
+        let mut numbers = Numbers::new(text::vector(line));
+        let head = Head::read(&mut numbers);
+        let vector = head.read_vector(&mut numbers, head.reply(), head.lengths.names > 0);
+        compared.add::<C>(&vector, work);
+    }
+    Ok(compared)
+}
+
+// Internal: the same on the first hundred vectors, each to the next ;. The call says whether it has names.
+pub fn compare_hundred<C: ReplayCall>(rt: &impl Input, work: &mut [u32]) -> io::Result<Compared> {
     let mut text = [0; 65536];
     let length = text::read(rt, &mut text)?;
     let mut vectors = Vectors::new(&text, length);
@@ -127,8 +183,10 @@ pub fn compare<C: ReplayCall>(rt: &impl Input, work: &mut [u32]) -> io::Result<C
         let Some(vector) = vectors.next() else {
             break;
         };
-        let numbers = Numbers::new(&text, vector.start);
-        compared.add::<C>(&read(numbers, C::HAS_NAMES), work);
+        let mut numbers = NumbersFrom::new(&text, vector.start);
+        let head = Head::read(&mut numbers);
+        let reply = refusals::read(head.refusal, head.totals);
+        compared.add::<C>(&head.read_vector(&mut numbers, reply, C::HAS_NAMES), work);
     }
     Ok(compared)
 }

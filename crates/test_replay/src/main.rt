@@ -58,7 +58,7 @@ fn report_lists(rt: &impl Print, work: &mut [u32]) -> io::Result<()> {
 // Replays made by a slow program before any code of the product; they stand on standard input, in the form of test_library::vectors. The first 50 are those of
 // document 02, No. 7: 17 are accepted and 33 refused. The other five are of No. 5, all accepted.
 fn report_vectors(rt: &(impl Input + Print), work: &mut [u32]) -> io::Result<()> {
-    let compared = vectors::compare::<ByRoads>(rt, work)?;
+    let compared = vectors::compare_hundred::<ByRoads>(rt, work)?;
     let rows = [
         ("vectors", compared.vectors),
         ("wrong", compared.wrong),

@@ -118,10 +118,10 @@ impl<'a> SlowContraction<'a> {
             .unwrap_or(65535)
     }
 
-    // Writes the edges, each pair of numbers in ascending order, and answers how many there are. There are at most 32 nodes: those with other numbers get none.
-    fn write_edges(&self, small: &mut Small) -> usize {
+    // Writes the edges among the first `most` nodes, each pair of numbers in ascending order, and answers how many there are.
+    fn write_edges(&self, small: &mut Small, most: usize) -> usize {
         let mut edges = 0usize;
-        let count = self.numbering.count.min(32);
+        let count = self.numbering.count.min(most);
         for x in 0..count {
             for y in x + 1..count {
                 if self.are_linked(x, y) {
@@ -176,8 +176,8 @@ impl<'a> SlowContraction<'a> {
     }
 }
 
-// The contraction of a graph without a fault.
-fn contracted(given: &Graph) -> Small {
+// The contraction of a graph without a fault, with the edges among its first `most` nodes.
+fn contracted(given: &Graph, most: usize) -> Small {
     let open = [true; 8192];
     let active = active_nodes(given);
     let graph = OpenGraph {
@@ -192,7 +192,7 @@ fn contracted(given: &Graph) -> Small {
     contraction.number_others();
     let nodes = contraction.numbering.count;
     let mut small = Small::empty(Ok(Counts { nodes, edges: 0 }));
-    let edges = contraction.write_edges(&mut small);
+    let edges = contraction.write_edges(&mut small, most);
     small.reply = Ok(Counts { nodes, edges });
     small.inner = nodes.saturating_sub(with_active);
     contraction.write_names(&mut small, edges);
@@ -237,10 +237,20 @@ fn fault(g: &Graph, lengths: Lengths) -> Option<Refusal> {
     Some(Refusal { code, place })
 }
 
-// Internal: the contraction of a graph whose tables have these lengths; or its refusal.
-pub fn reply(g: &Graph, lengths: Lengths) -> Small {
+// The contraction, with the edges among its first `most` nodes, of a graph whose tables have these lengths; or its refusal.
+fn contracted_or_refused(g: &Graph, lengths: Lengths, most: usize) -> Small {
     match fault(g, lengths) {
         Some(refusal) => Small::empty(Err(refusal)),
-        None => contracted(g),
+        None => contracted(g, most),
     }
+}
+
+// Internal: the contraction of a graph whose tables have these lengths; or its refusal.
+pub fn reply(g: &Graph, lengths: Lengths) -> Small {
+    contracted_or_refused(g, lengths, 512)
+}
+
+// Internal: the same where there are at most 32 nodes: those with other numbers get no edges.
+pub fn reply_of_32(g: &Graph, lengths: Lengths) -> Small {
+    contracted_or_refused(g, lengths, 32)
 }
