@@ -237,20 +237,18 @@ fn fault(g: &Graph, lengths: Lengths) -> Option<Refusal> {
     Some(Refusal { code, place })
 }
 
-// The contraction, with the edges among its first `most` nodes, of a graph whose tables have these lengths; or its refusal.
-fn contracted_or_refused(g: &Graph, lengths: Lengths, most: usize) -> Small {
-    match fault(g, lengths) {
-        Some(refusal) => Small::empty(Err(refusal)),
-        None => contracted(g, most),
-    }
-}
-
 // Internal: the contraction of a graph whose tables have these lengths; or its refusal.
 pub fn reply(g: &Graph, lengths: Lengths) -> Small {
-    contracted_or_refused(g, lengths, 512)
+    match fault(g, lengths) {
+        Some(refusal) => Small::empty(Err(refusal)),
+        None => contracted(g, 512),
+    }
 }
 
 // Internal: the same where there are at most 32 nodes: those with other numbers get no edges.
 pub fn reply_of_32(g: &Graph, lengths: Lengths) -> Small {
-    contracted_or_refused(g, lengths, 32)
+    match fault(g, lengths) {
+        Some(refusal) => Small::empty(Err(refusal)),
+        None => contracted(g, 32),
+    }
 }
