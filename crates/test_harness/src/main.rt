@@ -1,4 +1,4 @@
-// Runs what no other test program does of what they rest on: vectors of lines against a made-up call, the numbers of a line, and the slow contraction of more
+// Runs what no other test program does of what they rest on: vectors of lines against a stub, the numbers of a line, and the slow contraction of more
 // than 32 nodes beside the product's. Prints counts and numbers.
 #![tactic(auto)]
 
@@ -10,9 +10,9 @@ use test_library::replays::{Lengths, List, ReplayCall, Replayed, Reply, Sizes, T
 use test_library::text::Numbers;
 use test_library::{contractions, print, tables, text, vectors};
 
-// A call that is no replay: it answers an event with Y, names it by X where there is a name table, and returns the first entries of A, B and the starting
+// A stub in the place of a replay: it answers an event with Y, names it by X where there is a name table, and returns the first entries of A, B and the starting
 // table.
-struct Made;
+struct Stub;
 
 fn totals(list: &List) -> Totals {
     Totals {
@@ -34,7 +34,7 @@ fn write(list: &List, lengths: Lengths, answers: &mut [u8], names: &mut [u16]) {
 }
 
 // Whether it names roads is not said.
-impl ReplayCall for Made {
+impl ReplayCall for Stub {
     // By the slow version the starting table has zeros alone.
     fn slow(list: &List, lengths: Lengths, _ring: Option<usize>) -> Replayed {
         let mut replayed = Replayed {
@@ -69,7 +69,7 @@ impl ReplayCall for Made {
 // Standard input has 125 lines, two that end in CR LF and the last without ; at its end. One in three has no names, one is accepted
 // at a place. Three are wrong: by an answer, by a name, by a refusal. Of 40 the starting table begins with 1.
 fn report_vectors(rt: &(impl Input + Print)) -> io::Result<()> {
-    let compared = vectors::compare::<Made>(rt, &mut [0; 8])?;
+    let compared = vectors::compare::<Stub>(rt, &mut [0; 8])?;
     let rows = [
         ("vectors of lines", compared.vectors),
         ("wrong", compared.wrong),
@@ -86,7 +86,7 @@ fn report_digits(rt: &impl Print) -> io::Result<()> {
         ("of 0A0a", text::number(b"0A0a")),
         ("of 12345", text::number(b"12345")),
         (
-            "signs of a vector of eight",
+            "bytes of a vector of eight",
             text::vector("00010002;").len(),
         ),
         ("without ; at its end", text::vector("00010002").len()),
